@@ -13,7 +13,12 @@ from tools import packages
 from tools.pack.debian import CONTROL
 
 # what installs, or names the command for a machine of its own: a root of Debian
-INSTALL = ["tests/release/bare.py", "tests/release/installed.py", "tools/packages.py"]
+INSTALL = [
+    "tests/release/bare.py",
+    "tests/release/from_clone.py",
+    "tests/release/installed.py",
+    "tools/packages.py",
+]
 # no test starts a notebook in Jupyter, and every Debian has the C library
 UNTESTED = {"jupyter-notebook", "libc6"}
 

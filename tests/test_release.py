@@ -4,6 +4,7 @@ import contextlib
 import json
 import os
 import pathlib
+import re
 import shutil
 import subprocess
 import tarfile
@@ -15,10 +16,12 @@ from typing import Dict, Tuple
 
 # the lab is loaded before tests say that it stands elsewhere
 from arena_lab import api  # noqa: F401
-from arena_lab.support import built
+from arena_lab.__main__ import COMMANDS
+from arena_lab.support import built, missing
 from tests import TOP, needs
 from tests.support.output import ran, write
 from tests.test_gate import module
+from tools import packages
 from tools.prove import prover, version
 
 release = module(TOP / "tools" / "release")
@@ -385,3 +388,18 @@ class Versions(Repositories):
         write(self.top / "BUILD", "arena 1.2.3, proved\n")
         with unittest.mock.patch.object(built.Binary, "is_proved", lambda _: False):
             self.assertEqual(version.text(), "arena 1.2.3, proved\n")
+
+
+class SourcePackage(unittest.TestCase):
+    def test_its_version_is_that_of_the_release(self) -> None:
+        first = (TOP / "debian" / "changelog").read_text().splitlines()[0]
+        self.assertTrue(first.startswith(f"arena ({version.version()}) "), first)
+
+    def test_what_a_build_needs_is_what_the_site_and_its_pages_need(self) -> None:
+        text = (TOP / "debian" / "control").read_text().replace("\n ", " ")
+        (line,) = re.findall("^Build-Depends: (.*)$", text, re.M)
+        needs = {word.split(" ")[0] for word in line.split(", ")}
+        site = {it for it in packages.listed("gate") if it.startswith("mkdocs")}
+        pages = {missing.PACKAGES[it] for it in COMMANDS["page"].needs}
+        others = {"binutils", "git", "libc6-dev", "python3"}
+        self.assertEqual(needs, site | pages | others)

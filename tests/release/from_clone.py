@@ -1,0 +1,76 @@
+"""Builds the Debian package from a clone in a bare Debian, and compares it with the
+one that is made here.
+
+    sudo python3 -m tests.release.from_clone [--unproved] [--root FOLDER]
+
+Makes a root by `debootstrap`, in FOLDER or in a temporary one, binds the toolchain in,
+and puts the commit of this repository there with the programs that are built here; one
+that is not is built there. `apt-get build-dep` installs the packages of Debian that
+debian/control names. Then `dpkg-buildpackage` runs without a network. It needs root,
+and takes some minutes. The last line reads `N passed, M failed`, and the exit status
+is 1 if one failed.
+"""
+import argparse
+import pathlib
+import shutil
+import sys
+from typing import List
+
+from tests.release.bare import clone
+from tests.release.installed import made, ran
+from tests.support import roots
+from tests.support.counts import Wrong, concluded, require
+from tools.prove.prover import KIT, TOP
+
+# where the repository is in the root: as deep as here, since records of what is built
+# name the toolchain from there
+HOME = pathlib.PurePath(*(f"folder{place}" for place in range(len(TOP.parts) - 1)))
+UNPROVED = "out/unproved"
+
+
+def build(root: pathlib.Path, options: List[str]) -> pathlib.Path:
+    """Builds the package in the root, and gives where it is."""
+    roots.make(root, ["python3"])
+    clone(root / HOME, "")
+    if options and (TOP / UNPROVED).is_dir():
+        shutil.copytree(TOP / UNPROVED, root / HOME / UNPROVED)
+    inside = roots.inside(root, f"/{HOME}")
+    with roots.mounted(root, {KIT: str(KIT).lstrip("/")}):
+        ran([*inside, "apt-get", "update"], TOP)
+        ran([*inside, "apt-get", "build-dep", "-y", "./"], TOP)
+        words = ["unshare", "--net", "dpkg-buildpackage", "-b", "-us", "-uc"]
+        ran([*inside, "env", f"DEB_BUILD_OPTIONS={' '.join(options)}", *words], TOP)
+    (package,) = (root / HOME).parent.glob("arena_*.deb")
+    return package
+
+
+def main() -> int:
+    parser = argparse.ArgumentParser(
+        "python3 -m tests.release.from_clone",
+        description=__doc__,
+        formatter_class=argparse.RawDescriptionHelpFormatter,
+    )
+    parser.add_argument("--unproved", action="store_true", help="without a proof")
+    parser.add_argument(
+        "--root", metavar="FOLDER", type=pathlib.Path, help="where the Debian is made"
+    )
+    words = parser.parse_args()
+    failed = 0
+    with roots.temporary() as folder:
+        try:
+            package = build(
+                words.root or folder / "root", ["unproved"] if words.unproved else []
+            )
+            here = made(folder / "here", ["--unproved"] if words.unproved else [])
+            require(
+                here[".deb"].read_bytes() == package.read_bytes(),
+                f"{package.name} has other bytes than the one that is made here",
+            )
+        except Wrong as fault:
+            failed = 1
+            print(f"FAILED a package from a clone: {fault}")
+    return concluded(1 - failed, failed)
+
+
+if __name__ == "__main__":
+    sys.exit(main())
