@@ -83,19 +83,6 @@ def ring(nodes: int) -> Network:
     return Network(nodes, [(v, 0, (v + 1) % nodes, 1) for v in range(nodes)])
 
 
-def flipped_ring(nodes: int, chance: random.Random) -> Network:
-    """A ring at whose nodes, the home base aside, the two ports may stand the other way
-    round."""
-    flips = [0] + [chance.randrange(2) for _ in range(1, nodes)]
-    return Network(
-        nodes,
-        [
-            (v, flips[v], (v + 1) % nodes, 1 - flips[(v + 1) % nodes])
-            for v in range(nodes)
-        ],
-    )
-
-
 def hypercube(dimension: int) -> Network:
     return of_neighbours(
         [[v ^ 1 << bit for bit in range(dimension)] for v in range(2**dimension)]

@@ -36,6 +36,12 @@ SOON = 5.0
 MANY = 40
 
 
+def serve_words(port: int, prefix: str) -> List[str]:
+    """The words that serve cup.toml to four sessions for one turn."""
+    words = f"serve cup.toml --port {port} --sessions 4 --turns 1 --pause 1"
+    return [*words.split(), "--replay", prefix]
+
+
 def served(
     stage: Stage,
     *more: str,
@@ -264,23 +270,7 @@ def log(stage: Stage) -> None:
 )
 def address(stage: Stage) -> None:
     writes(stage, cup=TWO_TEAMS, tri=TRIANGLE)
-    words = [
-        "serve",
-        "cup.toml",
-        "--port",
-        str(free_port()),
-        "--sessions",
-        "4",
-        "--turns",
-        "1",
-        "--pause",
-        "1",
-        "--replay",
-        "match",
-        "--grace",
-        "0",
-        "--address",
-    ]
+    words = [*serve_words(free_port(), "match"), "--grace", "0", "--address"]
     told = b"serve: listen\n  this machine has no such address: give another --address, 0.0.0.0 for all of IPv4\n"
     for address in ("localhost", "192.0.2.7"):
         expect(stage.run([*words, address]), b"", told, FAILED_STREAM)

@@ -7,7 +7,14 @@ import time
 from typing import Callable, List
 
 from arena_lab.support.ports import free_port
-from tests.program.contest_cases import IN_TURNS, LONG, TWO_TEAMS, served, table
+from tests.program.contest_cases import (
+    IN_TURNS,
+    LONG,
+    TWO_TEAMS,
+    serve_words,
+    served,
+    table,
+)
 from tests.program.killed_servers import appeal_to, kills, try_kill
 from tests.program.program_cases import TRIANGLE, case, writes
 from tests.support.counts import Wrong, require
@@ -102,40 +109,14 @@ def private_files(stage: Stage) -> None:
 @case("a folder that is missing is told before the server says that it listens")
 def no_folder(stage: Stage) -> None:
     writes(stage, cup=TWO_TEAMS, tri=TRIANGLE)
-    words = [
-        "serve",
-        "cup.toml",
-        "--port",
-        str(free_port()),
-        "--sessions",
-        "4",
-        "--turns",
-        "1",
-        "--pause",
-        "1",
-        "--replay",
-        "none/match",
-    ]
-    expect(stage.run(words), b"", b"none/match0.jsonl.part: write\n", FAILED_STREAM)
+    run = stage.run(serve_words(free_port(), "none/match"))
+    expect(run, b"", b"none/match0.jsonl.part: write\n", FAILED_STREAM)
 
 
 @case("a server on a port that is in use leaves the files of the first alone")
 def two_servers(stage: Stage) -> None:
     with served(stage, turns=LONG) as server:
-        words = [
-            "serve",
-            "cup.toml",
-            "--port",
-            str(server.port),
-            "--sessions",
-            "4",
-            "--turns",
-            "1",
-            "--pause",
-            "1",
-            "--replay",
-            "match",
-        ]
+        words = serve_words(server.port, "match")
         told = b"serve: listen\n  another program listens on this port: end it, or give another --port\n"
         expect(stage.run(words), b"", told, FAILED_STREAM)
         require(

@@ -25,9 +25,9 @@ import tempfile
 import time
 from typing import Any, Dict, List, NamedTuple, Optional, Sequence
 
-from arena_lab.rules.networks import Network, flipped_ring
+from arena_lab.rules.networks import Network
 from tests.support.counts import Wrong, concluded, require
-from tests.support.matches import TOP
+from tests.support.matches import TOP, flipped_ring
 from tests.support.servers import HOST, Server
 from tests.support.tournaments import match, write_cup
 

@@ -145,19 +145,19 @@ def put_in_place(stage: Stage) -> None:
         raise Wrong(f"the calls were {steps}")
 
 
+def steps_in_turns(stage: Stage) -> List[Step]:
+    """What the calls are for of a server of an oblivious match, which an agent enters and
+    leaves."""
+    schedule = 'version = 3\nschedule = "oblivious"\ndelay_scales = 0\ndelay_odds = 1\n'
+    cup = schedule + SEED.replace("version = 2\n", "") + RED
+    return steps_of(traced(stage, cup, 60, enter("ra") + LEAVE))
+
+
 @case(
     "turns get their name once their text is on the disk, before the replay has its name"
 )
 def turns_in_place(stage: Stage) -> None:
-    schedule = 'version = 3\nschedule = "oblivious"\ndelay_scales = 0\ndelay_odds = 1\n'
-    steps = steps_of(
-        traced(
-            stage,
-            schedule + SEED.replace("version = 2\n", "") + RED,
-            60,
-            enter("ra") + LEAVE,
-        )
-    )
+    steps = steps_in_turns(stage)
     wanted = [
         ("write", "match0.turns.new"),
         ("sync", "match0.turns.new"),
@@ -176,15 +176,7 @@ def turns_in_place(stage: Stage) -> None:
 
 @case("the turns of events are on the disk before these are written to the part")
 def turns_come_first(stage: Stage) -> None:
-    schedule = 'version = 3\nschedule = "oblivious"\ndelay_scales = 0\ndelay_odds = 1\n'
-    steps = steps_of(
-        traced(
-            stage,
-            schedule + SEED.replace("version = 2\n", "") + RED,
-            60,
-            enter("ra") + LEAVE,
-        )
-    )
+    steps = steps_in_turns(stage)
     turns = "match0.turns.part"
     part = "match0.jsonl.part"
     kept = [

@@ -13,52 +13,37 @@ failed.
 """
 import concurrent.futures
 import functools
+import importlib
 import pathlib
 import sys
 import unittest
 from typing import Iterator, NamedTuple, Sequence, Union
 
-from tests.program import (
-    contest_cases,
-    contest_files,
-    example_cases,
-    exploring_cases,
-    interactive_cases,
-    longest_texts,
-    module_cases,
-    module_texts,
-    output_cases,
-    player_cases,
-    program_contests,
-    program_rehearsals,
-    refused_modules,
-    replay_cases,
-    serving_cases,
-    traced_files,
-)
 from tests.program.program_cases import CASES, Trial
 from tests.support.counts import SKIPPED, concluded
 from tests.support.program_rows import fault_of, play, rows_of
 
 # each adds its cases to CASES
 FILES = (
-    contest_cases,
-    contest_files,
-    example_cases,
-    exploring_cases,
-    interactive_cases,
-    longest_texts,
-    module_cases,
-    module_texts,
-    output_cases,
-    player_cases,
-    program_contests,
-    program_rehearsals,
-    refused_modules,
-    replay_cases,
-    serving_cases,
-    traced_files,
+    "contest_cases",
+    "contest_files",
+    "example_cases",
+    "exploring_cases",
+    "interactive_cases",
+    "longest_texts",
+    "module_cases",
+    "module_texts",
+    "output_cases",
+    "player_cases",
+    "program_contests",
+    "program_rehearsals",
+    "refused_modules",
+    "replay_cases",
+    "serving_cases",
+    "traced_files",
 )
+for name in FILES:
+    importlib.import_module(f"tests.program.{name}")
 ROWS = pathlib.Path(__file__).resolve().parents[2] / "tests" / "program"
 WORKERS = 4
 

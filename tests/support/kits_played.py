@@ -199,33 +199,26 @@ class Played:
             )
         want(found)
 
+    def _lab(self, words: str, option: str) -> str:
+        """What a command of the lab says of the kit's agent, which the option names."""
+        line = (
+            f"{sys.executable} -m arena_lab {words} --program {self._program} {option}"
+        )
+        agent = shlex.quote(played(self.kit))
+        return want(ran(self._folder, f"{line} {agent}", PYTHONPATH=str(TOP)))
+
     def solve(self) -> None:
         """The black hole of a ring of eight nodes is beside the home base, on either
         side, or far from it."""
         for hole in (1, 4, 7):
-            words = f"{sys.executable} -m arena_lab run --network ring:8 --hole {hole}"
-            words += f" --program {self._program} --command"
-            said = want(
-                ran(
-                    self._folder,
-                    f"{words} {shlex.quote(played(self.kit))}",
-                    PYTHONPATH=str(TOP),
-                )
-            )
+            said = self._lab(f"run --network ring:8 --hole {hole}", "--command")
             if "solved 1; failed 0" not in said:
                 raise AssertionError(f"{self.kit.name}, black hole {hole}: {said}")
 
     def explore(self) -> None:
         """Every schedule of a module is tried, with each black hole."""
         if self.kit.is_module:
-            words = f"{sys.executable} -m arena_lab explore --network ring:6 --program {self._program} --agent"
-            said = want(
-                ran(
-                    self._folder,
-                    f"{words} {shlex.quote(played(self.kit))}",
-                    PYTHONPATH=str(TOP),
-                )
-            )
+            said = self._lab("explore --network ring:6", "--agent")
             if "every schedule solves" not in said:
                 raise AssertionError(f"{self.kit.name}: {said}")
 

@@ -10,7 +10,7 @@ from arena_lab.play.teams import INSIDE, AgentWords, Together
 from arena_lab.rules.engines import TOP, program_at
 from arena_lab.rules.fixtures import Fixture, fixture_of
 from arena_lab.rules.model import Setup
-from arena_lab.rules.networks import Network, drawn, flipped_ring, ring
+from arena_lab.rules.networks import Network, drawn, ring
 from arena_lab.rules.rehearsal import Rehearsal
 from tests.support.output import InTemporary
 
@@ -76,6 +76,19 @@ def fixture(
 ) -> Fixture:
     return fixture_of(
         Setup(network.nodes, network.links, home, [hole], agents, 1000, board)
+    )
+
+
+def flipped_ring(nodes: int, chance: random.Random) -> Network:
+    """A ring at whose nodes, the home base aside, the two ports may stand the other way
+    round."""
+    flips = [0] + [chance.randrange(2) for _ in range(1, nodes)]
+    return Network(
+        nodes,
+        [
+            (v, flips[v], (v + 1) % nodes, 1 - flips[(v + 1) % nodes])
+            for v in range(nodes)
+        ],
     )
 
 

@@ -9,12 +9,12 @@ from arena_lab.play.matches import PlayedMatch
 from arena_lab.rules.engines import Program
 from arena_lab.rules.fixtures import Fixture, fixture_of
 from arena_lab.rules.model import Setup, Verdict
-from arena_lab.rules.networks import Network, flipped_ring, ring
+from arena_lab.rules.networks import Network, ring
 from arena_lab.rules.rehearsal import Rehearsal
 from arena_lab.search.explore import explored
 from arena_lab.search.ring_bounds import most_moves, rounds
 from arena_lab.support.progress import NO_PROGRESS
-from tests.support.matches import program, two, under
+from tests.support.matches import flipped_ring, program, two, under
 
 # the sizes of the rings that are drawn
 SIZES = (3, 4, 5, 7, 8, 11, 16, 17, 27, 33)

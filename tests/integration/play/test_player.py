@@ -13,9 +13,9 @@ from arena_lab.play.schedulers import Choice, MatchView, Scheduler
 from arena_lab.play.teams import OUTSIDE, AgentWords
 from arena_lab.rules.fixtures import Fixture, fixture_of
 from arena_lab.rules.model import Setup
-from arena_lab.rules.networks import Network, flipped_ring, ring
+from arena_lab.rules.networks import Network, ring
 from tests.integration.play.test_halves import SEARCHES, fixture
-from tests.support.matches import TOP, InFolder, program, two, under
+from tests.support.matches import TOP, InFolder, flipped_ring, program, two, under
 from tests.support.servers import HOST, Server
 from tests.support.tournaments import write_cup
 

@@ -6,14 +6,14 @@ import unittest
 from arena_lab.play import schedulers
 from arena_lab.rules.fixtures import Fixture, fixture_of
 from arena_lab.rules.model import Setup
-from arena_lab.rules.networks import Network, flipped_ring, ring
+from arena_lab.rules.networks import Network, ring
 from arena_lab.search.explore import explored
 from arena_lab.support.progress import NO_PROGRESS
 from experiments import adversary, turns
 from experiments.division import Table, of_ring3, ring3
 from tests.lab.play.test_ring3 import most_moves
 from tests.support.drawing import by_chance
-from tests.support.matches import RING3, played
+from tests.support.matches import RING3, flipped_ring, played
 
 
 def fixture(network: Network, hole: int, home: int = 0) -> Fixture:

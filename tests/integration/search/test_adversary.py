@@ -5,10 +5,10 @@ from typing import List, Tuple
 
 from arena_lab.__main__ import main
 from arena_lab.play.teams import INSIDE, AgentWords, Game
-from arena_lab.rules.networks import Network, complete, flipped_ring, ring
+from arena_lab.rules.networks import Network, complete, ring
 from arena_lab.search.adversary import Adversary, Beaten, NotARing, Phase, steps_of
 from arena_lab.search.ring_bounds import least_moves
-from tests.support.matches import RING, RING3, InFolder, two
+from tests.support.matches import RING, RING3, InFolder, flipped_ring, two
 from tests.support.output import ran
 
 # wrong teams: the text of a file, and of each what is said of it

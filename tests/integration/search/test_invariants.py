@@ -25,7 +25,7 @@ from arena_lab.rules.model import (
     judge,
     text_of,
 )
-from arena_lab.rules.networks import flipped_ring, ring
+from arena_lab.rules.networks import ring
 from arena_lab.search.configurations import (
     After,
     At,
@@ -40,7 +40,15 @@ from arena_lab.search.explore import TooMany
 from arena_lab.search.history_tree import HistoryState
 from arena_lab.search.invariants import Candidate, Walk, Walked, walked
 from arena_lab.support.progress import NO_PROGRESS
-from tests.support.matches import FAULTY, MAP, InFolder, program, two, under
+from tests.support.matches import (
+    FAULTY,
+    MAP,
+    InFolder,
+    flipped_ring,
+    program,
+    two,
+    under,
+)
 from tests.support.output import ran
 
 INVARIANTS = TOP / "examples" / "invariants"

@@ -14,7 +14,8 @@ from arena_lab.pages.screen import (
     teams,
 )
 from arena_lab.rules.model import Match, Setup
-from arena_lab.rules.networks import flipped_ring, ring
+from arena_lab.rules.networks import ring
+from tests.support.matches import flipped_ring
 
 Event = Dict[str, Any]
 
