@@ -3,15 +3,14 @@
     python3 -m bench.compare [--keep] PROGRAM OTHER
 
 Makes tournaments, networks and scripts by a seeded generator, and runs both programs on
-each of them in turn, 21 times. Prints for each input the median time of both, the least
-time that a processor took for them, which other work on the machine changes less, of
-each the time of PROGRAM divided by that of OTHER, and the median of the most memory
-that they held. What they print goes to nobody while they are timed. With --keep it is
-kept in memory, which takes the system the same time for both. The tournaments are of
-version 1, so that older builds take them too. Both programs must print the same bytes,
-in one more run of each; an input on which they do not is told, and the exit status is
-then 1. Nothing is written outside a temporary folder. It needs cc, since a small
-program in C takes the times (bench/c/timer.c).
+each input in turn, 21 times. For each input it prints the median time of each program,
+the least processor time of each, which other work on the machine changes less, the
+ratios PROGRAM / OTHER of both times, and the medians of the most memory held. While
+they are timed, their output is thrown away, or with --keep kept in memory, which costs
+both programs the same. The tournaments are of version 1, which older builds read too.
+In one more run both programs must print the same bytes: it names each input on which
+they differ, and the exit status is then 1. Nothing is written outside a temporary
+folder. It needs cc, since a small program in C takes the times (bench/c/timer.c).
 """
 import pathlib
 import statistics

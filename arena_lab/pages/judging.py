@@ -1,5 +1,5 @@
-"""What is said of a replay: the verdict on it, and the causal past of each agent. The
-program says it, or else the Python model, of which nothing is proved."""
+"""The verdict on a replay, and the causal past of each agent in it: by the program, or
+by the Python model, which is not proved."""
 import pathlib
 import subprocess
 import tempfile

@@ -1,9 +1,9 @@
 """The teams of a contest, ranked: one row a team, however many matches it has.
 
-Who solved more matches stands before, then whom fewer traps have deceived, then who
-made fewer moves, then who lost fewer agents; moves and lost agents are those of solved
-matches. Equal teams share a place. A team of which no agent has entered is absent, and
-stands behind all that came. What is told of a match that goes on is only that it does.
+Teams are ranked by more solved matches, then by fewer traps that deceived them, fewer
+moves, and fewer lost agents; only the moves and losses of solved matches count. Equal
+teams share a place. A team is absent if none of its agents has entered, and stands
+behind all others. Of a match that goes on, only this is shown.
 
 A trap is a match without a black hole, in which links let nobody arrive. A team that
 takes a long silence for a black hole accuses there, and is deceived; there is nothing

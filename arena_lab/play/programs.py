@@ -165,8 +165,8 @@ class Player:
         return self._lines.count if self._lines else 0
 
     def stirs(self, before: int) -> Optional[str]:
-        """What the program has done, if more lines than so many have come of it or its
-        input has ended."""
+        """What the program has done since it had sent `before` lines: sent another, or
+        ended its output; or None."""
         if self._lines is None:
             return None
         if self._lines.count > before:

@@ -1,10 +1,10 @@
-"""Repeats an agent of a match alone, to see whether it says the same when it is told
-the same again.
+"""Repeats an agent of a match alone, to see whether the same answers get the same
+commands.
 
-An agent's past decides what it says, if its program uses what it is told and the number
-in ARENA_SEED, and nothing else. That is tested for the match at hand. The program is
-started anew, by a key that nobody has used before; no other agent of its match runs,
-and each line is told at once. So what another agent signals past the whiteboards only
+An agent's past decides what it says, if its program uses its answers and the number in
+ARENA_SEED, and nothing else. This is tested for the match at hand. The program is
+started anew, with a key that nobody has used before; no other agent of its match runs,
+and each answer is sent at once. So what another agent signals past the whiteboards only
 while it runs is not there to be heard. What it has left in the kernel may be. No pauses
 are made either, as a program that listens for pauses would hear them as signals. If all
 agents of a match repeat, then each of them said what it says when it hears no such
@@ -134,7 +134,7 @@ class Alone:
         )
 
     def _hears(self, told: Sequence[Object]) -> bool:
-        """Tells the agent what it was told; gives whether its input goes on."""
+        """Sends the agent these answers of the match; gives whether its input goes on."""
         for reply in told:
             self._wake()
             if self._player.line is None and self._player.state == WAITS:

@@ -251,8 +251,8 @@ class Game(NamedTuple):
         return self.origin if self.match else f" on {self.name}"
 
     def fixed(self) -> List["Game"]:
-        """The games of which it consists, each with a home base and ports: what is
-        drawn of these goes with every black hole."""
+        """A game for each home base and numbering of ports that is drawn; each has every
+        black hole."""
         if self.match:
             return [self]
         homes = range(self.network.nodes)

@@ -3,8 +3,8 @@ and the nodes at which nobody arrives.
 
 Whatever draws a match draws it here: the grader, the hall, contests, and the commands
 that try an agent before. So what a student's `check` plays is drawn as what counts. A
-match of a course is drawn from the course's secret, that of a hall or a contest from
-the operating system's, and that of a student from the number of the match.
+match of a course is drawn from the course's secret, a match of a hall or a contest from
+the operating system's source of secrets, and a student's match from its number.
 """
 import hashlib
 import random
@@ -22,8 +22,8 @@ SECRET_BITS = 128
 PORTS_ARE = (
     f'"{GIVEN}", "{DRAWN}", or "shuffled:SEED" with a whole number, such as shuffled:3'
 )
-# `DRAWN`, the seed by which ports are numbered alike in all matches, or None for those
-# of the network
+# `DRAWN`; or the seed by which ports are numbered alike in all matches; or None, by which
+# they stay as the network has them
 Ports = Union[None, int, str]
 
 

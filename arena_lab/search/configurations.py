@@ -119,8 +119,8 @@ class World:
 def held_after(
     start: Memory, after: Callable[[Memory, Item], Memory], history: History
 ) -> Memory:
-    """What an agent holds after a history, by what it holds at the start and after one
-    thing more has happened."""
+    """The memory of an agent after a history: the memory at the start, changed by
+    `after` for each item."""
     return functools.reduce(after, reversed(history), start)
 
 

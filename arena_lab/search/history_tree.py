@@ -1,7 +1,7 @@
 """The pasts of an agent as a tree. Each past stands there once, with what the agent's
 program does next.
 
-An agent's program is a function of what it is told. So its past says where it is, what
+An agent's program is a function of its answers. So its past says where it is, what
 it has used and which line it sends next. To continue a past after which no program
 waits, its program is run again from the start.
 """
@@ -169,7 +169,7 @@ class Pasts:
     def _settle(
         self, past: Past, player: Player, before: Optional[Past] = None
     ) -> None:
-        """Tells the player what it heard last, and keeps what it does next."""
+        """Gives the player the last answers of the past, and keeps what it does next."""
         if before is not None:
             move(player, before, past.heard)
             if past.refused >= MOST_REFUSED:
@@ -233,7 +233,7 @@ def is_unanswered(past: Past) -> bool:
 
 
 def move(player: Player, before: Past, heard: Tuple[str, ...]) -> None:
-    """Lets a player go on from a past by what it hears, or by waking."""
+    """Lets a player go on from a past: it hears these answers, or wakes."""
     if before.state == SLEEPS:
         player.go_on()
     elif before.state == WAITS and before.line is None:

@@ -100,7 +100,7 @@ class Hunter:
         game = asked.game
         nodes = game.network.nodes
         self._homes: Sequence[Optional[int]]
-        # the numbers of matches: each black hole with so many keys and numberings
+        # how many matches: each black hole with NUMBERS keys and numberings of ports
         self._numbers = NUMBERS * (1 if game.is_fixed() else nodes - 1)
         is_any = asked.any_home or game.home is None
         self._homes = range(nodes) if is_any and not game.match else [game.home]

@@ -36,8 +36,8 @@ HEAD = (
     "most lost",
     "bound",
 )
-# what the summary has beside it where the program has tried every schedule, and what
-# the report has of each match
+# more columns of the summary, where the program has tried every schedule; and the columns
+# of the report's table of matches
 EVERY = ("every schedule", "its most moves", "its most lost")
 MATCHES = (
     "network",

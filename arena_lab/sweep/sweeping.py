@@ -229,8 +229,7 @@ def verified(
 
 
 def noted(results: Iterable[Result], folder: pathlib.Path) -> Iterator[Result]:
-    """The rows of results, of which it is written down first what their agents have
-    read."""
+    """The results, once the files that their agents have read are written down."""
     for result in results:
         if not result.fault:
             note_read(folder, result.found.read)

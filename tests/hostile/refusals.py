@@ -136,7 +136,7 @@ def wheres(folder: pathlib.Path, command: Command, mode: str) -> Set[str]:
 
 
 def is_untold(whole: Run, found: Run) -> bool:
-    """Whether all is as ever but for what is told, of which only a front could be
+    """Whether the runs differ in standard error alone, of which only a prefix was
     written."""
     return whole != found == found._replace(
         status=whole.status, printed=whole.printed

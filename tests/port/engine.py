@@ -297,7 +297,8 @@ class All:
         )
 
     def sum(self, state: State, nexts: List[Tuple[State, bool, int]]) -> Spent:
-        """What schedules spend from a state on, by what they spend from the next ones."""
+        """The most that schedules spend from a state on, from the same of the next
+        states."""
         agents = range(self.game.match.agents)
         behind = [(self.spent[it[0]], it) for it in nexts]
         return Spent(

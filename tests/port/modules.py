@@ -44,7 +44,7 @@ OWN = (
 
 
 class Case(NamedTuple):
-    """A module, by what it is drawn from, and whether it is damaged."""
+    """A module, by the seed that draws it, and whether it is damaged."""
 
     seed: int
     is_damaged: bool

@@ -6,11 +6,11 @@ from typing import NamedTuple
 from tests.program.program_cases import CASES, REFUSED_MATCH, TOP
 from tests.support.program_rows import DONE, Stage, difference, expect
 
-# The examples: the words, the script, what is printed (a file or the text itself), what
-# is told, the file written.
-
 
 class Example(NamedTuple):
+    """A command of examples/: its words and script; its standard output, as a file or as
+    the text itself; its faults; and the replay that it writes."""
+
     words: str
     script: str = ""
     printed: str = ""

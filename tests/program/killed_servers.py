@@ -149,8 +149,8 @@ def appeal_to(number: int) -> List[str]:
 
 
 def stand_appeals(program: str, folder: pathlib.Path) -> None:
-    """Each match of what was finished has turns with which it stands its appeal, and
-    there is no part."""
+    """Each match that was recovered stands its appeal with its turns, and no part is
+    left."""
     for number in range(len(TEAMS)):
         judged = subprocess.run(
             [program, *appeal_to(number)],

@@ -85,7 +85,8 @@ def long_lines(stage: Stage) -> None:
 
 
 def filling(byte: int, expect: int, put: int) -> bytes:
-    """A module that enters, and writes so many bytes in place of so many, all alike."""
+    """A module that enters and says one Write, which expects a text of `expect` bytes
+    and puts one of `put` bytes. All are this byte."""
     enters, writes_it = (CALL + bytes([place]) for place in range(2))
     fills = constant(I32, 0) + constant(I32, byte) + constant(I32, 65_536) + FILL
     texts = (constant(I32, 0) + constant(I32, length) for length in (expect, put))

@@ -75,8 +75,8 @@ def plays(stage: Stage, file: bytes, talk: Talk, arguments: str = "") -> None:
     expect(ran, text_of(talk.says), told, talk.status)
 
 
-# It goes by the port before the last, puts one byte more behind what the whiteboard
-# says, and accuses the sum of the port by which it came and its second argument.
+# An agent that departs by the last port but one, writes the whiteboard's text with one
+# byte more, and accuses the port whose number is its arrival port plus its second argument.
 GOES = (
     call("enter")
     + DROP

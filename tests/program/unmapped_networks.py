@@ -1,13 +1,13 @@
-"""Explores the search without a map on all small networks, from each home base and with
-each black hole: every schedule must solve each.
+"""Explores the search without a map, examples/agents/wasm/chart.wasm, on all small
+networks, from each home base and with each black hole: every schedule must solve it.
 
     python3 -m tests.program.unmapped_networks PROGRAM [NODES ..]
 
-The networks are all that a file may have with so many nodes, 3 and 4 if none are given;
-their ports are numbered by a seed. The agents run examples/agents/wasm/chart.wasm, one
-more than the black hole has links. They know the numbers of nodes and of links; where no
-node has more than three links, they play once more and know the nodes alone. The last
-line reads `N passed, M failed`, and the exit status is 1 if one failed.
+NODES are the sizes of the networks, 3 and 4 unless they are given. A seed numbers the
+ports. There is one agent more than the black hole has links. The agents know the numbers
+of nodes and links; where no node has more than three links, they play once more, and
+know the number of nodes alone. The last line reads `N passed, M failed`, and the exit
+status is 1 if one failed.
 """
 import itertools
 import json
@@ -32,7 +32,7 @@ CUBIC = 3
 
 
 def networks_of(nodes: int) -> Iterator[Network]:
-    """All networks of so many nodes that no node cuts, once each."""
+    """Each network of this size that no node cuts, once."""
     import networkx
 
     draw = random.Random(nodes)

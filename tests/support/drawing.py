@@ -23,7 +23,8 @@ Test = Callable[..., Any]
 
 
 def drawing(examples: int) -> Any:
-    """The settings of a test that is to be tried on so many inputs, by the profile."""
+    """The settings of a test that draws this many inputs in the gate, and more by
+    night."""
     scale, is_same = PROFILE
     return settings(
         max_examples=examples * scale,
@@ -35,8 +36,8 @@ def drawing(examples: int) -> Any:
 
 
 def by_chance(examples: int, **more: Callable[[], Any]) -> Callable[[Test], Test]:
-    """Tries a test on so many inputs: a `chance`, which stands for random.Random and
-    draws by Hypothesis, and what strategies of other names draw. Skips it where
+    """Tries a test on this many inputs: `chance`, a random.Random whose draws Hypothesis
+    makes, and a value of each strategy in `more`, by its name. Skips the test where
     Hypothesis is missing."""
     if not HAS_HYPOTHESIS:
         return unittest.skip("Debian's python3-hypothesis is not installed")

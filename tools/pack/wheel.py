@@ -43,8 +43,8 @@ def tag_of(glibc: str) -> str:
 
 
 def files_of(released: Files, extra: Files) -> Files:
-    """The files of the package: those of the lab, the programs with what is said of
-    them, examples and documents."""
+    """The files of the package: the lab, the programs with the texts that say what was
+    proved, examples and documents."""
     found = {
         path: file for path, file in released.items() if path.startswith("arena_lab/")
     }

@@ -2,18 +2,18 @@
 
     python3 -m tools.prove.edits [--all] [CRATE..]
 
-The gate tries crates/NAME/must-fail/*.edit. With --all those of crates/NAME/more-edits/
-are tried too, which say the same of more functions: run it for each crate that you
-change. An edit has lines `file: PATH`, and then pairs of lines `old: TEXT` and `new:
-TEXT`, where TEXT stands once in that file.
+The gate tries crates/NAME/must-fail/*.edit. With --all the edits of more functions in
+crates/NAME/more-edits/ are tried too: run it for each crate that you change. An edit has
+lines `file: PATH`, and then pairs of lines `old: TEXT` and `new: TEXT`, where TEXT stands
+once in that file.
 
-Of an edited crate the function that is edited is checked, against its contract and
-those of what it calls, or what a line `only: PATH` names. Edits of different functions
-are tried in one check. An edit of a definition is tried by itself, since other functions
-may rest on the definition, and so is an edit that its own function does not refuse. If
-that much is still proved, or no function is edited, the whole crate is checked. Each
-edit has a line, and the last line reads `N passed, M failed`. The libraries below a crate
-must be built, as tools/build and the gate leave them.
+The edited function is checked against its contract and the contracts of what it calls;
+a line `only: PATH` names another function to check. Edits of different functions are
+tried in one check. An edit of a definition is tried by itself, since other functions may
+rest on the definition, and so is an edit that its own function does not refuse. If that
+much is still proved, or no function is edited, the whole crate is checked. Each edit has
+a line, and the last line reads `N passed, M failed`. The libraries below a crate must be
+built, as tools/build and the gate leave them.
 """
 import concurrent.futures
 import pathlib

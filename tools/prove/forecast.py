@@ -1,5 +1,5 @@
-"""What is left of a build of many crates, by what the proof of each took before. For
-the bar of tools/build."""
+"""How long a build of many crates still takes, by how long the proof of each took
+before: for the bar of tools/build."""
 import pathlib
 import statistics
 from typing import Dict, Set
