@@ -181,6 +181,7 @@ def package_plays(package: pathlib.Path, root: pathlib.Path, is_proved: bool) ->
             "usr/share/man/man1/arena-lab-run.1.gz",
             "usr/share/bash-completion/completions/arena-lab",
             "usr/share/doc/arena/README.md",
+            "usr/share/doc/arena/html/index.html",
         ):
             require((root / path).exists(), f"the package installs no {path}")
         ran([*inside, "apt-get", "remove", "-y", "arena"], TOP)
