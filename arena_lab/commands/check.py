@@ -333,7 +333,7 @@ def search(asked: Checked, tried: Tried) -> Step:
 def draw_few(asked: Checked, tried: Tried) -> Step:
     """Draws schedules alone, as many as somebody waits for who writes an agent."""
     drawn, wrong = draw(asked, asked.smallest(SEARCHED)[:2], tried)
-    return f"under {drawn} schedules that were drawn", wrong
+    return f"under {drawn} schedules that were drawn" if drawn else "", wrong
 
 
 def draw(
@@ -343,7 +343,9 @@ def draw(
     home base are drawn alternate with plain ones, as some mistakes show there."""
     number = 0
     with bar(DRAWS, "schedule") as shown:
-        while number < DRAWS and (number < LEAST or tried.left() > 0):
+        while number < DRAWS and (
+            tried.left() > 0 or number < LEAST and not tried.is_late()
+        ):
             case = drawn_case(asked, names, number)
             tried.add(case.network, asked.conditions.fixture(case), case.scheduler)
             record = asked.asked(case).play()

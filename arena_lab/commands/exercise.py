@@ -1,5 +1,5 @@
-"""Learns to write agents step by step: each exercise is a text, a program to complete, and
-a check that says what is wrong.
+"""Teaches to write agents step by step. Each exercise has a text, a program to complete,
+and a check that says what is wrong with it.
 
     ./arena-lab exercise                        lists the exercises
     ./arena-lab exercise 1-enter-and-look       writes its files to the folder of this name, and says what to do
@@ -8,19 +8,19 @@ a check that says what is wrong.
 
 Complete `agent.py` in the folder, and call the same command again. It plays the matches
 of the exercise by the Python model of the lab; the first sentence names what to mend
-first. The exit status is 0 if the program is right, and 1 if it is not. The exercises
-are those of the page on which one writes in a hall.
+first. The exit status is 0 if the program is right, and 1 if it is not. The page of a
+hall on which one writes has the same exercises.
 """
 import argparse
-import functools
 import pathlib
 import textwrap
 
 import arena_lab
 from arena_lab.course import exercises
-from arena_lab.course.exercises import AGENT, Exercise, answered
+from arena_lab.commands.answers import answered
+from arena_lab.course.exercises import AGENT, Exercise
 from arena_lab.play.grounds import LocalRunner
-from arena_lab.play.teams import OUTSIDE, AgentWords
+from arena_lab.play.teams import INSIDE, OUTSIDE, AgentWords
 from arena_lab.support.faults import Fault
 
 WIDE = 100
@@ -79,9 +79,11 @@ def begin(exercise: Exercise, folder: pathlib.Path) -> int:
 
 def check(exercise: Exercise, folder: pathlib.Path, keep: pathlib.Path) -> int:
     """Checks what stands in a folder."""
-    ground = functools.partial(LocalRunner, str(folder))
-    agent = AgentWords(OUTSIDE, exercise.command, ground=ground)
-    found = answered(exercise, lambda _: agent)
+    agent = AgentWords(
+        OUTSIDE, exercise.command, ground=lambda _: LocalRunner(str(folder))
+    )
+    inside = AgentWords(INSIDE, f"{folder / AGENT} {{nodes}}")
+    found = answered(exercise, agent, inside=inside)
     if not found.said:
         print(exercise.praise())
         return 0

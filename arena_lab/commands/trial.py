@@ -12,6 +12,7 @@ of them each `line` of an agent, and the `isolation` of programs.
 sentences, and marks: lines of the program's files, each with what is wrong there.
 """
 import contextlib
+import functools
 import io
 import json
 import os
@@ -21,8 +22,10 @@ from typing import Any, Dict, List, NamedTuple, Optional, Tuple
 
 from arena_lab.commands import check
 from arena_lab.course import exercises, hand_in, sent_lines
+from arena_lab.commands.answers import answered
 from arena_lab.course.checked import Checked, Tried, conditions_of, listed
-from arena_lab.course.hand_in import NETWORK, HandIn
+from arena_lab.course.grounds import files_of
+from arena_lab.course.hand_in import HandIn
 from arena_lab.course.mistaken_lines import LEAVES, marks_of
 from arena_lab.course.trials import (
     ASKED,
@@ -41,11 +44,8 @@ from arena_lab.play.matches import play
 from arena_lab.play.mistakes import plain
 from arena_lab.play.schedules import Schedule, schedule_of
 from arena_lab.play.teams import OUTSIDE, AgentWords
-from arena_lab.rules import networks
-from arena_lab.rules.fixtures import Fixture
-from arena_lab.sandbox import calls
 from arena_lab.sandbox.own_sandboxes import OwnSandboxes
-from arena_lab.sandbox.sandboxes import Isolation, ProgramFiles, SandboxOptions
+from arena_lab.sandbox.sandboxes import Isolation, SandboxOptions
 from arena_lab.support.faults import Fault
 
 STEPS = {CHECK: (check.matches, check.draw_few), EXPLORE: (check.every,)}
@@ -82,24 +82,12 @@ class TriedProgram:
         self.asked = asked
         self.handed_in = hand_in.read([folder / FILES], folder)
 
-    def agent(self, handed_in: HandIn, fixture: Optional[Fixture] = None) -> AgentWords:
-        """An agent that runs these files in a sandbox; of a match that is known it may
-        have the map."""
+    def agent(self, handed_in: HandIn) -> AgentWords:
+        """An agent that runs these files in a sandbox."""
         words = self.asked.command
-        files: Dict[str, bytes] = {}
-        if "{network}" in words:
-            if fixture is None:
-                raise Fault("a program that has the map is tried by matches alone")
-            setup = fixture.setup
-            known = networks.Network(setup.nodes, setup.links)
-            files[NETWORK] = networks.text_of(known).encode()
-        kept = ProgramFiles(
-            handed_in.archive(**files),
-            {"network": NETWORK} if files else {},
-            calls.language_of(words, handed_in.content_of),
-        )
         options = SandboxOptions(Isolation[self.asked.isolation])
-        return AgentWords(OUTSIDE, words, ground=OwnSandboxes(options, kept))
+        files_in = functools.partial(files_of, handed_in, words)
+        return AgentWords(OUTSIDE, words, ground=OwnSandboxes(options, files_in))
 
     def marked(self) -> HandIn:
         """The program with a client that says by which line it sends."""
@@ -118,7 +106,7 @@ class TriedProgram:
         name = nobody.networks[0]
         case = nobody.conditions.case(name, self.asked.scheduler, self.asked.seed)
         fixture = nobody.conditions.fixture(case)
-        agent = self.agent(self.marked(), fixture)
+        agent = self.agent(self.marked())
         agents = [agent] * fixture.setup.agents
         origin = f"{case.scheduler} {case.seed} on {name}"
         empty = schedule_of(fixture, agents, origin, [], self.asked.line)
@@ -138,7 +126,7 @@ class TriedProgram:
             empty.fixture,
             {number: it.words for number, it in agents.items()},
             self.asked.line,
-            {number: it.ground() for number, it in agents.items()},
+            {number: it.ground(empty.fixture) for number, it in agents.items()},
             self.asked.seconds,
             room=ROOM,
         )
@@ -170,7 +158,8 @@ class TriedProgram:
     def checks(self) -> Dict[str, Any]:
         """Checks the program by the steps of its kind."""
         log = io.StringIO()
-        tried = Tried(self.asked.seconds)
+        # a check that is killed would tell nothing of what it has found
+        tried = Tried(self.asked.seconds, self.asked.seconds)
         asked = self.checked(self.agent(self.handed_in))
         with contextlib.redirect_stdout(log), contextlib.redirect_stderr(io.StringIO()):
             right, wrong = check.by_steps(asked, STEPS[self.asked.kind], tried)
@@ -188,7 +177,7 @@ class TriedProgram:
         client that says by which line it sends."""
         record = wrong.record
         schedule = record.schedule
-        agent = self.agent(self.marked(), schedule.fixture)
+        agent = self.agent(self.marked())
         with contextlib.suppress(Fault):
             again = schedule._replace(agents=[agent] * len(schedule.agents))
             found = games.play_again(again, self.asked.program)
@@ -200,9 +189,11 @@ class TriedProgram:
     def answer(self) -> Dict[str, Any]:
         """Plays the matches of an exercise."""
         exercise = exercises.read(self.asked.exercise)
-        marked = self.marked()
-        found = exercises.answered(
-            exercise, lambda it: self.agent(marked, it), self.asked.program
+        found = answered(
+            exercise,
+            self.agent(self.marked()),
+            self.asked.program,
+            seconds=self.asked.seconds,
         )
         shown = self.shown(found.record)
         # an exercise may be about something else than the black hole

@@ -1,5 +1,6 @@
 """An agent that is checked before it counts: the matches that conditions make for it,
 what was tried of them, and which assumption of the agent a failure shows."""
+import math
 import os
 import random
 import signal
@@ -147,11 +148,12 @@ def spent() -> float:
 
 
 class Tried:
-    """What was tried until now, how long the check goes on, and what was left out as
-    that was over."""
+    """What was tried until now, how long the check goes on, by seconds of a processor
+    and perhaps by the clock too, and what was left out as that was over."""
 
-    def __init__(self, seconds: float) -> None:
+    def __init__(self, seconds: float, by_clock: float = math.inf) -> None:
         self._until = spent() + seconds
+        self._late = time.monotonic() + by_clock
         self.left_out: List[str] = []
         self._numberings: Set[Tuple[str, str]] = set()
         self._homes: Set[Tuple[str, int]] = set()
@@ -160,7 +162,11 @@ class Tried:
 
     def left(self) -> float:
         """How many seconds are left."""
-        return self._until - spent()
+        return min(self._until - spent(), self._late - time.monotonic())
+
+    def is_late(self) -> bool:
+        """Whether its time is over by the clock."""
+        return time.monotonic() > self._late
 
     def add(self, name: str, fixture: Fixture, scheduler: str = "") -> None:
         """Counts a match."""

@@ -1,17 +1,16 @@
-"""Exercises on the way to an agent: each is a folder of `examples/exercises` with
-`exercise.toml` (a title, a text, a hint, and the matches that are played), `agent.py`,
-which is to be completed, `solution.py`, and `check.py`. Its function `check` is given a
-match that was played, and gives what is to be mended in it, one sentence each, the
-likeliest first. The page of a hall and `arena-lab exercise` have the same exercises.
+"""Exercises on the way to an agent, for the page of a hall and `arena-lab exercise`.
+
+Each is a folder of `examples/exercises`. `exercise.toml` has a title, a text, a hint and
+the matches that are played. A student completes `agent.py`; `solution.py` is right. Both
+may be files of elsewhere, which `exercise.toml` names: exercises build on each other.
+`check.py` has a function `check(match)`, which says what to mend in a match that was
+played: a list of sentences, the likeliest cause first, and an empty one if nothing is
+wrong.
 """
 import pathlib
-from typing import Callable, Dict, List, NamedTuple, Optional
+from typing import Callable, Dict, List, NamedTuple, Optional, Tuple
 
 from arena_lab.play.agent_files import AGENTS, member
-from arena_lab.play.games import Record, maker_of
-from arena_lab.play.kept_matches import played_under
-from arena_lab.play.schedules import schedule_of
-from arena_lab.play.teams import AgentWords
 from arena_lab.rules import networks
 from arena_lab.rules.fixtures import Fixture, fixture_of
 from arena_lab.rules.limits import SMALL_BOARD, SMALL_QUOTA
@@ -22,14 +21,10 @@ from arena_lab.support.fields import Field, is_text
 EXERCISES = AGENTS.parent / "exercises"
 AGENT = "agent.py"
 CLIENT = "client.py"
-SOLUTION = "solution.py"
 FILE = "exercise.toml"
 COMMAND = f"python3 {AGENT} {{host}} {{port}} {{key}}"
 # an agent that is told how many nodes there are
 TOLD = f"{COMMAND} {{nodes}}"
-# seconds for a line, and what is said of an agent whose first line does not enter
-LINE = 5
-DENIED = "was not let in"
 # of several lines
 PROSE = Field(lambda it: isinstance(it, str), "a text")
 FIELDS = {
@@ -38,6 +33,9 @@ FIELDS = {
     "hint": PROSE,
     "agents": fields.count(1),
     "nodes": fields.FLAG,
+    "agent": fields.TEXT._replace(usual=AGENT),
+    "solution": fields.TEXT._replace(usual="solution.py"),
+    "every": PROSE._replace(usual=""),
     "match": fields.tables("match"),
 }
 MATCH = {
@@ -61,7 +59,8 @@ class ExerciseMatch(NamedTuple):
 
 
 class Exercise(NamedTuple):
-    """An exercise: its name, title, text and hint, and what is played."""
+    """An exercise: its name, title, text and hint, what is played, a network of which
+    every schedule is tried, or "", and the paths of its agent and its solution."""
 
     name: str
     title: str
@@ -70,6 +69,8 @@ class Exercise(NamedTuple):
     agents: int
     command: str
     matches: List[ExerciseMatch]
+    every: str
+    paths: Tuple[str, str]
 
     @property
     def folder(self) -> pathlib.Path:
@@ -77,12 +78,12 @@ class Exercise(NamedTuple):
 
     def files(self) -> Dict[str, str]:
         """What one begins with: the agent, and the client of the kit."""
-        agent = (self.folder / AGENT).read_text(encoding="utf-8")
+        agent = (self.folder / self.paths[0]).read_text(encoding="utf-8")
         client = (AGENTS / CLIENT).read_text(encoding="utf-8")
         return {AGENT: agent, CLIENT: client}
 
     def solution(self) -> str:
-        return (self.folder / SOLUTION).read_text(encoding="utf-8")
+        return (self.folder / self.paths[1]).read_text(encoding="utf-8")
 
     def fixture(self, of: ExerciseMatch) -> Fixture:
         """One of its matches before it begins; its home base is node 0."""
@@ -101,7 +102,10 @@ class Exercise(NamedTuple):
     def praise(self) -> str:
         """What is said of an answer that is right."""
         count = len(self.matches)
-        return f"Right in {'its match' if count == 1 else f'all {count} matches'}."
+        every = f", and under every schedule of {self.every}" if self.every else ""
+        return (
+            f"Right in {'its match' if count == 1 else f'all {count} matches'}{every}."
+        )
 
     def check(self, match: Match) -> List[str]:
         """What is to be mended in a match that was played."""
@@ -136,48 +140,9 @@ def read(name: str) -> Exercise:
         said["agents"],
         TOLD if said["nodes"] else COMMAND,
         matches,
+        said["every"],
+        (said["agent"], said["solution"]),
     )
-
-
-class Answer(NamedTuple):
-    """What came of an answer to an exercise: the last match that was played, and what is
-    to be mended; nothing if the answer is right."""
-
-    record: Record
-    said: List[str]
-
-
-def answered(
-    exercise: Exercise,
-    agent_for: Callable[[Fixture], AgentWords],
-    program: Optional[str] = None,
-) -> Answer:
-    """Plays an answer's matches, up to the first in which something is wrong."""
-    record: Optional[Record] = None
-    for one in exercise.matches:
-        fixture = exercise.fixture(one)
-        agents = [agent_for(fixture)] * exercise.agents
-        empty = schedule_of(fixture, agents, f"exercise {exercise.name}", [], LINE)
-        chosen = maker_of(one.scheduler)(one.seed)
-        record = Record(*played_under(chosen, empty, program), program)
-        said = to_mend(exercise, record)
-        if said:
-            return Answer(record, [f"{said[0]} (on {one})", *said[1:]])
-    assert record is not None
-    return Answer(record, [])
-
-
-def to_mend(exercise: Exercise, record: Record) -> List[str]:
-    """What is to be mended in a match: programs that crashed or hung, then what the
-    exercise is about, then what was refused."""
-    faults = record.played.faults
-    denied = [it for it in faults if DENIED in it]
-    return [
-        *(it for it in faults if it not in denied),
-        *exercise.check(record.played.match),
-        *denied,
-        *record.played.refused,
-    ]
 
 
 def done(match: Match, do: str, agent: Optional[int] = None) -> List[Object]:

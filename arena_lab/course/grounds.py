@@ -2,7 +2,7 @@
 import contextlib
 import pathlib
 import tempfile
-from typing import Iterator, Sequence
+from typing import Dict, Iterator, Sequence
 
 from arena_lab.course.hand_in import NETWORK, HandIn
 from arena_lab.play.grounds import Ground, LocalRunner, Nowhere
@@ -29,13 +29,19 @@ def grounds_of(
             handed_in.write_file(file_in(words), pathlib.Path(folder))
             yield [LocalRunner(folder)] * count
         return
-    network = networks.text_of(networks.Network(setup.nodes, setup.links)).encode()
-    has_map = "{network}" in words
-    files = handed_in.archive(**({NETWORK: network} if has_map else {}))
-    kept = ProgramFiles(
-        files,
-        {"network": NETWORK} if has_map else {},
+    with sandboxes_for(options, files_of(handed_in, words, setup), count) as made:
+        yield made
+
+
+def files_of(handed_in: HandIn, words: str, setup: Setup) -> ProgramFiles:
+    """What a program that these words start has in a match: its files, and the match's
+    network if the words name it."""
+    files: Dict[str, bytes] = {}
+    if "{network}" in words:
+        network = networks.Network(setup.nodes, setup.links)
+        files[NETWORK] = networks.text_of(network).encode()
+    return ProgramFiles(
+        handed_in.archive(**files),
+        {"network": name for name in files},
         calls.language_of(words, handed_in.content_of),
     )
-    with sandboxes_for(options, kept, count) as made:
-        yield made

@@ -6,6 +6,8 @@ import socket
 import subprocess
 from typing import Any, Callable, Dict, Mapping, Optional, Protocol, Sequence, Tuple
 
+from arena_lab.rules.fixtures import Fixture
+
 HOST = "127.0.0.1"
 
 
@@ -96,6 +98,11 @@ class LocalRunner:
 
     def fault(self) -> str:
         return ""
+
+
+def same_folder(_: Fixture) -> Ground:
+    """Where the program of an agent runs if nothing else is said, in each match."""
+    return LocalRunner()
 
 
 class Nowhere(LocalRunner):

@@ -88,7 +88,7 @@ def kept_waiting(game: Game, program: Optional[str]) -> Record:
         fixture,
         {number: agent.words for number, agent in enumerate(game.agents)},
         game.limit,
-        grounds_of(game.agents),
+        grounds_of(game.agents, fixture),
     )
     schedule = schedule_of(
         fixture, game.agents, f"arrivals {LATE} s late{game.where()}", [], game.limit

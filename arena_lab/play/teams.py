@@ -14,7 +14,7 @@ from arena_lab.play.agent_files import (
     step_of,
 )
 from arena_lab.play.bounds import LIMIT
-from arena_lab.play.grounds import Ground, LocalRunner
+from arena_lab.play.grounds import Ground, same_folder
 from arena_lab.play.matches import Team
 from arena_lab.play.own_modules import OwnModules
 from arena_lab.play.players import Team as Inside
@@ -49,8 +49,8 @@ class AgentWords(NamedTuple):
     words: str
     # an agent inside that is a function of this process, whatever the words
     function: Optional[Callable[..., None]] = None
-    # makes where a program of its own runs, each time that it is started
-    ground: Callable[[], Ground] = LocalRunner
+    # makes where a program of its own runs in a match, each time that it is started
+    ground: Callable[[Fixture], Ground] = same_folder
 
     def __repr__(self) -> str:
         """What it is, and not where it runs: as rows of courses have had it."""
@@ -148,10 +148,10 @@ def filled(
     return list(named) * wanted if len(named) == 1 else list(named)
 
 
-def grounds_of(agents: Sequence[AgentWords]) -> Dict[int, Ground]:
-    """Where the programs of a team run, by the numbers of their agents."""
+def grounds_of(agents: Sequence[AgentWords], fixture: Fixture) -> Dict[int, Ground]:
+    """Where the programs of a team run in a match, by the numbers of their agents."""
     return {
-        number: agent.ground()
+        number: agent.ground(fixture)
         for number, agent in enumerate(agents)
         if agent.kind == OUTSIDE
     }
@@ -176,7 +176,7 @@ class Together:
         self._teams: List[Team] = (
             [Inside(fixture.keys, inside, seconds)] if inside else []
         )
-        grounds = grounds_of(agents)
+        grounds = grounds_of(agents, fixture)
         self._teams += [Outside(fixture, outside, seconds, grounds)] if outside else []
         players = [player for team in self._teams for player in team.players]
         self.players = sorted(players, key=lambda player: player.number)
@@ -199,7 +199,7 @@ def alone(
     if agent.kind == INSIDE:
         script = agent.script(again.setup)
         return Inside(again.keys, {number: script}, seconds, seeds)
-    grounds = {number: agent.ground()}
+    grounds = {number: agent.ground(again)}
     return Outside(again, {number: agent.words}, seconds, grounds, seeds=seeds)
 
 

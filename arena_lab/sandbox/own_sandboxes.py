@@ -2,9 +2,11 @@
 that start programs one by one, such as those that try every schedule."""
 import contextlib
 import subprocess
-from typing import Any, Mapping, Optional, Sequence
+from typing import Any, Callable, Mapping, Optional, Sequence
 
 from arena_lab.play.grounds import Started
+from arena_lab.rules.fixtures import Fixture
+from arena_lab.rules.model import Setup
 from arena_lab.sandbox.sandboxes import (
     ProgramFiles,
     Sandbox,
@@ -51,12 +53,15 @@ class OwnSandbox:
 
 
 class OwnSandboxes:
-    """Makes a sandbox for each program that is started, all with the same files. As the
-    `ground` of an agent it confines the agent's program in each command."""
+    """Makes a sandbox for each program that is started, with the files that a match
+    gives it. As the `ground` of an agent it confines the agent's program in each
+    command."""
 
-    def __init__(self, options: SandboxOptions, kept: ProgramFiles) -> None:
+    def __init__(
+        self, options: SandboxOptions, files_in: Callable[[Setup], ProgramFiles]
+    ) -> None:
         self._options = options
-        self._kept = kept
+        self._files_in = files_in
 
-    def __call__(self) -> OwnSandbox:
-        return OwnSandbox(self._options, self._kept)
+    def __call__(self, fixture: Fixture) -> OwnSandbox:
+        return OwnSandbox(self._options, self._files_in(fixture.setup))

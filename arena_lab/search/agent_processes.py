@@ -123,7 +123,7 @@ class AgentProcesses:
             one = AgentProcess(player)
             player.go_on()
         else:
-            ground = self._agents[agent].ground()
+            ground = self._agents[agent].ground(self._fixture)
             player = programs.Player(self._outside, agent, words, ground)
             player.start()
             player.begin()

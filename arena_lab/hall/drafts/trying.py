@@ -1,4 +1,4 @@
-"""Trying what teams write: what a team may ask for, and what it is told of it."""
+"""Trials of what teams write: what a team may ask for, and what it reads of a trial."""
 import shutil
 from typing import Any, Collection, Dict, List
 
@@ -32,11 +32,12 @@ def ask(team: Team, given: Dict[str, Any]) -> Trial:
     kit = kit_of(given.get("language"))
     files = writing.checked(given.get("files"))
     asked = {name: given.get(name, usual) for name, usual in USUAL.items()}
-    if exercise_of(kit.language) is None:
+    exercise = exercise_of(kit.language)
+    if exercise is None:
         check(**asked)
     else:
         # it has matches of its own
-        asked = {**USUAL, "network": ""}
+        asked = {**USUAL, "kind": EXPLORE if exercise.every else PLAY}
     size = writing.size_of(files)
     with transaction.atomic():
         team = Team.objects.select_for_update().get(pk=team.pk)

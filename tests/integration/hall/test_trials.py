@@ -9,6 +9,8 @@ from unittest import mock
 from tests.integration.hall.test_drafts import RULES, Written
 from tests.integration.hall.hall_pages import PLACE, halled
 
+from django.conf import settings
+
 from arena_lab.course import exercises
 from arena_lab.hall import machine
 from arena_lab.hall.drafts import kits, playing
@@ -48,6 +50,34 @@ print("<script>alert(1)</script>\\x1b[2J", file=sys.stderr)
 print("\\x1e1 client.py:1\\n\\x1e2 ../key.txt:1\\n\\x1e999999 agent.py:7", file=sys.stderr)
 raise SystemExit("the end")
 """
+# what the kit's agent is changed in so that it reads its match's map, and ends if a link
+# is not as the map says
+MAP_WORD = "{network}:{home}"
+MAPPED = (
+    (
+        "def back(",
+        """FAR = {}
+
+
+def nodes_in(word: str) -> int:
+    import tomllib
+
+    path, _, home = word.partition(":")
+    network = tomllib.load(open(path, "rb"))
+    for v, p, w, q in network["links"]:
+        FAR.update({(v, p): q, (w, q): p})
+    FAR["home"] = int(home)
+    return network["nodes"]
+
+
+def back(""",
+    ),
+    ("key, int(nodes))", "key, nodes_in(nodes))"),
+    (
+        "        mine += 1\n",
+        "        assert mine or found.came == FAR[FAR['home'], side]\n        mine += 1\n",
+    ),
+)
 FLOOD = """import sys
 while True:
     sys.stderr.write("x" * 100_000 + "\\n")
@@ -142,8 +172,40 @@ class Found(Tried):
                 self.assertGreater(found["marks"][0]["event"], 0)
                 Trial.objects.all().delete()
 
+    def test_programs_have_the_map_of_each_match(self) -> None:
+        agent = CAREFUL
+        for old, new in MAPPED:
+            self.assertEqual(agent.count(old), 1)
+            agent = agent.replace(old, new)
+        command = settings.HALL.hand_ins.command.replace("{nodes}", MAP_WORD)
+        given = settings.HALL.hand_ins._replace(command=command)
+        # of a check the time leaves out drawn schedules, and not its matches
+        for kind, network, seconds in (
+            ("play", "ring of 5", 20),
+            ("check", "ring of 5", 9),
+            ("explore", "ring:3", 60),
+        ):
+            rules = RULES._replace(search=seconds)
+            with self.subTest(kind), halled(hand_ins=given, editor=rules):
+                found = self.found(agent, kind=kind, network=network)
+                self.assertTrue(found["right"], found)
+                Trial.objects.all().delete()
+
 
 class Exercised(Tried):
+    def test_every_schedule_of_an_exercise_is_tried(self) -> None:
+        """The agent with which one begins solves its matches, and not these."""
+        one = exercises.read("9-every-schedule")
+        trial = self.tried(one.files()["agent.py"], language=one.name)
+        self.assertEqual((trial.kind, trial.fault), ("explore", ""))
+        found = trial.found
+        self.assertFalse(found["right"])
+        self.assertIn("what the other agent has noted is gone", found["said"][0])
+        self.assertIn("(under a schedule of ring:4)", found["said"][0])
+        lines = one.files()["agent.py"].splitlines()
+        shown = {lines[line - 1].strip() for _, _, line in found["lines"] if line}
+        self.assertIn('swap = agent.write(swap.board, " ".join(safe))', shown)
+
     def test_an_exercise_is_done_once_an_answer_is_right(self) -> None:
         one = exercises.read("2-two-answers")
         wrong = one.solution().replace("str(here.came)", '"0"')

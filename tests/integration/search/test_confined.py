@@ -81,8 +81,7 @@ class Confined(InTemporary):
         if sandboxes.weakness():
             raise unittest.SkipTest(f"no walls here: {sandboxes.weakness()}")
         files = hand_in.read([self.folder], self.folder).archive()
-        ground = OwnSandboxes(
-            SandboxOptions(sandboxes.strongest()), ProgramFiles(files, {}, "python")
-        )
+        kept = ProgramFiles(files, {}, "python")
+        ground = OwnSandboxes(SandboxOptions(sandboxes.strongest()), lambda _: kept)
         apart = AgentWords(OUTSIDE, f"python3 agent.py {words}", ground=ground)
         self.assertEqual(self.left_by(apart), 0)

@@ -2,13 +2,19 @@
 here gets a sentence that names its cause."""
 import os
 import sys
+import time
 from typing import Dict, List, Tuple
+from unittest import mock
 
+from arena_lab import api
 from arena_lab.__main__ import main
+from arena_lab.commands import answers
+from arena_lab.commands.answers import answered
 from arena_lab.course import exercises
-from arena_lab.course.exercises import CLIENT, Exercise, answered
+from arena_lab.course.exercises import CLIENT, Exercise
 from arena_lab.play.agent_files import AGENTS
-from arena_lab.play.teams import OUTSIDE, AgentWords
+from arena_lab.play.teams import INSIDE, OUTSIDE, AgentWords
+from arena_lab.search.history_tree import NoFunction
 from tests.support.output import InTemporary, ran
 
 # of each exercise changes to its solution, and what is said of it then
@@ -60,6 +66,32 @@ WRONG: Dict[str, List[Tuple[str, str, str]]] = {
         ),
         ("agent.accuse(1 - side)", "agent.leave()", "nobody accused"),
     ],
+    "9-every-schedule": [
+        (
+            "        if swap.written:\n            return board\n",
+            "        return board\n",
+            "is answered `changed`, and goes on",
+        ),
+        (
+            "(0 if swap.written else 1)",
+            "0",
+            "only one of them may take a side",
+        ),
+        ("agent.accuse(ahead)", "agent.leave()", "nobody accused"),
+        ("nodes - 2", "nodes - 3", "accused a safe link"),
+        (
+            "        board = swap.board\n        if swap.written:",
+            "        board = swap.board\n        while not swap.written:\n"
+            "            swap = agent.write(swap.board, board_of(safe))\n"
+            "            board = swap.board\n        if True:",
+            "what the other agent has noted is gone",
+        ),
+    ],
+    "10-halves": [
+        ("self.left() // 2\n        walker", "self.left()\n        walker", "lost"),
+        ("            if not self.divide():", "            if True:", "nobody accused"),
+        ("if self.left() == 1:", "if self.left() == 2:", "accused a safe link"),
+    ],
 }
 
 
@@ -75,7 +107,8 @@ class Exercises(InTemporary):
         """What is to be mended in an answer."""
         (self.folder / exercises.AGENT).write_text(agent, encoding="utf-8")
         words = exercise.command.replace("python3", sys.executable)
-        return answered(exercise, lambda _: AgentWords(OUTSIDE, words)).said
+        inside = AgentWords(INSIDE, f"{exercises.AGENT} {{nodes}}")
+        return answered(exercise, AgentWords(OUTSIDE, words), inside=inside).said
 
     def test_they_are_in_order_and_whole(self) -> None:
         found = exercises.exercises()
@@ -101,6 +134,23 @@ class Exercises(InTemporary):
                     said = self.said(one, solution.replace(right, wrong))
                     self.assertTrue(said)
                     self.assertIn(sentence, said[0])
+
+    def test_a_search_that_does_not_end_well_is_no_praise(self) -> None:
+        one = exercises.read("9-every-schedule")
+        (self.folder / exercises.AGENT).write_text(one.solution(), encoding="utf-8")
+        agent = AgentWords(INSIDE, f"{exercises.AGENT} {{nodes}}")
+        every = "every schedule of ring:4"
+        with mock.patch.object(answers, "MOST", 9):
+            said = answered(one, agent).said
+        self.assertIn(f"{every} cannot be tried: there are more than 9 states", said[0])
+        for wrong, sentence in (
+            (lambda *_: time.sleep(30), "could not be tried in the time"),
+            (NoFunction("it says another line"), "cannot be tried: it says another"),
+        ):
+            with mock.patch.object(api, "explore_games", side_effect=wrong):
+                said = answered(one, agent, seconds=0).said
+            self.assertIn(f"{every} {sentence}", said[0])
+        self.assertIn("and under every schedule of ring:4", one.praise())
 
     def test_the_command_writes_checks_and_says_what_is_wrong(self) -> None:
         name = next(iter(WRONG))
