@@ -1,24 +1,31 @@
-"""Tries a program while somebody writes it: plays a match to be watched, checks it, or
-tries every schedule of a small network. A process of its own, which a hall starts in a
-folder, so that nothing of the program is in a process of the hall.
+"""Tries programs while teams write them: plays a match to be watched, checks a program,
+tries every schedule of a small network, or plays an exercise.
 
-    python3 -m arena_lab.commands.trial FOLDER
+    python3 -m arena_lab.commands.trial
 
-FOLDER has the program's files in `files`, and `asked.json`: what is tried (`play`,
-`check` or `explore`) or the name of an `exercise`, the `command` of an agent, the `conditions` as in the file of a
-course, the `scheduler` and `seed` of a match, how many `seconds` it may take and how many
-of them each `line` of an agent, and the `isolation` of programs.
-`found.json` is written there, and of a match its replay and its page. What is found has
+A hall's worker starts this command and keeps it waiting. Its standard input is a socket:
+each message names the folder of a trial and one for temporary files. The command forks a
+process for the trial, which ends once the trial is over, and answers with a descriptor
+of that process. So nothing of a program is in a process of the hall, no two trials share
+a process, and none waits until modules are loaded.
+
+A trial reads `asked.json` of its folder (TrialRequest) and the program's files in
+`files`. It writes `found.json`, and of a match the replay and the page. What is found has
 sentences, and marks: lines of the program's files, each with what is wrong there.
 """
 import contextlib
 import functools
+import gc
 import io
 import json
 import os
 import pathlib
+import signal
+import socket
 import sys
-from typing import Any, Dict, List, NamedTuple, Optional, Tuple
+import time
+import traceback
+from typing import Any, Dict, List, NamedTuple, NoReturn, Optional, Set, Tuple
 
 from arena_lab.commands import check
 from arena_lab.course import exercises, hand_in, sent_lines
@@ -33,6 +40,7 @@ from arena_lab.course.trials import (
     EXPLORE,
     FILES,
     FOUND,
+    LOG,
     PAGE,
     PLAY,
     REPLAY,
@@ -42,8 +50,10 @@ from arena_lab.play import games, kept_matches, programs
 from arena_lab.play.games import Record
 from arena_lab.play.matches import play
 from arena_lab.play.mistakes import plain
+from arena_lab.play.parallel import end_with
 from arena_lab.play.schedules import Schedule, schedule_of
 from arena_lab.play.teams import OUTSIDE, AgentWords
+from arena_lab.sandbox import calls, isolation
 from arena_lab.sandbox.own_sandboxes import OwnSandboxes
 from arena_lab.sandbox.sandboxes import Isolation, SandboxOptions
 from arena_lab.support.faults import Fault
@@ -57,6 +67,12 @@ ROOM = 1 << 20
 MOST_SAID = 20
 LONGEST = 400
 MOST_WRITTEN = 20_000
+# bytes of a message that asks for a trial
+MOST_MESSAGE = 1 << 16
+# seconds for which it is known where the system has pipes and sockets
+KNOWN = 3600.0
+# the command of most trials
+USUAL = "python3"
 
 
 class TrialRequest(NamedTuple):
@@ -230,17 +246,100 @@ def bounded(found: Dict[str, Any]) -> Dict[str, Any]:
     }
 
 
-def main(name: str) -> None:
-    folder = pathlib.Path(name).resolve()
-    asked = TrialRequest(**json.loads((folder / ASKED).read_text(encoding="utf-8")))
+def asked_in(folder: pathlib.Path) -> TrialRequest:
+    """What is asked for in a trial's folder."""
+    return TrialRequest(**json.loads((folder / ASKED).read_text(encoding="utf-8")))
+
+
+def try_in(folder: pathlib.Path) -> None:
+    """Does the trial of a folder. Its file of what is found is written last."""
     # where the words of a command name files
     os.chdir(folder / FILES)
-    found = bounded(TriedProgram(folder, asked).found())
-    (folder / FOUND).write_text(json.dumps(found), encoding="utf-8")
+    found = bounded(TriedProgram(folder, asked_in(folder)).found())
+    new = folder / f".{FOUND}"
+    new.write_text(json.dumps(found), encoding="utf-8")
+    new.replace(folder / FOUND)
+
+
+class TrialServer:
+    """Forks a process for each trial, and forgets those that have ended."""
+
+    def __init__(self, worker: socket.socket) -> None:
+        self._worker = worker
+        self._running: Set[int] = set()
+        self._looked = time.monotonic()
+
+    def serve(self) -> None:
+        """Goes on until the worker has ended."""
+        signal.signal(signal.SIGCHLD, lambda *_: self._reap())
+        share(USUAL)
+        # what is loaded by now is shared by all trials
+        gc.collect()
+        gc.freeze()
+        while message := self._worker.recv(MOST_MESSAGE):
+            given = json.loads(message)
+            folder = pathlib.Path(given["folder"])
+            if time.monotonic() - self._looked > KNOWN:
+                isolation.meeting_places.cache_clear()
+                self._looked = time.monotonic()
+            share(asked_in(folder).command)
+            parent = os.getpid()
+            child = os.fork()
+            if child == 0:
+                self._worker.close()
+                end(folder, given["temporary"], parent)
+            process = os.pidfd_open(child)
+            self._running.add(child)
+            self._reap()
+            socket.send_fds(self._worker, [b"."], [process])
+            os.close(process)
+
+    def _reap(self) -> None:
+        for child in list(self._running):
+            # a signal may come while this goes on
+            with contextlib.suppress(ChildProcessError):
+                if os.waitpid(child, os.WNOHANG)[0] == 0:
+                    continue
+            self._running.discard(child)
+
+
+def share(command: str) -> None:
+    """Finds out once for all trials what they share: the filter of system calls for the
+    language of a command, and which pipes and sockets of the system's folders are
+    hidden. A trial itself tells what is wrong with these, and needs neither where
+    programs have no walls."""
+    with contextlib.suppress(Fault, OSError):
+        isolation.system_filter(calls.language_of(command, lambda _: None), ())
+        isolation.words((), False)
+
+
+def end(folder: pathlib.Path, temporary: str, parent: int) -> NoReturn:
+    """Does the trial of a folder in a process that was forked for it, and ends with the
+    process."""
+    status = 1
+    try:
+        end_with(parent, signal.SIGKILL)
+        signal.signal(signal.SIGCHLD, signal.SIG_DFL)
+        os.environ["TMPDIR"] = temporary
+        for descriptor, path, how in (
+            (0, os.devnull, os.O_RDONLY),
+            (1, str(folder / LOG), os.O_WRONLY | os.O_CREAT | os.O_TRUNC),
+        ):
+            opened = os.open(path, how, 0o600)
+            os.dup2(opened, descriptor)
+            os.close(opened)
+        os.dup2(1, 2)
+        try_in(folder)
+        status = 0
+    except (Fault, OSError) as fault:
+        print(f"trial: {fault}", file=sys.stderr)
+    except BaseException:
+        traceback.print_exc()
+    finally:
+        with contextlib.suppress(OSError):
+            sys.stderr.flush()
+        os._exit(status)
 
 
 if __name__ == "__main__":
-    try:
-        main(sys.argv[1])
-    except (Fault, OSError) as fault:
-        sys.exit(f"trial: {fault}")
+    TrialServer(socket.socket(fileno=os.dup(0))).serve()

@@ -6,9 +6,11 @@ PLAY = "play"
 CHECK = "check"
 EXPLORE = "explore"
 KINDS = (PLAY, CHECK, EXPLORE)
-# what is asked for, the program's files, what is found, and the match that shows it
+# what is asked for, the program's files, what is found, what the process said besides,
+# and the match that shows it
 ASKED = "asked.json"
 FILES = "files"
 FOUND = "found.json"
+LOG = "log.txt"
 REPLAY = "m0.jsonl"
 PAGE = "m0.html"

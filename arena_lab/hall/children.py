@@ -5,7 +5,7 @@ import os
 import pathlib
 import subprocess
 import tempfile
-from typing import Iterator, Sequence
+from typing import Dict, Iterator, Sequence
 
 from django.conf import settings
 
@@ -24,30 +24,41 @@ def child_of(
     words: Sequence[str], folder: pathlib.Path
 ) -> Iterator["subprocess.Popen[bytes]"]:
     """A command in a folder, in which it writes its log, as long as it is open."""
-    variables = {
-        "PATH": os.environ.get("PATH", "/usr/bin:/bin"),
-        "PYTHONPATH": str(TOP),
-        "PYTHONHASHSEED": "0",
-    }
-    # of which nothing is left, whatever ends the worker: place.remove_left
-    temporary = tempfile.mkdtemp(prefix=temporary_of(settings.PLACE.folder))
-    # programs have users of their own where there are no walls
-    os.chmod(temporary, 0o711)
-    variables["TMPDIR"] = temporary
-    with (folder / LOG).open("wb") as log:
+    with temporary_folder() as temporary, (folder / LOG).open("wb") as log:
         child = subprocess.Popen(
             bound([*FIRST, *words]),
             cwd=folder,
             stdin=subprocess.DEVNULL,
             stdout=log,
             stderr=log,
-            env=variables,
+            env={**variables(), "TMPDIR": temporary},
         )
+        try:
+            yield child
+        finally:
+            child.kill()
+            child.wait()
+
+
+def variables() -> Dict[str, str]:
+    """The environment of such a command: nothing of the hall's own."""
+    return {
+        "PATH": os.environ.get("PATH", "/usr/bin:/bin"),
+        "PYTHONPATH": str(TOP),
+        "PYTHONHASHSEED": "0",
+    }
+
+
+@contextlib.contextmanager
+def temporary_folder() -> Iterator[str]:
+    """A folder for what is temporary, of which nothing is left, whatever ends the
+    worker: place.remove_left."""
+    temporary = tempfile.mkdtemp(prefix=temporary_of(settings.PLACE.folder))
+    # programs have users of their own where there are no walls
+    os.chmod(temporary, 0o711)
     try:
-        yield child
+        yield temporary
     finally:
-        child.kill()
-        child.wait()
         sandboxes.remove(pathlib.Path(temporary))
 
 

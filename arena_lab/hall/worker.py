@@ -17,6 +17,7 @@ from arena_lab.hall.attempts import playing
 from arena_lab.hall.attempts.models import Attempt, Pages
 from arena_lab.hall.drafts import playing as tried
 from arena_lab.hall.drafts import trying
+from arena_lab.hall.drafts.forking import PARENT
 from arena_lab.hall.drafts.models import Trial
 from arena_lab.hall.handins import grading
 from arena_lab.hall.handins.models import Grading
@@ -103,6 +104,8 @@ def work(is_over: threading.Event) -> None:
     """Works until it is ended. A fault of the database is told, and it looks again."""
     asked = 0.0
     seen = watches()
+    if settings.HALL.editor is not None:
+        PARENT.begin()
     while not is_over.is_set():
         try:
             if time.monotonic() - asked > SECRETLY:

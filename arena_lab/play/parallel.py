@@ -117,10 +117,10 @@ def begin(over: Any, parent: int) -> None:
     end_with(parent)
 
 
-def end_with(parent: int) -> None:
+def end_with(parent: int, by: signal.Signals = signal.SIGTERM) -> None:
     """Has Linux end this process when the process that started it ends, also by a
     signal that cannot be caught."""
-    ctypes.CDLL(None, use_errno=True).prctl(PR_SET_PDEATHSIG, signal.SIGTERM)
+    ctypes.CDLL(None, use_errno=True).prctl(PR_SET_PDEATHSIG, by)
     if os.getppid() != parent:
         # it ended before
         os._exit(1)

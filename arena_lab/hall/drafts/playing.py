@@ -3,17 +3,17 @@ runs in sandboxes."""
 import json
 import pathlib
 import shutil
-import sys
 import time
 from typing import Any, Dict
 
 from django.conf import settings
 from django.db import transaction
 
-from arena_lab.course.trials import ASKED, CHECK, EXPLORE, FILES, FOUND, PAGE, PLAY
+from arena_lab.course.trials import ASKED, CHECK, EXPLORE, FILES, FOUND, LOG, PAGE, PLAY
 from arena_lab.hall import conditions, machine, packing
-from arena_lab.hall.children import LOG, child_of, last_line
+from arena_lab.hall.children import last_line
 from arena_lab.hall.drafts import writing
+from arena_lab.hall.drafts.forking import trial_in
 from arena_lab.hall.drafts.kits import WrittenKit, exercise_of, kit_of
 from arena_lab.hall.drafts.models import Draft, Trial
 from arena_lab.hall.handins.windows import window_of
@@ -108,16 +108,15 @@ def conditions_of(work: Trial, kit: WrittenKit) -> Dict[str, Any]:
 
 def run(work: Trial, holder: str, folder: pathlib.Path) -> None:
     """Runs the process, until it ends, its time is up or its team stops it."""
-    words = [sys.executable, "-m", "arena_lab.commands.trial", str(folder)]
     lease = Lease(work, holder, ASKS)
     seconds = seconds_of(work) + BESIDE
     until = time.monotonic() + seconds
-    with child_of(words, folder) as child:
-        while child.poll() is None:
-            lease.wait(LOOK)
+    with trial_in(folder) as has_ended:
+        while not has_ended(LOOK):
+            lease.wait(0)
             if time.monotonic() > until:
                 raise Fault(f"it was ended after {seconds} s")
-    if child.returncode != 0:
+    if not (folder / FOUND).exists():
         raise Fault(f"it could not be tried: {last_line(folder / LOG)}")
 
 

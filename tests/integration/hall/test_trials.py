@@ -1,6 +1,10 @@
 """Programs that teams try, by the process that a worker starts: what is found, and at
 which lines; programs that hang, flood and attack; and trials that are stopped."""
 import json
+import shutil
+import signal
+import subprocess
+import sys
 import time
 import unittest
 from typing import Any, Dict
@@ -13,11 +17,12 @@ from django.conf import settings
 
 from arena_lab.course import exercises
 from arena_lab.hall import machine
-from arena_lab.hall.drafts import kits, playing
+from arena_lab.hall.drafts import forking, kits, playing
 from arena_lab.hall.drafts.models import Trial
 from arena_lab.hall.steps import claimed, step
 from arena_lab.play.agent_files import AGENTS
-from arena_lab.sandbox import sandboxes
+from arena_lab.sandbox import processes, sandboxes
+from arena_lab.support.built import TOP
 
 CAREFUL = (AGENTS / "python" / "careful.py").read_text()
 CLIENT = (AGENTS / "client.py").read_text()
@@ -78,6 +83,16 @@ def back(""",
         "        assert mine or found.came == FAR[FAR['home'], side]\n        mine += 1\n",
     ),
 )
+# a worker that has a trial forked, and waits for its end
+WORKER = """import pathlib, signal, sys
+from arena_lab.hall import entry
+entry.begin(sys.argv[1])
+from arena_lab.hall.drafts import forking
+signal.signal(signal.SIGTERM, lambda *_: sys.exit())
+with forking.trial_in(pathlib.Path(sys.argv[2])) as has_ended:
+    print("forked", flush=True)
+    while not has_ended(60): pass
+"""
 FLOOD = """import sys
 while True:
     sys.stderr.write("x" * 100_000 + "\\n")
@@ -227,6 +242,58 @@ class Exercised(Tried):
         told = self.rest("get", f"/api/drafts/{one.name}").json()
         self.assertEqual(told["files"]["agent.py"], one.solution())
         self.assertEqual((told["version"], told["hand_in"]), (0, False))
+
+
+class Waiting(Tried):
+    """The process that waits for trials, which forks one for each."""
+
+    def asked(self, agent: str) -> Any:
+        """The folder of a trial of this agent, and what forks it in a worker."""
+        kit = kits.kit_of("python")
+        told = self.tries(files={**kit.files, kit.main: agent})
+        trial = Trial.objects.get(pk=told.json()["id"])
+        folder = trial.folder.with_name(f"{trial.pk}.one")
+        playing.prepare(trial, folder)
+        self.addCleanup(shutil.rmtree, folder, True)
+        return folder
+
+    def test_a_trial_ends_with_the_worker_and_by_its_block(self) -> None:
+        folder = self.asked("while True: pass\n")
+        words = [sys.executable, "-c", WORKER, str(PLACE.folder), str(folder)]
+        for how in (signal.SIGKILL, signal.SIGTERM):
+            worker = subprocess.Popen(words, cwd=TOP, stdout=subprocess.PIPE)
+            assert worker.stdout is not None
+            self.assertEqual(worker.stdout.readline(), b"forked\n")
+            until = time.monotonic() + 60
+            # the process that waits, the trial, and what the trial has started
+            while len(running := processes.below(worker.pid)[1:]) < 4:
+                self.assertLess(time.monotonic(), until)
+            worker.send_signal(how)
+            worker.wait()
+            worker.stdout.close()
+            while left := set(running) & set(processes.listed()):
+                self.assertLess(time.monotonic(), until, left)
+                time.sleep(0.05)
+            self.assertFalse((folder / "found.json").exists())
+
+    def test_it_is_started_again_once_the_machine_has_ended_it(self) -> None:
+        before = self.tried(CAREFUL)
+        parent = forking.PARENT._child
+        assert parent is not None
+        parent.kill()
+        parent.wait()
+        self.assertTrue(self.found(CAREFUL)["right"])
+        self.assertTrue(before.found["right"])
+
+    def test_a_trial_whose_process_has_ended_is_no_finding(self) -> None:
+        def killed(*_: Any) -> None:
+            assert forking.PARENT._child is not None
+            forking.PARENT._child.kill()
+
+        with mock.patch.object(playing.Lease, "wait", killed):
+            trial = self.tried("import time\ntime.sleep(9)\n")
+        self.assertEqual((trial.state, trial.found), (machine.LOST, None))
+        self.assertIn("it could not be tried", trial.fault)
 
 
 class Hostile(Tried):

@@ -1,0 +1,98 @@
+"""A process of the worker that waits with all modules loaded that a trial needs, and
+forks a process for each trial (arena_lab/commands/trial.py): a trial begins in some
+milliseconds, and loads nothing. It ends with the worker, and each trial with it."""
+import contextlib
+import json
+import os
+import pathlib
+import signal
+import socket
+import subprocess
+import sys
+import threading
+from typing import Callable, Iterator, Optional
+
+from arena_lab.hall.children import FIRST, temporary_folder, variables
+from arena_lab.hall.machine import MachineFault
+from arena_lab.support.built import TOP
+from arena_lab.support.waiting import is_ready
+
+MODULE = "arena_lab.commands.trial"
+# seconds in which it has to begin, and a process to end that is killed
+PATIENCE = 60.0
+
+
+class TrialParent:
+    """The process that waits. It is started when it is first needed, and again if the
+    machine has ended it, as when memory is short."""
+
+    def __init__(self) -> None:
+        self._lock = threading.Lock()
+        self._channel: Optional[socket.socket] = None
+        self._child: Optional["subprocess.Popen[bytes]"] = None
+
+    def begin(self) -> None:
+        """Starts it ahead of the first trial."""
+        with self._lock:
+            self._open()
+
+    def forked(self, folder: pathlib.Path, temporary: str) -> int:
+        """Starts the trial of a folder, in a process of its own; gives that process as a
+        descriptor, which can be read once it has ended."""
+        sent = json.dumps({"folder": str(folder), "temporary": temporary}).encode()
+        with self._lock:
+            for _ in range(2):
+                channel = self._open()
+                with contextlib.suppress(OSError):
+                    channel.send(sent)
+                    found = socket.recv_fds(channel, 1, 1)[1]
+                    if found:
+                        return found[0]
+                self._close()
+        raise MachineFault("no process can be started in which a program is tried")
+
+    def _open(self) -> socket.socket:
+        """The channel to the process, which goes on."""
+        if self._child is not None and self._child.poll() is not None:
+            self._close()
+        if self._channel is None:
+            ours, theirs = socket.socketpair(socket.AF_UNIX, socket.SOCK_SEQPACKET)
+            ours.settimeout(PATIENCE)
+            with theirs:
+                # it ends once nobody has our end any more
+                self._child = subprocess.Popen(
+                    [*FIRST, sys.executable, "-m", MODULE],
+                    cwd=TOP,
+                    stdin=theirs.fileno(),
+                    stdout=subprocess.DEVNULL,
+                    env=variables(),
+                )
+            self._channel = ours
+        return self._channel
+
+    def _close(self) -> None:
+        if self._channel is not None:
+            self._channel.close()
+            self._channel = None
+        if self._child is not None:
+            self._child.kill()
+            self._child.wait()
+            self._child = None
+
+
+PARENT = TrialParent()
+
+
+@contextlib.contextmanager
+def trial_in(folder: pathlib.Path) -> Iterator[Callable[[float], bool]]:
+    """The trial of a folder, which is killed where the block ends. Gives what waits for
+    its end, at most so many seconds, and says whether it has ended."""
+    with temporary_folder() as temporary:
+        process = PARENT.forked(folder, temporary)
+        try:
+            yield lambda seconds: is_ready(process, seconds)
+        finally:
+            with contextlib.suppress(ProcessLookupError):
+                signal.pidfd_send_signal(process, signal.SIGKILL)
+            is_ready(process, PATIENCE)
+            os.close(process)
