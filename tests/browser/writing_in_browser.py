@@ -2,12 +2,16 @@
 
     /usr/bin/python3 -m tests.browser.writing_in_browser PROGRAM [FOLDER]
 
-Runs the kit, makes a mistake, sees it at its line, takes the earlier version back, tries
-every schedule, stops a check, and hands in; loses the network while it writes, and
-writes what another member has changed; by the keyboard alone, in three languages, dark,
-and on a phone. Then does an exercise as a guest, and has a program say what would be a
-script if a page took it for one. Finds no error in the console. Screenshots go to the folder.
-`tools/nightly` installs what it needs.
+- One member runs the kit, makes a mistake and sees it at its line, takes the earlier
+  version back, tries every schedule, stops a check, and hands in.
+- The network is lost while the member writes. Both members write at the same time, and
+  run at the same time.
+- The page is used by the keyboard alone, in three languages, dark, and on a phone.
+- A guest does an exercise. A program writes what would be a script if the page took it
+  for one.
+
+The browser's console must show no error. Screenshots go to the folder. `tools/nightly`
+installs what it needs.
 """
 import os
 import pathlib
@@ -136,6 +140,17 @@ class Writing(Walk):
         self.find("#stop").click()
         self.state("stopped")
 
+    def waits_for(self, other: "Writing") -> None:
+        """Runs while a program of another member is being tried: it waits, and runs then
+        by itself."""
+        other.find("#check").click()
+        other.until("checks ..")
+        self.find("#play").click()
+        self.until("waits for its turn: a program of your team is being tried")
+        other.find("#stop").click()
+        other.state("stopped")
+        self.state("\u2713 solved")
+
     def hand_in(self, folder: pathlib.Path) -> None:
         self.find(".hand-in").click()
         self.until("handed in as")
@@ -252,6 +267,8 @@ def main(program: str, folder: pathlib.Path) -> int:
             one.quiet("ERR_INTERNET_DISCONNECTED")
             conflict(one, other)
             other.quiet("409")
+            other.waits_for(one)
+            other.quiet("429")
             one.looks()
             one.begin_as_guest()
             one.hostile()

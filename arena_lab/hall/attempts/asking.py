@@ -17,12 +17,14 @@ from arena_lab.hall.teams.models import Switch, Team, note, today
 
 
 class RequestRefused(APIException):
-    """What is asked for is refused: the status of HTTP, and a line that says what to
-    change."""
+    """What is asked for is refused: the status of HTTP, a line that says what to change,
+    and after how many seconds it may be asked for again, if waiting helps (the header
+    Retry-After)."""
 
-    def __init__(self, status: int, text: str) -> None:
+    def __init__(self, status: int, text: str, wait: Optional[int] = None) -> None:
         super().__init__(text)
         self.status_code = status
+        self.wait = wait
 
 
 class Offer(NamedTuple):

@@ -23,6 +23,8 @@ SCHEDULERS = tuple(NAMED)
 MOST_SEED = 999_999
 # what is asked for if nothing is said
 USUAL = {"kind": PLAY, "network": "", "scheduler": SCHEDULERS[0], "seed": 0}
+# seconds after which a team asks again whose program is being tried
+AGAIN = 2
 # trials of a team that are kept
 KEPT = 30
 
@@ -69,7 +71,9 @@ def check_limits(team: Team) -> None:
     own = Trial.objects.filter(team=team)
     if own.filter(state__in=(machine.WAITING, *machine.ACTIVE)).exists():
         raise RequestRefused(
-            429, _("a program of your team is being tried: wait for it, or stop it")
+            429,
+            _("a program of your team is being tried: wait for it, or stop it"),
+            wait=AGAIN,
         )
     most = settings.HALL.editor.a_day
     if own.filter(asked__gte=today()).count() >= most:

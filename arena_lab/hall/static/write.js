@@ -14,7 +14,7 @@ async function rest(method, path, body) {
   });
   const told = await answer.json().catch(() => ({}));
   if (answer.ok) return told;
-  throw Object.assign(new Error(told.error || String(answer.status)), { status: answer.status, after: Number(answer.headers.get("Retry-After")) || 2 });
+  throw Object.assign(new Error(told.error || String(answer.status)), { status: answer.status, after: Number(answer.headers.get("Retry-After")) });
 }
 const editor = new Editor(byId("editor"), draft.main, {
   "Ctrl-Enter": () => ask("play"), "Cmd-Enter": () => ask("play"), Esc: () => byId("play").focus(),
@@ -80,16 +80,29 @@ async function ask(kind) {
   isStopped = false;
   const began = performance.now();
   try {
-    trial = await rest("POST", "/api/trials", {
+    trial = await begun({
       language: draft.language, files: editor.files(), kind, seed: Number(byId("seed").value),
       network: byId(kind === "explore" ? "small" : "network").value, scheduler: byId("scheduler").value,
     });
-    // the button may have been faster than the hall
-    if (isStopped) await close();
-    await follow(began);
+    if (trial) {
+      // the button may have been faster than the hall
+      if (isStopped) await close();
+      await follow(began);
+    } else state(words.stopped, "wrong-state");
   } catch (fault) { state(fault.message, "wrong-state"); }
   busy(false);
   earlier();
+}
+// asks until the hall takes it: another member's program is being tried, or there were too many requests
+async function begun(asked) {
+  while (!isStopped) {
+    try { return await rest("POST", "/api/trials", asked); } catch (fault) {
+      if (fault.status !== 429 || !fault.after) throw fault;
+      state(`${words.waits}: ${fault.message}`);
+      await new Promise((done) => { setTimeout(done, 1000 * fault.after); });
+    }
+  }
+  return null;
 }
 async function follow(began) {
   const seconds = () => (performance.now() - began) / 1000;

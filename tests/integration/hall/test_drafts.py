@@ -180,12 +180,16 @@ class Trials(Written):
     def test_a_team_has_one_at_a_time_and_some_a_day(self) -> None:
         first = self.tries()
         self.assertEqual(first.status_code, 201)
-        self.assertEqual(self.tries().status_code, 429)
+        told = self.tries()
+        # the page waits and asks again
+        self.assertEqual((told.status_code, told["Retry-After"]), (429, "2"))
         self.assertEqual(self.tries("birch").status_code, 201)
         closed = self.rest("post", f"/api/trials/{first.json()['id']}/close").json()
         self.assertEqual(closed["state"], machine.CANCELLED)
         with halled(editor=RULES._replace(a_day=1)):
-            self.assertIn("today", self.tries().json()["error"])
+            told = self.tries()
+            self.assertIn("today", told.json()["error"])
+            self.assertNotIn("Retry-After", told)
         self.assertEqual(self.tries(kind="explore", network="ring:4").status_code, 201)
 
     def test_of_old_trials_nothing_is_left(self) -> None:
