@@ -75,6 +75,41 @@ static inline int arena_mark(const char *file, int line)
 """
 C_BEFORE = "#define ARENA_CLIENT\nint arena_sent;\n"
 ENDS = "#endif"
+# the class of the client in C++ under another name, and one in its place whose calls say
+# where they stand; `join` says where it was called
+CPP = """#define ARENA_FROM const char *file = __builtin_FILE(), int line = __builtin_LINE()
+class Agent : public Unmarked {
+public:
+    using Unmarked::Unmarked;
+    Here enter(const std::string &key, ARENA_FROM) { return mark(file, line), Unmarked::enter(key); }
+    Here look(ARENA_FROM) { return mark(file, line), Unmarked::look(); }
+    Swap write(const std::string &expect, const std::string &put, ARENA_FROM)
+    {
+        return mark(file, line), Unmarked::write(expect, put);
+    }
+    Here depart(int port, ARENA_FROM) { return mark(file, line), Unmarked::depart(port); }
+    void accuse(int port, ARENA_FROM) { mark(file, line), Unmarked::accuse(port); }
+    void leave(ARENA_FROM) { mark(file, line), Unmarked::leave(); }
+
+private:
+    static void mark(const char *file, int line)
+    {
+        static int sent = 0;
+        fprintf(stderr, "\\x1e%d %s:%d\\n", ++sent, file, line);
+    }
+};
+
+"""
+CPP_CHANGES = (
+    ("#pragma once\n", "#pragma once\n#include <cstdio>\n"),
+    ("class Agent {\npublic:\n    Agent(", "class Unmarked {\npublic:\n    Unmarked("),
+    ("// Connects and enters.", CPP + "// Connects and enters."),
+    (
+        "&port, const std::string &key)\n",
+        "&port, const std::string &key, ARENA_FROM)\n",
+    ),
+    ("agent.enter(key);", "agent.enter(key, file, line);"),
+)
 
 
 class SentBy(NamedTuple):
@@ -98,6 +133,7 @@ def marked(handed_in: HandIn, silent: float) -> HandIn:
             ("client.js", behind(handed_in, "client.js", JAVASCRIPT, "class Agent")),
             ("client.h", in_header(handed_in)),
             ("client.c", in_client(handed_in)),
+            ("client.hpp", in_class(handed_in)),
         )
         if text
     }
@@ -130,6 +166,15 @@ def in_header(handed_in: HandIn) -> str:
 def in_client(handed_in: HandIn) -> str:
     text = text_of(handed_in, "client.c")
     return C_BEFORE + text if in_header(handed_in) and text else ""
+
+
+def in_class(handed_in: HandIn) -> str:
+    text = text_of(handed_in, "client.hpp")
+    for old, new in CPP_CHANGES:
+        if text.count(old) != 1:
+            return ""
+        text = text.replace(old, new)
+    return text
 
 
 def parted(errors: Dict[int, str]) -> Tuple[Dict[int, str], Dict[int, List[SentBy]]]:

@@ -1,7 +1,15 @@
 """The kits of four languages are written, built and played; `python3 -m
-tests.release.kits PROGRAM` plays all."""
+tests.release.kits PROGRAM` plays all. Kits whose clients say by which line they send are
+built and played, too."""
+import subprocess
 
+from arena_lab.course import hand_in, sent_lines
+from arena_lab.play.agent_files import AGENTS
+from arena_lab.play.games import play_seed
+from arena_lab.play.grounds import LocalRunner
 from arena_lab.play.kits import KITS
+from arena_lab.play.teams import OUTSIDE, AgentWords, Game
+from arena_lab.rules.networks import ring
 from tests.support.kits_played import Played
 from tests.support.matches import program
 from tests.support.output import InTemporary
@@ -14,6 +22,45 @@ class TestKits(InTemporary):
         if absent:
             self.skipTest(f"Debian's {', '.join(absent)} is not installed")
         Played(language, self.folder, program()).all()
+
+    def lines(self, language: str, agent: str) -> None:
+        """Each event of a match has the line of the kit's agent that sent it."""
+        absent = packages.missing(KITS[language].packages)
+        if absent:
+            self.skipTest(f"Debian's {', '.join(absent)} is not installed")
+        kit = hand_in.read([AGENTS / language], AGENTS)
+        marked = sent_lines.marked(kit, 5)
+        self.assertNotEqual(marked, kit)
+        for name in marked.entries:
+            marked.write_file(name, self.folder)
+        if KITS[language].build:
+            words = KITS[language].build.split()
+            subprocess.run(words, cwd=self.folder, check=True, capture_output=True)
+        one = AgentWords(
+            OUTSIDE,
+            f"{KITS[language].play} {{host}} {{port}} {{key}} {{nodes}}",
+            ground=lambda _: LocalRunner(str(self.folder)),
+        )
+        played = play_seed(Game("ring:5", ring(5), [one] * 2), "fair", 0, None).played
+        self.assertEqual(played.faults, [])
+        _, places = sent_lines.parted(played.errors)
+        text = (AGENTS / language / agent).read_text(encoding="utf-8").splitlines()
+        log = played.match.log
+        for event, by in zip(log, sent_lines.along(log, places)):
+            if event["do"] in ("deliver", "close"):
+                continue
+            call = "join" if event["do"] == "enter" else event["do"]
+            self.assertEqual(by.file, agent, event)
+            self.assertRegex(text[by.line - 1], rf"\b(agent_)?{call}\(", event)
+
+    def test_lines_in_c(self) -> None:
+        self.lines("c", "careful.c")
+
+    def test_lines_in_cpp(self) -> None:
+        self.lines("cpp", "careful.cpp")
+
+    def test_lines_in_javascript(self) -> None:
+        self.lines("javascript", "careful.js")
 
     def test_python(self) -> None:
         self.play("python")

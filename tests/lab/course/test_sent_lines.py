@@ -58,7 +58,7 @@ class SentLines(unittest.TestCase):
         self.assertEqual(places[0], [])
 
     def test_a_client_that_is_not_the_kits_is_left_as_it_is(self) -> None:
-        for name in ("client_py", "client_js", "client_h", "client_c"):
+        for name in ("client_py", "client_js", "client_h", "client_c", "client_hpp"):
             given = of(**{name: "mine", "agent_py": "x"})
             self.assertEqual(sent_lines.marked(given, 4), given)
         client = (AGENTS / "client.py").read_text()
