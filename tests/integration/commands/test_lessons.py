@@ -1,4 +1,4 @@
-"""The commands of the lessons do what the sheets say, in the order in which they stand
+"""The commands of the lessons do what the page says, in the order in which they stand
 there."""
 import os
 import re
@@ -7,37 +7,20 @@ import subprocess
 import sys
 from typing import List
 
+from arena_lab.course import exercises
 from arena_lab.rules.engines import TOP
 from tests.support.output import InTemporary
 
-LESSONS = TOP / "examples" / "lessons"
+LESSONS = TOP / "examples" / "lessons" / "README.md"
 COMMAND = re.compile(r" {7}(./arena-lab .*)")
-# the loop of the agent of the second sheet, and what the sheet lets one break it to
-LOOP = """    while True:
-        safe = safe_on(board)
-        safe[side] = mine
-        swap = agent.write(board, board_of(safe))
-        board = swap.board
-        if swap.written:
-            return board
-"""
-ONCE = """    safe = safe_on(board)
-    safe[side] = mine
-    return agent.write(board, board_of(safe)).board
-"""
-# commands that ask nobody, each with what it says
-WANTED = {
-    "new": "an agent in Python",
-    "run": "50 schedules: solved 50; failed 0",
-    "hunt": "solved",
-    "explore": "solve",
-    "play": "The match is over",
-}
+EXERCISE = "9-every-schedule"
 
 
-def commands(sheet: str) -> List[List[str]]:
-    text = (LESSONS / sheet).read_text(encoding="utf-8")
-    return [shlex.split(it) for it in COMMAND.findall(text)]
+def commands(lesson: str) -> List[List[str]]:
+    """The commands of a lesson, which is named by the head of its section."""
+    text = LESSONS.read_text(encoding="utf-8")
+    section = text.partition(f"\n## {lesson}\n")[2].partition("\n## ")[0]
+    return [shlex.split(it) for it in COMMAND.findall(section)]
 
 
 class TestLessons(InTemporary):
@@ -61,28 +44,25 @@ class TestLessons(InTemporary):
         return ran.stdout
 
     def test_by_hand(self) -> None:
-        found = commands("1-by-hand.md")
+        found = commands("1 By hand")
         self.assertEqual(4, len(found))
         for words in found:
             with self.subTest(words):
-                self.assertIn(
-                    WANTED["play"], self.said([it for it in words if it != "--page"])
-                )
+                asked = [it for it in words if it != "--page"]
+                self.assertIn("The match is over", self.said(asked))
 
     def test_a_ring(self) -> None:
-        for words in commands("2-a-ring.md"):
-            with self.subTest(words):
-                self.assertIn(WANTED[words[1]], self.said(words))
-        path = self.folder / "out" / "lessons" / "agent" / "careful.py"
-        text = path.read_text(encoding="utf-8")
-        self.assertIn(LOOP, text)
-        path.write_text(text.replace(LOOP, ONCE), encoding="utf-8")
-        _, run, hunt, _ = commands("2-a-ring.md")
-        self.assertIn("50 schedules: solved 47, silent 3; failed 3", self.said(run))
-        self.assertRegex(self.said(hunt), r"the team fails, first under number \d\n")
+        begin, run, hunt, explore = commands("2 A ring")
+        self.assertIn(f"Complete {EXERCISE}/agent.py", self.said(begin))
+        self.assertIn("; failed 4\n", self.said(run))
+        self.assertRegex(self.said(hunt), r"the team fails, first under number \d+\n")
+        agent = self.folder / EXERCISE / exercises.AGENT
+        agent.write_text(exercises.read(EXERCISE).solution(), encoding="utf-8")
+        self.assertIn("50 schedules: solved 50; failed 0", self.said(run))
+        self.assertIn("no schedule fails", self.said(explore))
 
     def test_fewer_moves(self) -> None:
-        two, halves, wrong = commands("3-fewer-moves.md")
+        two, halves, wrong = commands("3 Fewer moves")
         for words in (two, halves):
             with self.subTest(words):
                 self.assertIn("solve", self.said(words))
