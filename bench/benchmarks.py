@@ -110,6 +110,12 @@ HALL_NOTE = """\
 nodes. Each team hands in the sample agent once. One more team asks for the standings as fast as it can, by eight
 connections.
 """
+# a class of 30 for three minutes, and nothing else
+CLASS = "--teams 30 --writers 30 --attempts 0 --hand-ins 0 --minutes 3".split()
+WRITERS_NOTE = """\
+30 teams write on the page of a hall: each has the kit in Python tried on a ring of 8 nodes every 20 seconds, two agents
+in sandboxes, and looks every half second whether the trial is over.
+"""
 
 
 def noted_text(note: str, text: Callable[[str], str] = str) -> Callable[[str], str]:
@@ -271,5 +277,12 @@ BENCHMARKS: Dict[str, Benchmark] = {
         "A hall",
         lambda at: of_debians("bench.hall", "--program", str(at.program)),
         noted_text(HALL_NOTE, lines_text),
+    ),
+    "writers": Benchmark(
+        "A class that writes",
+        lambda at: of_debians(
+            "bench.hall", *CLASS, "--no-flood", "--program", str(at.program)
+        ),
+        noted_text(WRITERS_NOTE, lines_text),
     ),
 }

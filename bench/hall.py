@@ -12,8 +12,9 @@ at a time. Prints how many attempts were solved; how long it took from the reque
 the keys were there, and how long requests of the other teams took; how many programs
 solved their networks, and how long they waited for it; what the flood was answered; and
 the hall's processor seconds. A course has 600 attempts an hour; fewer minutes are a
-heavier load. Writers are teams that have their program tried every 20 seconds, as by the
-page on which one writes; as many programs are tried at a time as there are processors.
+heavier load. Writers are teams that have their program tried every 20 seconds, or once
+the trial before is over, as by the page on which one writes; as many programs are tried
+at a time as there are processors.
 """
 import argparse
 import contextlib
@@ -29,6 +30,7 @@ from collections import Counter
 from typing import Any, Callable, Dict, Iterator, List
 
 from arena_lab.rules.engines import program_at
+from arena_lab.sandbox import processes
 from tests.support.halls import Served, play, sample_program
 
 # seconds between two looks at a match, and at a program that is to be graded: a team
@@ -105,7 +107,13 @@ class Load:
         result = found["result"] or {}
         self.outcomes[f"program {result.get('solved')} of {result.get('matches')}"] += 1
 
-    def write(self, name: str) -> None:
+    def write(self, name: str, moments: List[float]) -> None:
+        """Has the kit tried at these times, or later if the trial before is not over:
+        as the page does, on which one can press Run only then."""
+        for moment in moments:
+            self.at(moment, self.try_once, name)
+
+    def try_once(self, name: str) -> None:
         """Has the kit tried, and waits for what is found."""
         began = time.monotonic()
         kit = self.request("GET", "/api/drafts/python", name)
@@ -154,14 +162,10 @@ class Load:
 def seconds_of(hall: Served) -> float:
     """The processor seconds that the hall has taken, with what it has started."""
     total = 0
-    for path in pathlib.Path("/proc").glob("[0-9]*/stat"):
+    for process in processes.below(hall.child.pid) if hall.child else []:
         with contextlib.suppress(OSError):
-            if str(hall.folder) in (path.parent / "environ").read_bytes().decode(
-                errors="replace"
-            ):
-                total += sum(
-                    map(int, path.read_text().rpartition(")")[2].split()[11:15])
-                )
+            text = pathlib.Path(f"/proc/{process}/stat").read_text()
+            total += sum(map(int, text.rpartition(")")[2].split()[11:15]))
     return total / os.sysconf("SC_CLK_TCK")
 
 
@@ -207,14 +211,12 @@ def run(words: argparse.Namespace) -> None:
             for name in those
         ]
         rounds = int(words.minutes * 60 / WRITES)
-        teams += [
-            threading.Thread(
-                target=load.at,
-                args=(began + (turn + chance.random()) * WRITES, load.write, name),
+        for number in range(words.writers):
+            first = began + chance.random() * WRITES
+            moments = [first + turn * WRITES for turn in range(rounds)]
+            teams.append(
+                threading.Thread(target=load.write, args=(f"team{number}", moments))
             )
-            for name in (f"team{number}" for number in range(words.writers))
-            for turn in range(rounds)
-        ]
         floods = [
             threading.Thread(target=load.flood, args=(f"team{words.teams}",))
             for _ in range(0 if words.no_flood else FLOODS)
