@@ -114,7 +114,7 @@ connections.
 CLASS = "--teams 30 --writers 30 --attempts 0 --hand-ins 0 --minutes 3".split()
 WRITERS_NOTE = """\
 30 teams write on the page of a hall: each has the kit in Python tried on a ring of 8 nodes every 20 seconds, two agents
-in sandboxes, and looks every half second whether the trial is over.
+in sandboxes, and looks as the page does whether the trial is over.
 """
 
 

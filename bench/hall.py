@@ -120,7 +120,9 @@ class Load:
         asked = {**kit, "kind": "play", "network": "ring of 8"}
         told = self.request("POST", "/api/trials", name, asked)
         while told["state"] in ("waiting", "held", "running"):
-            time.sleep(EVERY / 2)
+            # as arena_lab/hall/static/write.js does
+            took = time.monotonic() - began
+            time.sleep(0.3 if took < 4 else 1 if took < 15 else 2)
             told = self.request("GET", f"/api/trials/{told['id']}", name)
         if told["state"] == "over":
             self.tried.append(time.monotonic() - began)
