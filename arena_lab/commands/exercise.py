@@ -12,14 +12,14 @@ first. The exit status is 0 if the program is right, and 1 if it is not. The pag
 hall on which one writes has the same exercises.
 """
 import argparse
+import contextlib
 import pathlib
 import textwrap
 
 import arena_lab
-from arena_lab.course import exercises
 from arena_lab.commands.answers import answered
+from arena_lab.course import exercises
 from arena_lab.course.exercises import AGENT, Exercise
-from arena_lab.play.grounds import LocalRunner
 from arena_lab.play.teams import INSIDE, OUTSIDE, AgentWords
 from arena_lab.support.faults import Fault
 
@@ -79,11 +79,10 @@ def begin(exercise: Exercise, folder: pathlib.Path) -> int:
 
 def check(exercise: Exercise, folder: pathlib.Path, keep: pathlib.Path) -> int:
     """Checks what stands in a folder."""
-    agent = AgentWords(
-        OUTSIDE, exercise.command, ground=lambda _: LocalRunner(str(folder))
-    )
-    inside = AgentWords(INSIDE, f"{folder / AGENT} {{nodes}}")
-    found = answered(exercise, agent, inside=inside)
+    agent = AgentWords(OUTSIDE, exercise.command)
+    inside = AgentWords(INSIDE, f"{AGENT} {{nodes}}")
+    with contextlib.chdir(folder):
+        found = answered(exercise, agent, inside=inside)
     if not found.said:
         print(exercise.praise())
         return 0

@@ -60,7 +60,7 @@ NEEDED = ("jinja2",)
 
 def add_words(parser: argparse.ArgumentParser) -> None:
     """The words of the command `grade`."""
-    group = parser.add_argument_group("the file", course.__doc__)
+    group = parser.add_argument_group("the file", course.KEYS)
     parser.add_argument_group("points", points.__doc__)
     parser.add_argument_group("exports", export.__doc__)
     group.add_argument(

@@ -1,4 +1,37 @@
-"""A course's file: the teams' programs, and the matches that each of them plays.
+"""Reads the file of a course, which KEYS describes, and checks it."""
+import functools
+import os
+import pathlib
+import re
+import secrets
+import shlex
+import sys
+from typing import (
+    Any,
+    Dict,
+    List,
+    Mapping,
+    NamedTuple,
+    Optional,
+    Sequence,
+    Tuple,
+)
+
+from arena_lab.course.conditions import Conditions, CourseDraws, conditions_in
+from arena_lab.course.points import Points, points_in
+from arena_lab.play.agent_files import digests
+from arena_lab.play.grounds import HOST
+from arena_lab.play.teams import OUTSIDE, agent_named
+from arena_lab.play.wasm_modules import is_module
+from arena_lab.rules import networks
+from arena_lab.sandbox import calls, isolation
+from arena_lab.sandbox.sandboxes import Isolation
+from arena_lab.support import fields
+from arena_lab.support.fields import Field, WrongFile, is_text, is_texts
+from arena_lab.sweep import grid, tables
+from arena_lab.sweep.grid import Case, Grid, TeamRow
+
+KEYS = """A course's file: the teams' programs, and the matches that each of them plays.
 
     title = "Black hole search, autumn term"
     networks = ["ring:8", "ring:12"]
@@ -62,38 +95,6 @@ of schedulers come from the course's secret. The secret is drawn at the first ru
 kept in `secret.txt` beside the results. To grade again by the same draws, name that
 file by --secret; if a team has handed in something else since, all is drawn anew.
 """
-import functools
-import os
-import pathlib
-import re
-import secrets
-import shlex
-import sys
-from typing import (
-    Any,
-    Dict,
-    List,
-    Mapping,
-    NamedTuple,
-    Optional,
-    Sequence,
-    Tuple,
-)
-
-from arena_lab.course.conditions import Conditions, CourseDraws, conditions_in
-from arena_lab.course.points import Points, points_in
-from arena_lab.play.agent_files import digests
-from arena_lab.play.grounds import HOST
-from arena_lab.play.teams import OUTSIDE, agent_named
-from arena_lab.play.wasm_modules import is_module
-from arena_lab.rules import networks
-from arena_lab.sandbox import calls, isolation
-from arena_lab.sandbox.sandboxes import Isolation
-from arena_lab.support import fields
-from arena_lab.support.fields import Field, WrongFile, is_text, is_texts
-from arena_lab.sweep import grid, tables
-from arena_lab.sweep.grid import Case, Grid, TeamRow
-
 FILES = "files"
 # seconds and MB of a match, if that is more for all matches of a team
 FOR_A_MATCH = 5

@@ -1,4 +1,29 @@
-"""A hall's file has the teams of a course, the networks on which they practise, and how
+"""Reads the file of a hall, which KEYS describes, and checks it."""
+import datetime
+import functools
+import pathlib
+import re
+import zoneinfo
+from typing import Any, Dict, List, NamedTuple, Optional, Sequence, Tuple, Union
+
+from arena_lab.course.course import check_command
+from arena_lab.play.wasm_modules import file_in, is_module
+from arena_lab.rules import networks
+from arena_lab.rules.limits import MOST_BOARD, MOST_QUOTA, SMALL_BOARD, SMALL_QUOTA
+from arena_lab.rules.networks import Network, NoNetwork
+from arena_lab.support import fields
+from arena_lab.support.faults import Fault
+from arena_lab.support.fields import (
+    Field,
+    WrongFile,
+    is_count,
+    is_number,
+    is_text,
+    is_texts,
+)
+from arena_lab.sweep.grid import AGENTS, DEGREE, MAY_BE_TEXT
+
+KEYS = """A hall's file has the teams of a course, the networks on which they practise, and how
 their programs are graded.
 
     title = "Black hole search, autumn term"
@@ -76,30 +101,6 @@ Hand-ins are graded by the agents, quota, whiteboards and labels that practice h
 Without [hand_ins] nothing is handed in, and nobody is ranked; without [editor] nobody
 writes in the browser. Times are of the zone.
 """
-import datetime
-import functools
-import pathlib
-import re
-import zoneinfo
-from typing import Any, Dict, List, NamedTuple, Optional, Sequence, Tuple, Union
-
-from arena_lab.course.course import check_command
-from arena_lab.play.wasm_modules import file_in, is_module
-from arena_lab.rules import networks
-from arena_lab.rules.limits import MOST_BOARD, MOST_QUOTA, SMALL_BOARD, SMALL_QUOTA
-from arena_lab.rules.networks import Network, NoNetwork
-from arena_lab.support import fields
-from arena_lab.support.faults import Fault
-from arena_lab.support.fields import (
-    Field,
-    WrongFile,
-    is_count,
-    is_number,
-    is_text,
-    is_texts,
-)
-from arena_lab.sweep.grid import AGENTS, DEGREE, MAY_BE_TEXT
-
 LANGUAGES = ("en", "de", "fr")
 # kits that may be written in the browser, and the editor there, of Debian's package
 KITS = ("python", "javascript", "c", "cpp")

@@ -3,12 +3,14 @@ that names the state it leaves."""
 import contextlib
 import math
 import os
+import pathlib
 import secrets
 import shutil
 import threading
 import time
-from typing import Any, Dict, Iterator, Optional, Set, Tuple
+from typing import Any, Callable, Dict, Iterator, NamedTuple, Optional, Set, Tuple
 
+from django.conf import settings
 from django.db import OperationalError, connection, models, transaction
 from django.utils import timezone
 from django.utils.translation import gettext_lazy as _
@@ -60,6 +62,22 @@ class Work(models.Model):
     @property
     def is_over(self) -> bool:
         return bool(self.state == machine.OVER)
+
+
+class StoredWork(Work):
+    """Work with a folder of its own, below one of the hall's folders that all of its
+    kind have."""
+
+    FOLDERS = ""
+    # the bytes of its files, and of what came of it
+    size = models.BigIntegerField(default=0)
+
+    class Meta:
+        abstract = True
+
+    @property
+    def folder(self) -> pathlib.Path:
+        return pathlib.Path(settings.PLACE.folder) / self.FOLDERS / str(self.pk)
 
 
 def step(
@@ -210,3 +228,29 @@ def begun(kind: Any, number: int, holder: str, *related: str) -> Iterator[Any]:
         lose(work, models.Q(holder=holder), str(MACHINE))
     except Fault as fault:
         step(work, machine.FAIL, holder, fault=str(fault)[:300])
+
+
+class Stages(NamedTuple):
+    """How work is done in a folder: it is prepared there, runs, and its files are put
+    in their place."""
+
+    prepare: Callable[[Any, pathlib.Path], None]
+    run: Callable[[Any, str, pathlib.Path], None]
+    finish: Callable[[Any, str, pathlib.Path], None]
+
+
+def do_in_folder(
+    kind: Any, number: int, holder: str, stages: Stages, *related: str
+) -> None:
+    """Does the work of this number, if this holder holds it."""
+    with begun(kind, number, holder, *related) as work:
+        if work is None:
+            return
+        # a worker that comes back too late finds the files of no other
+        folder = work.folder.with_name(f"{work.folder.name}.{holder}")
+        try:
+            stages.prepare(work, folder)
+            stages.run(work, holder, folder)
+            stages.finish(work, holder, folder)
+        finally:
+            shutil.rmtree(folder, ignore_errors=True)

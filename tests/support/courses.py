@@ -1,7 +1,7 @@
 """What the tests of graded courses share: the tables of a course's file, and the rows
 of its results by team."""
 import pathlib
-from typing import Any, Dict, Sequence
+from typing import Any, Dict, List, Sequence
 
 from arena_lab.sweep import tables
 from tests.support.matches import AGENTS
@@ -19,6 +19,12 @@ HONEST = team(
     [AGENTS / "client.py", AGENTS / "ring.py"],
     "python3 ring.py {host} {port} {key} {nodes}",
 )
+
+
+def grade_words(file: pathlib.Path, out: pathlib.Path, workers: int) -> List[str]:
+    """The words of `grade` by the Python model."""
+    words = ["grade", str(file), "--out", str(out), "--engine", "model"]
+    return [*words, "--workers", str(workers)]
 
 
 def rows_of_teams(out: pathlib.Path) -> Dict[str, Any]:

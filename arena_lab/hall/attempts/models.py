@@ -9,7 +9,7 @@ from django.db.models.signals import post_delete
 from django.utils import timezone
 from django.utils.translation import gettext_lazy as _
 
-from arena_lab.hall.steps import Work, remove_folder
+from arena_lab.hall.steps import StoredWork, Work, remove_folder
 from arena_lab.hall.teams.models import Team
 
 # what came of a match: the verdict of the program, or that nobody has entered; after a
@@ -18,26 +18,20 @@ ABSENT = "absent"
 CUT = "cut"
 
 
-class Attempt(Work):
+class Attempt(StoredWork):
     """What a team has asked for: a match. Those of earlier halls may have several."""
 
+    FOLDERS = "attempts"
     team = models.ForeignKey(Team, models.CASCADE, related_name="attempts")
     network = models.CharField(max_length=60)
     # the team has asked that its match be closed now
     closing = models.BooleanField(default=False)
-    # the bytes of its files
-    size = models.BigIntegerField(default=0)
 
     class Meta:
         verbose_name = _("match")
         verbose_name_plural = _("matches")
         ordering = ["-pk"]
         indexes = [models.Index(fields=["team", "asked"], name="attempts_of_team")]
-
-    @property
-    def folder(self) -> pathlib.Path:
-        """Where its files are."""
-        return pathlib.Path(settings.PLACE.folder) / "attempts" / str(self.pk)
 
 
 post_delete.connect(remove_folder, Attempt)

@@ -32,8 +32,8 @@ class TrialParent:
         self._child: Optional["subprocess.Popen[bytes]"] = None
 
     def begin(self) -> None:
-        """Starts it ahead of the first trial."""
-        with self._lock:
+        """Starts it ahead of the first trial, which tells of faults."""
+        with self._lock, contextlib.suppress(OSError):
             self._open()
 
     def forked(self, folder: pathlib.Path, temporary: str) -> int:

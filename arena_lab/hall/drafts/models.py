@@ -1,14 +1,11 @@
 """Programs that teams write in the browser, one for each kit, and what came of trying
 them."""
-import pathlib
-
-from django.conf import settings
 from django.db import models
 from django.db.models.signals import post_delete
 from django.utils import timezone
 from django.utils.translation import gettext_lazy as _
 
-from arena_lab.hall.steps import Work, remove_folder
+from arena_lab.hall.steps import StoredWork, remove_folder
 from arena_lab.hall.teams.models import Team
 
 
@@ -32,10 +29,11 @@ class Draft(models.Model):
         unique_together = [("team", "language")]
 
 
-class Trial(Work):
+class Trial(StoredWork):
     """A match, a check or a search by which a team tries a draft. It has the files as
     they were: so it is an earlier version of them, until they are removed."""
 
+    FOLDERS = "trials"
     team = models.ForeignKey(Team, models.CASCADE, related_name="trials")
     language = models.CharField(max_length=40)
     kind = models.CharField(max_length=10)
@@ -46,19 +44,12 @@ class Trial(Work):
     # what came of it: see arena_lab/commands/trial.py
     found = models.JSONField(null=True)
     has_page = models.BooleanField(default=False)
-    # the bytes of its files, and of what came of it
-    size = models.BigIntegerField(default=0)
 
     class Meta:
         verbose_name = _("trial")
         verbose_name_plural = _("trials")
         ordering = ["-pk"]
         indexes = [models.Index(fields=["team", "asked"], name="trials_of_team")]
-
-    @property
-    def folder(self) -> pathlib.Path:
-        """Where its replay and its page are."""
-        return pathlib.Path(settings.PLACE.folder) / "trials" / str(self.pk)
 
 
 post_delete.connect(remove_folder, Trial)

@@ -1,5 +1,5 @@
-"""Has a program tried by a process of its own, which ends with the worker; the program
-runs in sandboxes."""
+"""Has programs tried, each trial by a process of its own that ends with the worker. The
+programs run in sandboxes."""
 import json
 import pathlib
 import shutil
@@ -18,7 +18,7 @@ from arena_lab.hall.drafts.kits import WrittenKit, exercise_of, kit_of
 from arena_lab.hall.drafts.models import Draft, Trial
 from arena_lab.hall.handins.windows import window_of
 from arena_lab.hall.place import write_whole
-from arena_lab.hall.steps import Lease, WorkLost, begun, step
+from arena_lab.hall.steps import Lease, Stages, WorkLost, do_in_folder, step
 from arena_lab.rules import draws
 from arena_lab.sandbox import sandboxes
 from arena_lab.support import fields
@@ -38,17 +38,8 @@ RINGS = ["ring:3", "ring:4", "ring:5", "ring:8"]
 
 def play(number: int, holder: str) -> None:
     """Tries a program, if this holder holds the work."""
-    with begun(Trial, number, holder, "team") as work:
-        if work is None:
-            return
-        # a worker that comes back too late finds the files of no other
-        folder = work.folder.with_name(f"{work.folder.name}.{holder}")
-        try:
-            prepare(work, folder)
-            run(work, holder, folder)
-            finish(work, holder, folder)
-        finally:
-            shutil.rmtree(folder, ignore_errors=True)
+    stages = Stages(prepare, run, finish)
+    do_in_folder(Trial, number, holder, stages, "team")
 
 
 def prepare(work: Trial, folder: pathlib.Path) -> None:
@@ -82,8 +73,8 @@ def seconds_of(work: Trial) -> int:
 
 
 def conditions_of(work: Trial, kit: WrittenKit) -> Dict[str, Any]:
-    """By what the program is tried, as the file of a course says it: what is handed in
-    is checked by what it is graded by."""
+    """The conditions of a trial, as the file of a course has them. A program that can be
+    handed in is checked under the conditions of its grading."""
     window = window_of(None)
     if work.kind == CHECK and kit.is_handed_in and window is not None:
         return fields.table_of(conditions.text_of(settings.HALL, window.public, {}))

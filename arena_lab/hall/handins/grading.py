@@ -23,7 +23,7 @@ from arena_lab.hall.children import LOG, child_of, last_line
 from arena_lab.hall.handins.models import Grading
 from arena_lab.hall.handins.windows import window_of
 from arena_lab.hall.place import SECRET, write_whole
-from arena_lab.hall.steps import Lease, WorkLost, begun, step
+from arena_lab.hall.steps import Lease, Stages, WorkLost, do_in_folder, step
 from arena_lab.support.faults import Fault
 
 # for how long it is known how long a team's programs took
@@ -41,17 +41,8 @@ SOLVED = "solved"
 
 def grade(number: int, holder: str) -> None:
     """Grades a hand-in, if this holder holds the work."""
-    with begun(Grading, number, holder, "hand_in__team", "hand_in__contest") as work:
-        if work is None:
-            return
-        # a worker that comes back too late finds the files of no other
-        folder = work.folder.with_name(f"{work.folder.name}.{holder}")
-        try:
-            prepare(work, folder)
-            run(work, holder, folder)
-            finish(work, holder, folder)
-        finally:
-            shutil.rmtree(folder, ignore_errors=True)
+    stages = Stages(prepare, run, finish)
+    do_in_folder(Grading, number, holder, stages, "hand_in__team", "hand_in__contest")
 
 
 def prepare(work: Grading, folder: pathlib.Path) -> None:

@@ -13,7 +13,7 @@ from arena_lab.play.matches import PlayedMatch
 from arena_lab.rules.engines import TOP
 from arena_lab.sandbox import sandboxes
 from arena_lab.sandbox.sandboxes import Isolation, SandboxOptions
-from tests.support.courses import HEAD, rows_of_teams, team
+from tests.support.courses import HEAD, grade_words, rows_of_teams, team
 from tests.support.output import ran
 
 HAS_WALLS = sandboxes.strongest() is Isolation.ALL
@@ -107,20 +107,6 @@ class Course(unittest.TestCase):
         """Grades a course by the command, and gives the rows of each team."""
         file = self.folder / "course.toml"
         file.write_text(text)
-        self.assertEqual(
-            ran(
-                main,
-                [
-                    "grade",
-                    str(file),
-                    "--out",
-                    str(self.folder / out),
-                    "--engine",
-                    "model",
-                    "--workers",
-                    "2",
-                ],
-            ).status,
-            status,
-        )
+        words = grade_words(file, self.folder / out, 2)
+        self.assertEqual(ran(main, words).status, status)
         return rows_of_teams(self.folder / out)

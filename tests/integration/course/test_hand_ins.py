@@ -14,7 +14,7 @@ from arena_lab.course.graded_matches import GradingRun
 from arena_lab.course.hand_in import HandIn
 from arena_lab.play import schedules
 from tests.integration.course.attacked_course import EVIL, Course
-from tests.support.courses import HEAD, HONEST, rows_of_teams, team
+from tests.support.courses import HEAD, HONEST, grade_words, rows_of_teams, team
 from tests.support.matches import AGENTS
 from tests.support.output import ran
 
@@ -207,20 +207,8 @@ class Again(Course):
             'title = "A trial"\nnetworks = ["complete:4"]\nholes = 1\nseeds = 4\ntries = 0\n'
             + team("evil", ["evil"], EVIL, 1)
         )
-        status, _, errors = ran(
-            main,
-            [
-                "grade",
-                str(file),
-                "--out",
-                str(self.folder / out),
-                "--engine",
-                "model",
-                "--workers",
-                "1",
-                *more,
-            ],
-        )
+        words = grade_words(file, self.folder / out, 1)
+        status, _, errors = ran(main, [*words, *more])
         self.assertEqual(status, 0, errors)
         return rows_of_teams(self.folder / out), errors
 

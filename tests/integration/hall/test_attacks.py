@@ -1,32 +1,10 @@
-"""Attacks on a hall, none of which wins anything now. Before it was mended,
+"""Attacks on a hall that won something once, and win nothing now.
 
-- a name of 400 bytes in a zip made every later hand-in of all teams end with status 500
-- guesses of tokens cost no try if a page was asked first, and REST then
-- a flood with a replaced token or session used up the team's requests
-- a zip of 180,000 entries, or a refused file without end, took seconds of the web
-  server
-- the page of a long replay was made anew for each request
-- a fault of the disk named paths of the hall's folder
-- signs that turn the direction of writing in a source showed the teacher another
-  program than was graded
-- a file's name with a byte 0, or a question without fields, ended in status 500
-- questions at the same time were more than are allowed
-- `/health` told after the freeze how long each program was graded, and programs that
-  fail take long
-- ten wrong passwords kept the teacher out whose address a stranger shared
-- each look at the page of a large source took a third of a second
-
-Other files try other attacks:
-
-- test_steps.py: a worker whose lease has run out
-- test_pages.py, test_isolation.py and test_hand_ins.py: tokens from all addresses of an IPv6
-  network, another team's match or replay, and the black hole before the close, by page, REST, size,
-  header and error
-- test_connections.py: connections and bytes, more than a server has room for, and slow
-  ones
-- test_nginx.py: X_Forwarded_For through Caddy, and many requests at once through nginx
-- test_hall.py and tests/lab/hall/test_unpacking.py: paths, SQL, HTML, formulas, requests of
-  other sites, and links and bombs in zips
+Other files try other attacks: test_steps.py a worker whose lease has run out;
+test_pages.py, test_isolation.py and test_hand_ins.py tokens from an IPv6 network, another
+team's matches, and a look at the black hole before the close; test_connections.py slow
+and many connections; test_nginx.py forged headers behind Caddy and nginx; test_hall.py
+and tests/lab/hall/test_unpacking.py paths, SQL, HTML, formulas, and bombs in zips.
 
 Three attacks still win something. Wrong tokens from a team's own address make its
 members who have not logged in wait minutes there. The numbers of matches and hand-ins

@@ -152,6 +152,14 @@ class Exercises(InTemporary):
             self.assertIn(f"{every} {sentence}", said[0])
         self.assertIn("and under every schedule of ring:4", one.praise())
 
+    def test_the_command_tries_every_schedule(self) -> None:
+        words = ["exercise", "9-every-schedule", "--folder", "a folder"]
+        ran(main, words)
+        status, told, _ = ran(main, words)
+        self.assertEqual(status, 1)
+        self.assertIn("has noted is gone; change your own number alone", told)
+        self.assertIn("(under a schedule of ring:4)", told)
+
     def test_the_command_writes_checks_and_says_what_is_wrong(self) -> None:
         name = next(iter(WRONG))
         self.assertIn("Enter and look", ran(main, ["exercise"]).said)
