@@ -2,6 +2,7 @@
 is named; and the site as it is built has neither."""
 import os
 import pathlib
+import re
 import subprocess
 import unittest
 from typing import Dict
@@ -9,7 +10,11 @@ from typing import Dict
 from arena_lab.support.missing import DEBIANS_PYTHON
 from tests import TOP
 from tests.support.output import InTemporary, write
+from tests.test_gate import module
 from tools import site_links
+
+site = module(TOP / "tools" / "site")
+THEOREMS = TOP / "docs" / "THEOREMS.md"
 
 PAGES: Dict[str, str] = {
     "index.html": '<h1 id="top">A</h1><a href="#top">a</a><a href="b/c.html#d">b</a>'
@@ -51,6 +56,36 @@ class Links(InTemporary):
         self.assertEqual(
             site_links.with_links(text, {"i.conf": "i.conf.txt"}),
             text.replace("i.conf", "i.conf.txt"),
+        )
+
+
+class Clauses(unittest.TestCase):
+    def test_each_row_of_theorems_leads_to_a_contract(self) -> None:
+        column = 0
+        lacks = []
+        for line in site.with_clauses(THEOREMS.read_text("utf-8")).split("\n"):
+            cells = [cell.strip() for cell in line.split("|")]
+            if "clause" in cells:
+                column = cells.index("clause")
+            elif len(cells) > column > 0 and not cells[column].startswith("---"):
+                if "](../contracts/bhs_" not in cells[column]:
+                    lacks.append(cells[column])
+        # cases of a definition, and what calls in both directions
+        self.assertEqual(
+            lacks,
+            [
+                "the other cases",
+                "the case `Exceeds`",
+                "`Host` of `bhs_orders_explore`, which is a `Team` (`IsExchange`)",
+            ],
+        )
+
+    def test_a_name_of_two_crates_is_of_the_one_that_the_section_names(self) -> None:
+        text = "\n## Isolation\n\nLaws of `bhs_model::laws`: `equal_pasts`.\n"
+        text += "\n## Results\n\nLaws of `bhs_view::laws`: `equal_pasts`.\n"
+        self.assertEqual(
+            re.findall(r"contracts/(\w+)\.md#(\S+)\)", site.with_clauses(text)),
+            [("bhs_model", "laws-equal_pasts"), ("bhs_view", "laws-equal_pasts")],
         )
 
 
