@@ -317,7 +317,7 @@ class Hostile(Tried):
 
     def test_a_trial_that_does_not_end_is_ended(self) -> None:
         with mock.patch.object(playing, "BESIDE", -19):
-            trial = self.tried(FLOOD)
+            trial = self.tried("import time\ntime.sleep(60)\n")
         self.assertEqual(trial.state, machine.LOST)
         self.assertEqual(trial.fault, "it was ended after 1 s")
         self.assertEqual(list((PLACE.folder / "trials").iterdir()), [])
