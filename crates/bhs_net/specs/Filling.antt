@@ -1,4 +1,4 @@
-use Rattle.std.specs.Prelude.{◌≡◌, ℕ, ◌<◌, List, [], length, map, slice_get, slice_index_or, Vec, Option, Some}
+use Rattle.std.specs.Prelude.{◌≡◌, ◌≢◌, ℕ, ◌<◌, List, [], length, map, slice_get, slice_index_or, Vec, Option, Some}
 use Rattle.std.specs.declared.alloc.Global.{Global}
 use Rattle.bhs_net.specs.declared.links.Link.{Link}
 use Rattle.bhs_net.specs.Links.{End, near_end, far_end, link_at, AreJoined}
@@ -41,6 +41,11 @@ abbrev pub LeadsApart : List End → Type 0
 LeadsApart row = (port other : ℕ) → port < length row → other < length row → (slice_index_or row port (0, 0)).0
     ≡ (slice_index_or row other (0, 0)).0 → port ≡ other
 
--- and so of each row
+-- no earlier port of the row leads to the node of this one
+abbrev pub IsFirst : List End → ℕ → Type 0
+IsFirst row port = (other : ℕ) → other < port
+    → (slice_index_or row other (0, 0)).0 ≢ (slice_index_or row port (0, 0)).0
+
+-- no two ports of any row lead to one node
 abbrev pub AllLeadApart : Network → Type 0
 AllLeadApart net = (node : ℕ) → node < nodes_of net → LeadsApart (row_of net node)

@@ -3,12 +3,13 @@
 //! made: it is checked. Of two links that would need one place in it, one is missed, and so is a link behind the first
 //! 65,536, which are more than a network may have.
 
-ghost use Rattle.std.specs.Prelude.{◌≡◌, ◌≤◌, true, length, IfOk, IfSome};
+ghost use Rattle.std.specs.Prelude.{◌≡◌, ◌<◌, ◌≤◌, true, false, length, IfOk, IfSome};
 ghost use Rattle.bhs_net.specs.declared.faults.TheConstants.{MIN_NODES, MAX_NODES};
 ghost use Rattle.bhs_net.specs.Links.{AreJoined};
 ghost use Rattle.bhs_net.specs.Network.{network_of};
 ghost use Rattle.bhs_net.specs.Faults.{Lists};
-ghost use Rattle.bhs_net.specs.Filling.{index_of, place_at, AreIndexed, IsFilled, AreFilled, LeadsApart, AllLeadApart};
+ghost use Rattle.bhs_net.specs.Filling.{index_of, place_at, AreIndexed, IsFilled, AreFilled};
+ghost use Rattle.bhs_net.specs.Filling.{IsFirst, LeadsApart, AllLeadApart};
 
 use crate::depth_first_search::NODES;
 use crate::links::Link;
@@ -130,8 +131,37 @@ fn filled_rows(
     Ok(Some(rows))
 }
 
-// Whether no two ports of the row lead to one node.
-fn leads_apart(row: &[End]) -> bool
+// Rows of so many ports are searched for a second way to a node; marks of all nodes cost more to clear than that.
+const FEW: usize = 32;
+
+// Whether an earlier port of the row leads to the node of this one.
+fn leads_again(row: &[End], port: usize) -> bool
+    requires within { port < length row.now }
+    ensures { result ≡ false → IsFirst row.now port }
+{
+    let (node, _) = row[port];
+    for other in 0..port {
+        if row[other].0 == node {
+            return true;
+        }
+    }
+    false
+}
+
+// Whether no two ports of the row lead to one node, by a look at each pair.
+fn pairs_apart(row: &[End]) -> bool
+    ensures { result ≡ true → LeadsApart row.now }
+{
+    for port in 0..row.len() {
+        if leads_again(row, port) {
+            return false;
+        }
+    }
+    true
+}
+
+// Whether no two ports of the row lead to one node, by a mark for each node.
+fn marks_apart(row: &[End]) -> bool
     ensures { result ≡ true → LeadsApart row.now }
 {
     let mut marks = [false; NODES];
@@ -143,6 +173,17 @@ fn leads_apart(row: &[End]) -> bool
         marks[node] = true;
     }
     true
+}
+
+// Whether no two ports of the row lead to one node.
+fn leads_apart(row: &[End]) -> bool
+    ensures { result ≡ true → LeadsApart row.now }
+{
+    if row.len() <= FEW {
+        pairs_apart(row)
+    } else {
+        marks_apart(row)
+    }
 }
 
 fn all_lead_apart(rows: &[Vec<End>]) -> bool
