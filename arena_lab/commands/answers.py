@@ -40,10 +40,10 @@ def answered(
     inside: Optional[AgentWords] = None,
     seconds: float = SECONDS,
 ) -> Answer:
-    """Plays an answer's matches, up to the first in which something is wrong, and then
-    tries every schedule, if the exercise asks for it, for so many seconds in all.
-    Without a program the Python model plays, and searches with the agent `inside` the
-    lab."""
+    """Plays the matches of an exercise up to the first mistake. If there is none, and the
+    exercise asks for it, tries every schedule until `seconds` are over, matches
+    included. Without a program the Python model plays, and the search asks the agent
+    `inside` the lab."""
     until = time.monotonic() + seconds
     record: Optional[Record] = None
     for one in exercise.matches:

@@ -1,5 +1,5 @@
-"""Teaches to write agents step by step. Each exercise has a text, a program to complete,
-and a check that says what is wrong with it.
+"""Teaches to write agents step by step. An exercise has a text and a program to complete,
+and its check says what is wrong.
 
     ./arena-lab exercise                        lists the exercises
     ./arena-lab exercise 1-enter-and-look       writes its files to the folder of this name, and says what to do

@@ -6,8 +6,8 @@ PLAY = "play"
 CHECK = "check"
 EXPLORE = "explore"
 KINDS = (PLAY, CHECK, EXPLORE)
-# what is asked for, the program's files, what is found, what the process said besides,
-# and the match that shows it
+# the files in a trial's folder: the request, the program's files, the findings, the
+# process's own output, and the replay and page of the match that shows the findings
 ASKED = "asked.json"
 FILES = "files"
 FOUND = "found.json"

@@ -51,8 +51,8 @@ def variables() -> Dict[str, str]:
 
 @contextlib.contextmanager
 def temporary_folder() -> Iterator[str]:
-    """A folder for what is temporary, of which nothing is left, whatever ends the
-    worker: place.remove_left."""
+    """A folder for temporary files. If the worker is killed, the hall
+    removes the folder at its next start (place.remove_left)."""
     temporary = tempfile.mkdtemp(prefix=temporary_of(settings.PLACE.folder))
     # programs have users of their own where there are no walls
     os.chmod(temporary, 0o711)

@@ -1,13 +1,13 @@
-"""Builds the Debian package from a clone in a bare Debian, and compares it with the
-one that is made here.
+"""Builds the Debian package of a clone in a bare Debian. It must have the bytes of the
+package that is made here.
 
     sudo python3 -m tests.release.from_clone [--unproved] [--root FOLDER]
 
-Makes a root by `debootstrap`, in FOLDER or in a temporary one, binds the toolchain in,
-and puts the commit of this repository there with the programs that are built here; one
-that is not is built there. `apt-get build-dep` installs the packages of Debian that
-debian/control names. Then `dpkg-buildpackage` runs without a network. It needs root,
-and takes some minutes. The last line reads `N passed, M failed`, and the exit status
+Makes a root by `debootstrap`, in FOLDER or in a temporary one, and binds the toolchain
+into it. Clones this repository's commit there, and copies the programs that are built
+here; the package build makes the others. `apt-get build-dep` installs the packages of
+Debian that debian/control names. Then `dpkg-buildpackage` runs without a network. It
+needs root, and takes some minutes. The last line reads `N passed, M failed`, and the exit status
 is 1 if one failed.
 """
 import argparse

@@ -9,11 +9,10 @@ once in that file.
 
 The edited function is checked against its contract and the contracts of what it calls;
 a line `only: PATH` names another function to check. Edits of different functions are
-tried in one check. An edit of a definition is tried by itself, since other functions may
-rest on the definition, and so is an edit that its own function does not refuse. If that
-much is still proved, or no function is edited, the whole crate is checked. Each edit has
-a line, and the last line reads `N passed, M failed`. The libraries below a crate must be
-built, as tools/build and the gate leave them.
+tried in one check, and an edit that its own function does not refuse there is tried by
+itself. If that much is still proved, or no function is edited, the whole crate is
+checked. Each edit has a line, and the last line reads `N passed, M failed`. The libraries
+below a crate must be built, as tools/build and the gate leave them.
 """
 import concurrent.futures
 import pathlib
@@ -61,11 +60,6 @@ class Edit(NamedTuple):
     name: str
     changes: List[Tuple[str, str, str]]
     function: Optional[str]
-
-    @property
-    def changes_code(self) -> bool:
-        """Whether it changes code alone, and no definition."""
-        return all(file.startswith("src/") for file, _, _ in self.changes)
 
     def change(self, folder: pathlib.Path, texts: Dict[str, str]) -> None:
         """Makes the changes in these texts, which stand in place of files of a
@@ -227,8 +221,7 @@ def first_told(lines: Sequence[str]) -> str:
 def together(
     edits: Sequence[Edit], folder: pathlib.Path
 ) -> Tuple[List[Edit], List[Edit]]:
-    """Edits of the code of different functions that can be made at once, and the
-    others."""
+    """Edits of different functions that can be made at once, and the others."""
     texts: Dict[str, str] = {}
     chosen: List[Edit] = []
     for edit in edits:
@@ -237,8 +230,7 @@ def together(
             edit.change(folder, tried)
         except BadEdit:
             continue
-        names = [it.function for it in chosen]
-        if edit.changes_code and edit.function and edit.function not in names:
+        if edit.function and edit.function not in [it.function for it in chosen]:
             chosen.append(edit)
             texts = tried
     return chosen, [it for it in edits if it not in chosen]

@@ -85,8 +85,9 @@ PARENT = TrialParent()
 
 @contextlib.contextmanager
 def trial_in(folder: pathlib.Path) -> Iterator[Callable[[float], bool]]:
-    """The trial of a folder, which is killed where the block ends. Gives what waits for
-    its end, at most so many seconds, and says whether it has ended."""
+    """Starts the trial of a folder, and kills it when the block ends. Gives a function
+    that waits for the trial's end for at most this many seconds, and says whether the
+    trial has ended."""
     with temporary_folder() as temporary:
         process = PARENT.forked(folder, temporary)
         try:

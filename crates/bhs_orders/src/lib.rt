@@ -1,5 +1,5 @@
 //! What the commands of the program share: why one stops and with which exit status, how texts are printed, how a
-//! tournament is read, and the files of matches. The command `check` is here too; the others have crates of their own.
+//! tournament is read, and the files of matches. `check`, and `recover` of one part, need no more and are here too.
 #![tactic(auto)]
 
 mod laws;

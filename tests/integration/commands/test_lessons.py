@@ -1,5 +1,5 @@
-"""The commands of the lessons do what the page says, in the order in which they stand
-there."""
+"""Runs the commands of the lessons in their order, and compares what they do with the
+page."""
 import os
 import re
 import shlex

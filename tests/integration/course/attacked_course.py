@@ -58,6 +58,9 @@ def first_match(graded: GradingRun) -> PlayedMatch:
 class Course(unittest.TestCase):
     """A course of one team, whose program a test writes."""
 
+    # what the keys of its matches are drawn from
+    SECRET = SECRET
+
     def setUp(self) -> None:
         folder = tempfile.mkdtemp()
         os.chmod(folder, 0o755)
@@ -83,7 +86,7 @@ class Course(unittest.TestCase):
         return GradingRun(
             text,
             self.folder,
-            SECRET,
+            self.SECRET,
             None,
             SandboxOptions(isolation, **sandbox),
             self.folder / "out",
