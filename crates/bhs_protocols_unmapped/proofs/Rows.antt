@@ -1,15 +1,17 @@
 -- A member of the family as a network of a file.
-use Rattle.std.proofs.Common.{ℕ, ◌+◌, ◌-◌, ◌*◌, ◌<◌, ◌≤◌, ◌≡◌, List, []}
-use Rattle.std.proofs.Common.{length, map, get_or, refl, sym, ap, ◌∙◌, subst, if◌then◌else◌, nat_lt, inl, inr, arith}
+use Rattle.std.proofs.Common.{ℕ, zero, suc, ◌+◌, ◌-◌, ◌*◌, ◌<◌, ◌≤◌, ◌≡◌, List, [], length, map, sum_by, get_or}
+use Rattle.std.proofs.Common.{refl, sym, ap, ◌∙◌, subst, if◌then◌else◌, nat_lt, inl, inr, arith}
 use Rattle.std.specs.Prelude.{◌≢◌}
 use Rattle.std.specs.List.{range_with_len}
 use Rattle.std.proofs.Math.ListN.{get_or-eq_default}
 use Rattle.std.proofs.lemmas.Bool.{cond-true, cond-false, lt-ltb, cases_lt}
 use Rattle.std.proofs.lemmas.Bool.Decides.{eqb_tells}
 use Rattle.std.proofs.lemmas.List.FromFn.{get_or-map-range_with_len, length-map-range_with_len}
+use Rattle.std.proofs.lemmas.List.FromFn.{sum_by-map-range_with_len_more}
 use Rattle.bhs_net.specs.declared.faults.TheConstants.{MAX_NODES}
 use Rattle.bhs_net.specs.Links.{End}
 use Rattle.bhs_net.specs.Network.{Network, IsPortLabelled, HasPort, Leads, nodes_of, row_of, degree_of, far_of}
+use Rattle.bhs_net.specs.Network.{ports_of}
 use Rattle.bhs_protocols_unmapped.proofs.Cycle.{Member, IsMember, beside, beside_below, beside_moves, beside_apart}
 use Rattle.bhs_protocols_unmapped.proofs.Cycle.{by_role}
 use Rattle.bhs_protocols_unmapped.proofs.Cycle.{hub_end, slot_at, link_on, spoke_of, leads, leads_on, leads_off}
@@ -62,6 +64,47 @@ pub far_is : (d : ℕ) (member : Member) (node port : ℕ) → node < 2 * d + 2 
 far_is d member node port below has =
     ap (λ (row : List End). get_or row port (0, 0)) (row_is d member node below)
     ∙ get_or-map-range_with_len (leads d member node) 0 (degrees d node) port port (0, 0) has (omega arith)
+
+-- ---- how many ports the nodes have together
+
+ports_below : (d : ℕ) → Member → (nodes : ℕ) → ℕ
+ports_below d member nodes = sum_by length (map (row_in d member) (range_with_len 0 nodes))
+
+one_more : (d : ℕ) (member : Member) (node : ℕ)
+    → ports_below d member (suc node) ≡ ports_below d member node + degrees d node
+unfolding ports_below row_in
+one_more d member node =
+    ap (ports_below d member) (let next : suc node ≡ node + 1 = omega arith in next)
+    ∙ sum_by-map-range_with_len_more length (row_in d member) 0 node node (omega arith)
+    ∙ ap (λ (n : ℕ). ports_below d member node + n) (length-map-range_with_len (leads d member node) 0 (degrees d node))
+
+ports_of_cycle : (d : ℕ) (member : Member) (nodes : ℕ) → nodes ≤ 2 * d → ports_below d member nodes ≡ 3 * nodes
+unfolding ports_below
+ports_of_cycle d member zero most = refl
+ports_of_cycle d member (suc node) most =
+    omega (
+      arith,
+      one_more d member node,
+      ports_of_cycle d member node (omega (arith, most)),
+      degrees_cycle d node (omega (arith, most)),
+    )
+
+-- 3 for each of 2 * d nodes of the cycle, and d for each of the two hubs
+pub ports_are : (d : ℕ) (member : Member) → ports_of (net_of d member) ≡ 2 * (4 * d)
+unfolding net_of ports_below
+ports_are d member =
+    let cycle : ports_below d member (2 * d) ≡ 3 * (2 * d) = ports_of_cycle d member (2 * d) (omega arith) in
+    let all : ports_of (net_of d member) ≡ ports_below d member (suc (suc (2 * d))) =
+    ap (ports_below d member) (let size : 2 * d + 2 ≡ suc (suc (2 * d)) = omega arith in size) in
+    omega (
+      arith,
+      cycle,
+      all,
+      one_more d member (2 * d),
+      one_more d member (suc (2 * d)),
+      degrees_hub d (2 * d) (omega arith) (omega arith),
+      degrees_hub d (suc (2 * d)) (omega arith) (omega arith),
+    )
 
 module _ (d : ℕ) (three : 3 ≤ d) (fits : 2 * d + 2 ≤ MAX_NODES) (member : Member) (is : IsMember d member) where
   abbrev net : Network

@@ -14,17 +14,18 @@ use Rattle.bhs_protocols.specs.Configurations.{Configuration}
 use Rattle.bhs_protocols.specs.LastWord.{SomeoneHasAccused, FindsFor}
 use Rattle.bhs_protocols.specs.Sizes.{Limits, played_on}
 use Rattle.bhs_protocols.proofs.FindsLemmas.{never_accused, solver_finds}
-use Rattle.bhs_protocols_unmapped.specs.Unmapped.{FindsOnNetworks, ManyAgentsAreNeededToFind, ManyAgentsAreNeeded}
+use Rattle.bhs_protocols_unmapped.specs.Unmapped.{FindsWithLinks, ManyAgentsAreNeededToFind, ManyAgentsAreNeeded}
+use Rattle.bhs_protocols_unmapped.specs.Unmapped.{ManyAgentsAreNeededToFindWithLinks, ManyAgentsAreNeededWithLinks}
 use Rattle.bhs_protocols_unmapped.proofs.Cycle.{Member, IsMember, leads}
 use Rattle.bhs_protocols_unmapped.proofs.Alike.{Far, over}
 use Rattle.bhs_protocols_unmapped.proofs.Game as game
 use Rattle.bhs_protocols_unmapped.proofs.Game.{degrees}
 use Rattle.bhs_protocols_unmapped.proofs.Rows.{net_of, size, degree_is, far_is, degrees_cycle, degrees_hub}
-use Rattle.bhs_protocols_unmapped.proofs.Rows.{degrees_beyond}
+use Rattle.bhs_protocols_unmapped.proofs.Rows.{degrees_beyond, ports_are}
 use Rattle.bhs_protocols_unmapped.proofs.Joined.{is_network}
 
 module _ (d : ℕ) (three : 3 ≤ d) (fits : 2 * d + 2 ≤ MAX_NODES) (terms : Limits) (strategies : Strategies)
-    (few : terms.agents ≤ d) (finds : FindsOnNetworks (2 * d + 2) d terms strategies) where
+    (few : terms.agents ≤ d) (finds : FindsWithLinks (2 * d + 2) d (4 * d) terms strategies) where
   abbrev far : Member → Far
   far member = far_of (net_of d member)
 
@@ -67,7 +68,7 @@ module _ (d : ℕ) (three : 3 ≤ d) (fits : 2 * d + 2 ≤ MAX_NODES) (terms : L
         most = λ node. subst (λ (n : ℕ). n ≤ d) (sym (degree_is d member node)) (few_links member node);
         attained = (2 * d, degree_is d member (2 * d) ∙ degrees_hub d (2 * d) (omega arith) (omega arith));
       })
-      (omega arith) within (λ same. omega (arith, same, not_home)))
+      (ports_are d member) (omega arith) within (λ same. omega (arith, same, not_home)))
 
   -- where the safe hub was not reached, nobody has accused: it can be the black hole too
   silent : (count : ℕ) (member : Member) (schedule : List ℕ) → State count member schedule
@@ -99,14 +100,26 @@ module _ (d : ℕ) (three : 3 ≤ d) (fits : 2 * d + 2 ≤ MAX_NODES) (terms : L
   impossible = lost_all (terms.agents + 1) 0 game.first_member [] (omega arith)
       (game.first_state d three terms strategies few far cycle_far)
 
-pub many_agents_are_needed_to_find : ManyAgentsAreNeededToFind
-many_agents_are_needed_to_find degree terms strategies three fits few finds =
+pub many_agents_are_needed_to_find_with_links : ManyAgentsAreNeededToFindWithLinks
+many_agents_are_needed_to_find_with_links degree terms strategies three fits few finds =
     impossible degree three fits terms strategies few finds
 
 -- who solves finds
+pub many_agents_are_needed_with_links : ManyAgentsAreNeededWithLinks
+many_agents_are_needed_with_links degree terms strategies three fits few solves =
+    impossible degree three fits terms strategies few
+    (λ net home hole is nodes degrees_are links_are home_within hole_within apart.
+    solver_finds (played_on (network_of net) terms strategies home hole).world none_held terms.wakeups strategies hole
+    (solves net home hole is nodes degrees_are links_are home_within hole_within apart))
+
+-- who finds or solves without the number of links does so with it
+
+pub many_agents_are_needed_to_find : ManyAgentsAreNeededToFind
+many_agents_are_needed_to_find degree terms strategies three fits few finds =
+    many_agents_are_needed_to_find_with_links degree terms strategies three fits few
+    (λ net home hole is nodes degrees_are links_are. finds net home hole is nodes degrees_are)
+
 pub many_agents_are_needed : ManyAgentsAreNeeded
 many_agents_are_needed degree terms strategies three fits few solves =
-    impossible degree three fits terms strategies few
-    (λ net home hole is nodes degrees_are home_within hole_within apart.
-    solver_finds (played_on (network_of net) terms strategies home hole).world none_held terms.wakeups strategies hole
-    (solves net home hole is nodes degrees_are home_within hole_within apart))
+    many_agents_are_needed_with_links degree terms strategies three fits few
+    (λ net home hole is nodes degrees_are links_are. solves net home hole is nodes degrees_are)

@@ -1,7 +1,7 @@
 -- How many agents a search without a map needs: more than any node has links.
 use Rattle.std.specs.Prelude.{ℕ, ◌+◌, ◌*◌, ◌≡◌, ◌≢◌, ◌<◌, ◌≤◌}
 use Rattle.bhs_net.specs.declared.faults.TheConstants.{MAX_NODES}
-use Rattle.bhs_net.specs.Network.{Network, IsNetwork, nodes_of, degree_of}
+use Rattle.bhs_net.specs.Network.{Network, IsNetwork, nodes_of, degree_of, ports_of}
 use Rattle.bhs_model.specs.Setups.{network_of}
 use Rattle.bhs_schedules.specs.Strategies.{Strategies}
 use Rattle.bhs_protocols.specs.Programs.{strategies_by}
@@ -28,8 +28,35 @@ FindsOnNetworks n degree terms strategies = (net : Network) (home hole : ℕ) �
     → HasGreatestDegree net degree → home < n → hole < n → hole ≢ home
     → FindsFor (played_on (network_of net) terms strategies home hole) hole
 
--- Take a degree of 3 or more, and 2 * degree + 2 nodes, if a file can have this number. No team of at most as many
--- agents as the degree finds the black hole on all networks of this size and greatest degree.
+-- a team solves each of them that has this number of links, so the team may be told the number (each link has two
+-- ports)
+abbrev pub SolvesWithLinks : (n degree links : ℕ) → Limits → Strategies → Type 0
+SolvesWithLinks n degree links terms strategies = (net : Network) (home hole : ℕ) → IsNetwork net → nodes_of net ≡ n
+    → HasGreatestDegree net degree → ports_of net ≡ 2 * links → home < n → hole < n → hole ≢ home
+    → SolvesFor (played_on (network_of net) terms strategies home hole)
+
+-- a team finds the black hole on each network with this number of links
+abbrev pub FindsWithLinks : (n degree links : ℕ) → Limits → Strategies → Type 0
+FindsWithLinks n degree links terms strategies = (net : Network) (home hole : ℕ) → IsNetwork net → nodes_of net ≡ n
+    → HasGreatestDegree net degree → ports_of net ≡ 2 * links → home < n → hole < n → hole ≢ home
+    → FindsFor (played_on (network_of net) terms strategies home hole) hole
+
+-- Take a degree of 3 or more, 2 * degree + 2 nodes, if a file can have this number, and 4 * degree links. No team of at
+-- most as many agents as the degree finds the black hole on all networks of this size, greatest degree and number of
+-- links.
+abbrev pub ManyAgentsAreNeededToFindWithLinks : Type 0
+ManyAgentsAreNeededToFindWithLinks = (degree : ℕ) (terms : Limits) (strategies : Strategies) → 3 ≤ degree
+    → 2 * degree + 2 ≤ MAX_NODES → terms.agents ≤ degree
+    → FindsWithLinks (2 * degree + 2) degree (4 * degree) terms strategies → ⊥
+
+-- So no such team solves them all.
+abbrev pub ManyAgentsAreNeededWithLinks : Type 0
+ManyAgentsAreNeededWithLinks = (degree : ℕ) (terms : Limits) (strategies : Strategies) → 3 ≤ degree
+    → 2 * degree + 2 ≤ MAX_NODES → terms.agents ≤ degree
+    → SolvesWithLinks (2 * degree + 2) degree (4 * degree) terms strategies → ⊥
+
+-- The same without the number of links: no team of at most as many agents as the degree finds the black hole on all
+-- networks of this size and greatest degree.
 abbrev pub ManyAgentsAreNeededToFind : Type 0
 ManyAgentsAreNeededToFind = (degree : ℕ) (terms : Limits) (strategies : Strategies) → 3 ≤ degree
     → 2 * degree + 2 ≤ MAX_NODES → terms.agents ≤ degree
