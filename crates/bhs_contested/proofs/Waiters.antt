@@ -20,6 +20,7 @@ use Rattle.bhs_protocols.specs.declared.shuttle.Memory.{Memory as ShuttleMemory}
 use Rattle.bhs_protocols.specs.declared.shuttle.Phase.{Phase as ShuttlePhase}
 use Rattle.bhs_protocols.specs.declared.shuttle.Phase.TheVariants as ways
 use Rattle.bhs_protocols.specs.Programs.{held_after, strategies_by}
+use Rattle.bhs_protocols_charts.specs.Charting.{charters}
 use Rattle.bhs_protocols_mapped.specs.Exploring as exploring
 use Rattle.bhs_protocols_mapped.specs.Exploring.{explorers}
 use Rattle.bhs_protocols_mapped.specs.Exploring.{Memory as ExplorerMemory, Phase as ExplorerPhase}
@@ -156,11 +157,15 @@ pub explorers_wait : (n : ℕ) (guide : Guide) (agent : ℕ) → WaitsOnLinks (s
 explorers_wait n guide agent history port is =
     let m : ExplorerMemory = held_after (explorers n guide) agent history in waits_explorer n guide m m.phase port is
 
+pub charters_wait : (n : ℕ) (tells : ℕ → ℕ) (agent : ℕ) → WaitsOnLinks (strategies_by (charters n tells) agent)
+charters_wait n tells agent history port is = refl
+
 pub programs_wait : ProgramsWait
 programs_wait = record {
   halves_wait = halves_wait;
   shuttles_wait = shuttles_wait;
   explorers_wait = explorers_wait;
+  charters_wait = charters_wait;
   modules_wait = λ program arguments fuel history port is.
       let m = memory_after program arguments fuel history in
       waits_module program fuel m.status m.state port is;

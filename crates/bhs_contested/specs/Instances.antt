@@ -1,6 +1,7 @@
--- Contests of teams that are known to solve: by halves, by the shuttle, and with a map.
-use Rattle.std.specs.Prelude.{ℕ, ◌+◌, ◌-◌, ◌*◌, ◌<◌, ◌≤◌, ◌≡◌, List}
-use Rattle.bhs_net.specs.Network.{Network, IsNetwork, nodes_of}
+-- Contests of teams that are known to solve: by halves, by the shuttle, with a map, and by a chart.
+use Rattle.std.specs.Prelude.{ℕ, ◌+◌, ◌-◌, ◌*◌, ◌<◌, ◌≤◌, ◌≡◌, List, [], ◌∷◌}
+use Rattle.bhs_net.specs.Network.{Network, IsNetwork, nodes_of, degree_of}
+use Rattle.bhs_model.specs.declared.setups.Setup.{Setup}
 use Rattle.bhs_model.specs.Setups.{network_of}
 use Rattle.bhs_model.specs.Examples.{none_held}
 use Rattle.bhs_match.specs.Decided.{AreAllDone}
@@ -12,9 +13,13 @@ use Rattle.bhs_protocols.specs.Halves.{halves}
 use Rattle.bhs_protocols.specs.Shuttle.{shuttle}
 use Rattle.bhs_protocols.specs.Halving.{most_commands, most_moves}
 use Rattle.bhs_protocols.specs.Programs.{strategies_by}
+use Rattle.bhs_protocols.specs.Sizes.{Limits}
+use Rattle.bhs_protocols_charts.specs.Charting.{charters}
+use Rattle.bhs_protocols_charts.specs.ChartLaws.{CanSearch, chart_moves}
 use Rattle.bhs_protocols_mapped.specs.Exploring.{explorers}
 use Rattle.bhs_protocols_mapped.specs.Guides.{Guide, IsGuide}
 use Rattle.bhs_protocols_mapped.specs.MapLaws.{IsSetAt}
+use Rattle.bhs_protocols_unmapped.specs.Degrees.{ports_beside}
 use Rattle.bhs_wasm.specs.Contents.{Contents}
 use Rattle.bhs_wasm_team.specs.Agents.{strategy_of}
 use Rattle.bhs_theorems.specs.ContestMet.{Attended}
@@ -25,6 +30,7 @@ pub record ProgramsWait : Type 0 where
   pub halves_wait : (n agent : ℕ) → WaitsOnLinks (strategies_by (halves n) agent)
   pub shuttles_wait : (n agent : ℕ) → WaitsOnLinks (strategies_by (shuttle n) agent)
   pub explorers_wait : (n : ℕ) (guide : Guide) (agent : ℕ) → WaitsOnLinks (strategies_by (explorers n guide) agent)
+  pub charters_wait : (n : ℕ) (tells : ℕ → ℕ) (agent : ℕ) → WaitsOnLinks (strategies_by (charters n tells) agent)
   pub modules_wait : (program : Contents) (arguments : List ℕ) (fuel : ℕ)
       → WaitsOnLinks (strategy_of program arguments fuel)
 
@@ -65,3 +71,21 @@ pub record IsSearchedInContests (net : Network) (home : ℕ) : Type 0 where
 -- So it is on each network of a file, from each home base. The guide is chosen by both alone.
 abbrev pub MapsSolveContests : Type 0
 MapsSolveContests = (net : Network) (home : ℕ) → IsNetwork net → home < nodes_of net → IsSearchedInContests net home
+
+-- the limits of a match, where a sleeper may wake so often although nothing has changed
+abbrev pub limits_of : Setup → (wakeups : ℕ) → Limits
+limits_of setup wakeups =
+    record { agents = setup.agents; quota = setup.quota; board = setup.board; wakeups = wakeups }
+
+-- Take a network in a contest, with one black hole and no dark link, and agents that draw a chart, as in the theorem on
+-- them. If it settled, all its agents have ended or are lost, and each was played by a client that draws the chart,
+-- then it is solved within the moves of that theorem, and at most as many agents are lost as the black hole has links.
+abbrev pub ChartersSolveContests : Type 0
+ChartersSolveContests = (play : Play) (tells : ℕ → ℕ) (hole wakeups : ℕ) (clients : (agent : ℕ) → Attended)
+    → play.setup.holes ≡ hole ∷ [] → play.setup.dark ≡ []
+    → CanSearch play.net (limits_of play.setup wakeups) tells play.setup.home hole
+    → ((agent : ℕ) → agent < play.setup.agents
+    → IsPlayedIn play wakeups (strategies_by (charters (nodes_of play.net) tells)) agent (clients agent))
+    → IsPlainMatch none_held play → AreAllDone play
+    → IsSolvedWithin (chart_moves (nodes_of play.net) (ports_beside play.net hole) play.setup.agents)
+    (degree_of play.net hole) (verdict_of play)

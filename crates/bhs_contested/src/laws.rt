@@ -3,8 +3,8 @@
 ghost use Rattle.bhs_contested.specs.Contests.{ContestsAreNeverWrong, ContestsAreSolved, ContestsStayWithin};
 ghost use Rattle.bhs_contested.specs.Contests.{WaitersAreOrderly};
 ghost use Rattle.bhs_contested.specs.Example.{ItIsSolved, TheLawSpeaksOfIt};
-ghost use Rattle.bhs_contested.specs.Instances.{HalvesSolveContests, MapsSolveContests, ProgramsWait};
-ghost use Rattle.bhs_contested.specs.Instances.{ShuttleSolvesContests};
+ghost use Rattle.bhs_contested.specs.Instances.{ChartersSolveContests, HalvesSolveContests, MapsSolveContests};
+ghost use Rattle.bhs_contested.specs.Instances.{ProgramsWait, ShuttleSolvesContests};
 ghost use Rattle.bhs_contested.specs.ModuleContests.{ModulesAreNeverWrong, ModulesSolveContests};
 
 /// Let every schedule solve a match for the strategies of its agents, and a contest give this match back settled, where
@@ -22,7 +22,8 @@ pub fn waiters_are_orderly()
     ensures { WaitersAreOrderly }
 {}
 
-/// Agents that search by halves or by the shuttle, follow a guide, or run a module wait once they have departed.
+/// Agents that search by halves or by the shuttle, follow a guide, draw a chart, or run a module wait once they have
+/// departed.
 pub fn programs_wait()
     ensures { ProgramsWait }
 {}
@@ -42,6 +43,12 @@ pub fn the_shuttle_solves_contests()
 /// moves, one agent lost.
 pub fn maps_solve_contests()
     ensures { MapsSolveContests }
+{}
+
+/// Clients that draw a chart of a network of a file, more than the black hole has links, solve it in a contest, within
+/// 2 (n - 1) s + a (n - 2) moves, as many agents lost as the black hole has links.
+pub fn charters_solve_contests()
+    ensures { ChartersSolveContests }
 {}
 
 /// What `arena explore --module` told that every schedule solves, a settled contest solves within the moves and lost

@@ -1,0 +1,15 @@
+-- How agents can tell how many links the black hole has, by how many ports the other nodes have together: a link has
+-- two.
+use Rattle.std.specs.Prelude.{ℕ, ◌+◌, ◌-◌, ◌*◌, ◌%◌}
+
+-- who is told how many links the network has
+abbrev pub by_links : (links ports : ℕ) → ℕ
+by_links links ports = 2 * links - ports
+
+-- who is told that no node has more than three: the black hole has two or three
+abbrev pub by_parity : (ports : ℕ) → ℕ
+by_parity ports = 2 + ports % 2
+
+-- who is told that all nodes have this number
+abbrev pub by_degree : (degree ports : ℕ) → ℕ
+by_degree degree ports = degree
