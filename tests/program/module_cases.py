@@ -1,13 +1,13 @@
 """Cases of `arena explore --module`: a search that solves, agents that fail, and each
 instruction on integers as node's own WebAssembly has it."""
 import hashlib
-import itertools
 import shutil
 import subprocess
 import sys
 import unittest
 from typing import Dict, List, Sequence
 
+from arena_lab.rules.networks import complete, ring
 from tests.program.program_cases import (
     CRAMPED,
     CUP,
@@ -17,7 +17,7 @@ from tests.program.program_cases import (
     case,
     writes,
 )
-from tests.program.unmapped_networks import explored
+from tests.program.unmapped_networks import Search, explored, fault_in, searches_of
 from tests.support.counts import require, wants
 from tests.support.program_rows import DONE, REFUSED_TEXT, Stage, Wrong, expect
 from tests.support.servers import Run
@@ -276,12 +276,26 @@ def for_each(stage: Stage) -> None:
             raise Wrong(f"{first}, {second}: {ran.status}: {printed} {ran.told!r}")
 
 
-@case("agents that know the number of links solve a triangle without a map")
+@case(
+    "one agent more than the black hole has links solves small networks without a map"
+)
 def unmapped(stage: Stage) -> None:
-    for home, hole in itertools.permutations(range(3), 2):
-        for links in (3, 0):
-            found = explored(stage.program, NETWORK, home, hole, links)
-            wants(f"what is found of {home}, {hole}, {links}", found, "solves")
+    few = [Search(ring(4), 0, 2, links) for links in (4, 0)]
+    few += [Search(complete(4), 0, 3, links) for links in (6, 0)]
+    for search in [*searches_of(NETWORK), *few]:
+        found = explored(stage.program, search, search.degree + 1, search.board)
+        wants(f"what is wrong with {search}", fault_in(search, found), "")
+
+
+@case("as many agents as the black hole has links fail, or trap on less whiteboard")
+def too_little(stage: Stage) -> None:
+    search = Search(NETWORK, 0, 1, 3)
+    for agents, board, found in (
+        (search.degree, search.board, "fails"),
+        (search.degree + 1, search.board - 1, "breaks"),
+    ):
+        came = explored(stage.program, search, agents, board)
+        wants(f"what is found of {agents}, {board}", came["found"], found)
 
 
 @case("agents whose memory grows are explored until memory runs out, and no longer")

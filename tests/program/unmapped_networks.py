@@ -1,13 +1,21 @@
-"""Explores the search without a map, examples/agents/wasm/chart.wasm, on all small
-networks, from each home base and with each black hole: every schedule must solve it.
+"""Explores the search without a map, examples/agents/wasm/chart.wasm, on small networks,
+from each home base and with each black hole.
 
     python3 -m tests.program.unmapped_networks PROGRAM [NODES ..]
 
-NODES are the sizes of the networks, 3 and 4 unless they are given. A seed numbers the
-ports. There is one agent more than the black hole has links. The agents know the numbers
-of nodes and links; where no node has more than three links, they play once more, and
-know the number of nodes alone. The last line reads `N passed, M failed`, and the exit
-status is 1 if one failed.
+NODES are the sizes of the networks, 3, 4 and 5 unless they are given. All networks of 3
+and 4 nodes are explored. Larger ones have many states: those are left out in which a
+node has more than three links, and of the others each third match is explored. A seed
+numbers the ports.
+
+There is one agent more than the black hole has links, and the whiteboards are the least.
+The agents know the numbers of nodes and links; where no node has more than three links,
+they play once more, and know the number of nodes alone. Every schedule must solve the
+match, with no more lost agents than the black hole has links, and with no more moves
+than 2 (n - 1) S + A (n - 2), for n nodes, S ports of nodes but the black hole, and A
+agents. With one agent less some match of each size up to 4 must fail.
+
+The last line reads `N passed, M failed`, and the exit status is 1 if one failed.
 """
 import itertools
 import json
@@ -16,7 +24,7 @@ import random
 import subprocess
 import sys
 import tempfile
-from typing import Iterator, List
+from typing import Any, Dict, Iterator, List, NamedTuple
 
 from arena_lab.rules.networks import Network
 from tests.support.counts import concluded
@@ -29,6 +37,39 @@ QUOTA = 65_535
 STATES = 10_000_000
 # no node of a cubic network has more links
 CUBIC = 3
+# of networks with more nodes the cubic ones are explored, one match after each of this
+# many, and never with an agent less
+SMALL = 4
+STRIDE = 3
+
+
+class Search(NamedTuple):
+    """A match: its network, home base and black hole, and how many links the agents are
+    told, 0 if they know the number of nodes alone."""
+
+    network: Network
+    home: int
+    hole: int
+    links: int
+
+    @property
+    def degree(self) -> int:
+        """How many links the black hole has."""
+        return self.network.degrees()[self.hole]
+
+    @property
+    def ends(self) -> int:
+        """How many ports the other nodes have."""
+        return 2 * len(self.network.links) - self.degree
+
+    @property
+    def board(self) -> int:
+        """The bytes of a whole chart: six for each row, and one for each port."""
+        return 6 * (self.network.nodes - 1) + self.ends
+
+    def most_moves(self, agents: int) -> int:
+        nodes = self.network.nodes
+        return 2 * (nodes - 1) * self.ends + agents * (nodes - 2)
 
 
 def networks_of(nodes: int) -> Iterator[Network]:
@@ -46,52 +87,82 @@ def networks_of(nodes: int) -> Iterator[Network]:
             yield Network(nodes, links)
 
 
-def least_board(network: Network) -> int:
-    """The bytes of a whole chart: six for each row, and one for each end of a link."""
-    return 6 * (network.nodes - 1) + 2 * len(network.links)
+def searches_of(network: Network) -> Iterator[Search]:
+    """The matches on a network."""
+    links = len(network.links)
+    told = [links, 0] if max(network.degrees()) <= CUBIC else [links]
+    for home, hole in itertools.permutations(range(network.nodes), 2):
+        for known in told:
+            yield Search(network, home, hole, known)
 
 
-def explored(program: str, network: Network, home: int, hole: int, links: int) -> str:
-    """What `explore` finds of agents that are told this number of links."""
-    agents = network.degrees()[hole] + 1
-    board = least_board(network)
-    given = match("red", network, [hole], agents, home=home, quota=QUOTA, board=board)
+def explored(program: str, search: Search, agents: int, board: int) -> Dict[str, Any]:
+    """What `explore` finds of this many agents, with whiteboards of this size; nothing
+    if there are too many states."""
+    words = ["--spurious-wakeups", "0", "--max-states", str(STATES)]
+    words += ["--module", f"{CHART}:{search.network.nodes},{search.links}"]
+    limits = {"home": search.home, "quota": QUOTA, "board": board}
+    given = match("red", search.network, [search.hole], agents, **limits)
     with tempfile.TemporaryDirectory(prefix="unmapped-") as folder:
         write_cup(pathlib.Path(folder), [given])
-        module = f"{CHART}:{network.nodes},{links}"
-        words = ["--spurious-wakeups", "0", "--max-states", str(STATES)]
         ran = subprocess.run(
-            [program, "explore", "cup.toml", "0", *words, "--module", module],
+            [program, "explore", "cup.toml", "0", *words],
             cwd=folder,
             capture_output=True,
             text=True,
         )
-    return str(json.loads(ran.stdout.splitlines()[0])["found"]) if ran.stdout else ""
+    found: Dict[str, Any] = json.loads(ran.stdout.splitlines()[0]) if ran.stdout else {}
+    return found
 
 
-def known_links(network: Network) -> List[int]:
-    """What the agents are told of the number of links: it, and nothing if that is
-    enough."""
-    links = len(network.links)
-    return [links, 0] if max(network.degrees()) <= CUBIC else [links]
+def fault_in(search: Search, found: Dict[str, Any]) -> str:
+    """What is wrong with what was found of agents enough: not every schedule solves the
+    match, or not within the bounds."""
+    if found.get("found") != "solves":
+        return str(found or "too many states")
+    most = search.most_moves(search.degree + 1)
+    is_within = found["lost"] <= search.degree and found["moves"] <= most
+    return "" if is_within else f"{found}, and the most moves are to be {most}"
+
+
+def tried(nodes: int) -> List[Search]:
+    """The matches on networks of this size that are explored."""
+    if nodes <= SMALL:
+        return [it for network in networks_of(nodes) for it in searches_of(network)]
+    cubic = [it for it in networks_of(nodes) if max(it.degrees()) <= CUBIC]
+    return [it for network in cubic for it in searches_of(network)][::STRIDE]
+
+
+def is_solved(program: str, search: Search) -> bool:
+    """Whether agents enough solve a match as they should; a line says so if not."""
+    found = explored(program, search, search.degree + 1, search.board)
+    fault = fault_in(search, found)
+    if fault:
+        print(f"FAILED {search}: {fault}", flush=True)
+    return not fault
+
+
+def fails(program: str, search: Search) -> bool:
+    """Whether one agent less fails under some schedule."""
+    found = explored(program, search, search.degree, search.board)
+    return bool(found.get("found") == "fails")
 
 
 def main() -> int:
     if len(sys.argv) < 2 or sys.argv[1] in ("-h", "--help"):
         sys.exit((__doc__ or "").strip())
     program = str(pathlib.Path(sys.argv[1]).resolve())
-    passed = failed = 0
-    for nodes in map(int, sys.argv[2:] or ("3", "4")):
-        for network in networks_of(nodes):
-            for home, hole in itertools.permutations(range(nodes), 2):
-                for links in known_links(network):
-                    found = explored(program, network, home, hole, links)
-                    passed += found == "solves"
-                    failed += found != "solves"
-                    if found != "solves":
-                        told = f"{network.links}, home {home}, hole {hole}"
-                        print(f"FAILED {told}, told {links}: {found}", flush=True)
-    return concluded(passed, failed)
+    solved = []
+    for nodes in map(int, sys.argv[2:] or ("3", "4", "5")):
+        searches = tried(nodes)
+        solved += [is_solved(program, search) for search in searches]
+        if nodes <= SMALL:
+            failing = sum(fails(program, search) for search in searches)
+            print(
+                f"{failing} of {len(searches)} fail with an agent less: {nodes} nodes"
+            )
+            solved.append(failing > 0)
+    return concluded(sum(solved), len(solved) - sum(solved))
 
 
 if __name__ == "__main__":

@@ -1,16 +1,21 @@
 /* Searches a network without a map. The module's arguments are the numbers of its nodes and of its links, or 0 links if
- * no node has more than three. One agent more than the black hole has links solves it.
+ * no node has more than three. One agent more than the black hole has links solves it. It is the search of ../chart.py,
+ * command for command.
  *
  * All agents are alike. They share a chart on the home base's whiteboard: a row for each node that is known, with the
- * row and the port by which it was found, and for each of its ports whether it is free, claimed or done. An agent claims
- * a free port, goes through it, and writes on an empty whiteboard there how the node was found; then it comes back, and
- * notes in the chart that the port is done, and the node if it is new. Whoever claimed a port to the black hole does not
- * come back. Once all other nodes are known, so is how many of the ports lead to the black hole. Once no others are
- * left, each of them is a right one to accuse. Meanwhile agents that find no port free sleep.
+ * row and the port by which it was found, and for each of its ports whether it is free, claimed or done. An agent
+ * claims a free port, goes through it, and writes on an empty whiteboard there how the node was found; then it comes
+ * back, and notes in the chart that the port is done, and the node if it is new. Whoever claimed a port to the black
+ * hole does not come back. Once all other nodes are known, so is how many of the ports lead to the black hole. Once no
+ * others are left, each of them is a right one to accuse. Meanwhile agents that find no port free sleep.
+ *
+ * The whiteboard of the home base needs six bytes for each node but the black hole, and one for each port of these. An
+ * agent traps if it has fewer, and on networks of more than 24 nodes, or with a node of more than 23 ports.
  */
 #include "arena.h"
 
-enum { NODES = 24, PORTS = 24, TEXT = 512, NAME = 4, HEAD = 6, FREE = 0, CLAIMED = 1, DONE = 2 };
+enum { NODES = 24, PORTS = NODES - 1, NAME = 4, HEAD = 6, TEXT = NODES * (HEAD + PORTS) };
+enum { FREE = 0, CLAIMED = 1, DONE = 2 };
 
 /* a node: the row and the port by which it was found, how many ports it has, and how these stand */
 struct row {
@@ -18,12 +23,14 @@ struct row {
     char state[PORTS];
 };
 
+/* what an agent knows while it is at the home base; cleared when it sets out or sleeps, so that it tells no states
+ * apart */
 static struct row chart[NODES];
 static int rows;
 /* what a whiteboard shows and what is written there */
 static char shown[TEXT], put[TEXT];
 /* the ports of a way from the home base, and those of the way back */
-static int ahead[NODES + 1], behind[NODES + 1];
+static int ahead[NODES], behind[NODES];
 
 static char *put_number(char *to, int number)
 {
@@ -43,17 +50,31 @@ static void clear(void *from, int size)
         *at++ = 0;
 }
 
-/* Takes the chart that the home base shows; if it shows none, its own row is all that is known. */
+static void forget(void)
+{
+    clear(chart, sizeof chart);
+    clear(shown, sizeof shown);
+    rows = 0;
+}
+
+/* Adds a node to the chart, all of whose ports are free. */
+static struct row *add(int father, int port, int degree)
+{
+    if (rows == NODES || degree > PORTS)
+        __builtin_trap();
+    chart[rows] = (struct row){father, port, degree, {FREE}};
+    return &chart[rows++];
+}
+
+/* Takes the chart that the home base shows; if it shows none, the home base alone is known. */
 static void read_chart(int length, int ports)
 {
     clear(chart, sizeof chart);
-    rows = length == 0;
-    chart[0].degree = ports;
-    for (const char *at = shown; at < shown + length; rows++) {
-        struct row *row = &chart[rows];
-        row->father = number_at(at);
-        row->port = number_at(at + 2);
-        row->degree = number_at(at + 4);
+    rows = 0;
+    if (length == 0)
+        add(0, 0, ports);
+    for (const char *at = shown; at < shown + length;) {
+        struct row *row = add(number_at(at), number_at(at + 2), number_at(at + NAME));
         for (int port = 0; port < row->degree; port++)
             row->state[port] = (char)(at[HEAD + port] - ' ');
         at += HEAD + row->degree;
@@ -70,6 +91,8 @@ static int write_chart(int length)
             *end++ = (char)(' ' + row->state[port]);
     }
     int reply = arena_write(shown, length, put, (int)(end - put));
+    if (reply < 0 && reply != ARENA_SPENT)
+        __builtin_trap();
     for (int at = 0; reply == ARENA_WRITTEN && at < TEXT; at++)
         shown[at] = put[at];
     clear(put, sizeof put);
@@ -85,27 +108,27 @@ static int length_of_chart(void)
     return length;
 }
 
-/* Finds the first port that is not done, or the first that is free; answers how many there are. */
-static int find(int is_free, int *row, int *port)
+/* The first port whose state is below this one: its row times PORTS, and its number; -1 if there is none. */
+static int first(int below)
 {
-    int count = 0;
-    for (int r = rows - 1; r >= 0; r--)
-        for (int p = chart[r].degree - 1; p >= 0; p--)
-            if (is_free ? chart[r].state[p] == FREE : chart[r].state[p] != DONE) {
-                *row = r;
-                *port = p;
-                count++;
-            }
-    return count;
+    for (int place = 0; place < rows * PORTS; place++) {
+        const struct row *row = &chart[place / PORTS];
+        if (place % PORTS < row->degree && row->state[place % PORTS] < below)
+            return place;
+    }
+    return -1;
 }
 
 /* Whether the ports that are not done are those that lead to the black hole. */
 static int is_known(int nodes, int links)
 {
-    int row, port, ends = 0;
-    for (int r = 0; r < rows; r++)
-        ends += chart[r].degree;
-    return rows == nodes - 1 && find(0, &row, &port) == (links ? 2 * links - ends : 2 + ends % 2);
+    int ends = 0, left = 0;
+    for (const struct row *row = chart; row < chart + rows; row++) {
+        ends += row->degree;
+        for (int port = 0; port < row->degree; port++)
+            left += row->state[port] < DONE;
+    }
+    return rows == nodes - 1 && left == (links ? 2 * links - ends : 2 + ends % 2);
 }
 
 /* The way from the home base to the node of a row; answers how many ports it has. */
@@ -141,41 +164,70 @@ static int name(int row, int port)
     return arena_write("", 0, shown, NAME) == ARENA_CHANGED ? arena_board(shown, TEXT) : NAME;
 }
 
-/* Explores the port that this agent has claimed. Answers whether it came back and noted what it found. */
-static int explore(int row, int port)
+/* Notes in the chart that the port at a place is done, and the node behind it if that is new. The home base, where the
+ * degree is 0, is not. */
+static int note(int place, int father, int port, int degree)
 {
-    int count = way_to(row), ports = chart[0].degree;
-    ahead[count++] = port;
+    int length = arena_board(shown, TEXT), is_new = degree > 0;
+    read_chart(length, 0);
+    chart[place / PORTS].state[place % PORTS] = DONE;
+    for (int row = 1; row < rows; row++)
+        is_new &= chart[row].father != father || chart[row].port != port;
+    if (is_new)
+        add(father, port, degree);
+    return write_chart(length);
+}
+
+/* Explores the port at a place, which this agent has claimed. Answers whether it came back and noted what it found. */
+static int explore(int place)
+{
+    int count = way_to(place / PORTS);
+    ahead[count++] = place % PORTS;
+    forget();
     if (!go(count))
         return 0;
-    int degree = arena_ports(), is_node = name(row, port) == NAME;
-    int father = is_node ? number_at(shown) : 0, by = is_node ? number_at(shown + 2) : 0;
+    int degree = arena_ports();
+    if (name(place / PORTS, place % PORTS) != NAME)
+        degree = 0;
+    int father = degree ? number_at(shown) : 0, port = degree ? number_at(shown + 2) : 0;
+    forget();
     while (count > 0)
         if (arena_depart(behind[--count]) != ARENA_HERE)
             return 0;
-    int reply;
-    do {
-        int length = arena_board(shown, TEXT), is_new = is_node;
-        read_chart(length, ports);
-        chart[row].state[port] = DONE;
-        for (int r = 1; r < rows; r++)
-            is_new &= chart[r].father != father || chart[r].port != by;
-        if (is_new)
-            chart[rows++] = (struct row){father, by, degree, {0}};
-        reply = write_chart(length);
-    } while (reply == ARENA_CHANGED);
     clear(ahead, sizeof ahead);
     clear(behind, sizeof behind);
+    int reply;
+    do
+        reply = note(place, father, port, degree);
+    while (reply == ARENA_CHANGED);
     return reply == ARENA_WRITTEN;
 }
 
-/* Goes to a port that is not done and accuses it. */
+/* Goes to the first port that is not done and accuses it. */
 static void accuse(void)
 {
-    int row = 0, port = 0;
-    find(0, &row, &port);
-    if (go(way_to(row)))
-        arena_accuse(port);
+    int place = first(DONE), count = way_to(place / PORTS);
+    forget();
+    if (!go(count) || arena_accuse(place % PORTS) != ARENA_NOTED)
+        arena_leave();
+}
+
+/* Claims the port at a place and explores it, or reads what another has written first. Answers the length of the chart
+ * that is shown, or less than 0. */
+static int claim(int place, int length)
+{
+    chart[place / PORTS].state[place % PORTS] = CLAIMED;
+    int reply = write_chart(length);
+    if (reply == ARENA_CHANGED)
+        return arena_board(shown, TEXT);
+    return reply == ARENA_WRITTEN && explore(place) ? length_of_chart() : -1;
+}
+
+/* Sleeps until the whiteboard changes. Answers the length of the chart that it shows then, or less than 0. */
+static int await_change(void)
+{
+    forget();
+    return arena_sleep() == ARENA_WOKE && arena_look() == ARENA_HERE ? arena_board(shown, TEXT) : -1;
 }
 
 ARENA_RUN
@@ -184,26 +236,14 @@ ARENA_RUN
     if (arena_enter() != ARENA_HERE)
         return;
     int ports = arena_ports(), length = arena_board(shown, TEXT);
-    for (;;) {
-        int row, port;
+    while (length >= 0) {
         read_chart(length, ports);
         if (is_known(nodes, links)) {
             accuse();
             return;
         }
-        if (find(1, &row, &port)) {
-            chart[row].state[port] = CLAIMED;
-            int reply = write_chart(length);
-            if (reply != ARENA_WRITTEN && reply != ARENA_CHANGED)
-                return;
-            if (reply == ARENA_WRITTEN && !explore(row, port))
-                return;
-            length = reply == ARENA_WRITTEN ? length_of_chart() : arena_board(shown, TEXT);
-        } else {
-            clear(shown, sizeof shown);
-            if (arena_sleep() != ARENA_WOKE || arena_look() != ARENA_HERE)
-                return;
-            length = arena_board(shown, TEXT);
-        }
+        int place = first(CLAIMED);
+        length = place < 0 ? await_change() : claim(place, length);
     }
+    arena_leave();
 }
