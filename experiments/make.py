@@ -15,6 +15,7 @@ Tables:
     modules      the most moves of all schedules of a WebAssembly module, by `arena explore --module` (ARENA names it)
     no-map       one agent more than the greatest degree, without a map
     large-no-map the same on networks of up to 256 nodes
+    charts       the same agents beside agents that keep a chart
     known-map    two agents that have the map
     large-known-map  the same on networks of up to 1,024 nodes
     too-few      one agent too few: a schedule after which the team fails

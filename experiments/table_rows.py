@@ -285,6 +285,39 @@ def thirds_row(
     ]
 
 
+CHARTS_HEAD = (
+    "network",
+    "agents",
+    "runs",
+    "solved",
+    "map.py: mean",
+    "most",
+    "chart.py: mean",
+    "most",
+    "most lost",
+    "n m",
+    "chart.py: most / n m",
+)
+
+
+def charts(asked: Asked) -> Made:
+    """The moves of agents that keep a map, and of agents that keep a chart."""
+    groups, commands = groups_of_sweep("charts", asked)
+    return Made(charts_rows(groups), commands)
+
+
+def charts_rows(groups: Sequence[report.RunGroup]) -> List[Cells]:
+    """A row for each network, on which m are the links."""
+    all_networks = grid.read(EXPERIMENTS / "charts.toml").networks
+    rows: List[Cells] = [CHARTS_HEAD]
+    for name in dict.fromkeys(group.name[0] for group in groups):
+        cells = row_of([group for group in groups if group.name[0] == name], {})
+        links = len(all_networks[name].links)
+        bound = all_networks[name].nodes * links
+        rows.append([*cells[:-2], str(bound), f"{int(cells[-4]) / bound:.2f}"])
+    return rows
+
+
 # agents written as steps are explored by their memories, and programs by their
 # histories, which are many more
 RINGS_EXPLORED = (3, 4, 5, 6, 7, 8, 9, 16, 24, 32)
@@ -423,6 +456,7 @@ TABLES: Dict[str, Callable[[Asked], Made]] = {
     "modules": modules,
     "no-map": of_sweep("no_map"),
     "large-no-map": of_sweep("large_no_map"),
+    "charts": charts,
     "known-map": of_sweep("known_map"),
     "large-known-map": of_sweep("large_known_map"),
     "too-few": too_few,

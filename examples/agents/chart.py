@@ -4,8 +4,9 @@ links.
 
     python3 chart.py HOST PORT KEY NODES LINKS
 
-Start it once for each key. LINKS is the number of links of the network; or 0 if the
-agents only know that no node has more than three.
+Start it once for each key. LINKS is the number of links of the network: if all nodes
+have D links, NODES times D / 2. It is 0 if the agents only know that no node has more
+than three.
 
 All agents are alike, and share a chart on the whiteboard of the home base. It has a row
 for each node that is known: the row and the port by which the node was found, and for

@@ -7,8 +7,8 @@ agents than its greatest degree.
 Start it once for each key. The network has one black hole. The search is a cautious
 exploration with a map at the home base, after S. Dobrev, P. Flocchini, G. Prencipe and
 N. Santoro, "Searching for a black hole in arbitrary networks: optimal mobile agents
-protocols" (Distributed Computing 19, 2006), who show that this many agents are needed
-and suffice where the network is not known.
+protocols" (Distributed Computing 19, 2006), who give this number of agents for networks
+that are not known.
 
 The whiteboard of the home base holds the map: each node that was reached, and of each
 of its ports what it leads to. An agent claims a port there that nobody has tried, walks

@@ -20,6 +20,7 @@ SMALL = {
     "rings": ("rings", ["ring:4", "ring:6"]),
     "no-map": ("no_map", ["hypercube:3"]),
     "known-map": ("known_map", ["hypercube:3"]),
+    "charts": ("charts", ["hypercube:3"]),
 }
 # the tables of means
 SWEEPS = (
@@ -29,6 +30,7 @@ SWEEPS = (
     "large-no-map",
     "known-map",
     "large-known-map",
+    "charts",
 )
 SMALL_EXPLORED = ("ring:3", "ring:4", "ring:5")
 # rings on which so few schedules show the most moves that were hunted
@@ -75,7 +77,12 @@ class Experiments(InFolder):
             )
             given = rows_by_network(name)
             hunted = hunted_in(given) if name == "rings" else {}
-            for row in table_rows.rows_of(groups, hunted)[1:]:
+            made = (
+                table_rows.charts_rows(groups)
+                if name == "charts"
+                else table_rows.rows_of(groups, hunted)
+            )
+            for row in made[1:]:
                 with self.subTest(name, network=row[0]):
                     self.assertEqual(given[row[0]], list(row))
 
