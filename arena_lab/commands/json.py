@@ -48,10 +48,10 @@ def run(words: argparse.Namespace) -> int:
         words.refuse(
             "name modules by --module: without them `arena explore` asks its host, in lines of JSON"
         )
-    program = program_at(words.program)
-    status, printed, errors = ran([program, words.order, *words.words])
+    order = [words.order, *words.words]
+    status, printed, errors = ran([program_at(words.program), *order])
     if status != REFUSED:
-        print(spelled(reading(words.order, printed, errors, status)))
+        print(spelled(reading(order, printed, errors, status)))
     return status
 
 

@@ -8,7 +8,7 @@ import re
 from typing import Any, Callable, Dict, List, NamedTuple, Sequence, Tuple
 
 from arena_lab.rules.model import Object, Verdict, rank
-from arena_lab.rules.refusals import NOTE
+from arena_lab.rules.refusals import parted
 from arena_lab.support.faults import Fault
 
 HEAD = "#", "team", "outcome", "moves", "lost"
@@ -133,30 +133,31 @@ def result_in(command: str, text: str) -> Any:
     return result
 
 
-def faults_in(errors: str) -> Tuple[List[Object], List[str]]:
-    """The faults that the program told on standard error, each with where it is, its
-    text and the lines that explain it; and the other lines, which are notes."""
+def faults_in(errors: str, words: Sequence[str]) -> Tuple[List[Object], List[str]]:
+    """The faults that the program told on standard error for a command of these words,
+    each with where it is, its text and the lines that explain it; and the other lines,
+    which are notes."""
     faults: List[Object] = []
     notes: List[str] = []
-    for line in errors.splitlines():
-        where, colon, text = line.rpartition(": ")
+    for line in errors.removesuffix("\n").split("\n") if errors else ():
+        said = parted(line, words)
         if line.startswith("  ") and faults:
             faults[-1]["more"].append(line.strip())
-        elif not colon or NOTE.match(line):
+        elif said.is_note or not said.where:
             notes.append(line)
         else:
-            faults.append({"where": where, "fault": text, "more": []})
+            faults.append({"where": said.where, "fault": said.text, "more": []})
     return faults, notes
 
 
-def reading(command: str, text: str, errors: str, status: int) -> Object:
+def reading(words: Sequence[str], text: str, errors: str, status: int) -> Object:
     """What came of a command of the program, as one object: docs/results.schema.json
     has its schema."""
-    faults, notes = faults_in(errors)
+    faults, notes = faults_in(errors, words)
     return {
-        "command": command,
+        "command": words[0],
         "status": status,
-        "result": result_in(command, text),
+        "result": result_in(words[0], text),
         "faults": faults,
         "notes": notes,
     }

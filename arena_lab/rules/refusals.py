@@ -1,6 +1,7 @@
 """What the program's lines about faults mean, in the words of the lab. docs/FORMATS.md
 has all lines."""
 import re
+from typing import Iterator, NamedTuple, Sequence
 
 # of what is behind the name of a file and the number of a match: each with what it
 # means, in which {0} is its number
@@ -42,10 +43,58 @@ MEANINGS = (
     (r"memory", "memory ran out"),
 )
 LINE = re.compile(r".*: (?:match \d+ )?(.+)", re.DOTALL)
-# what the program tells of a tournament that is no fault
+# what the program says of a tournament that is no fault, behind the name of its file
 NOTE = re.compile(
-    r".*: (.* is ignored|the schedule is |match \d+ of .* has (held|dark) links)"
+    r".* is ignored( without .*\"|: it is a key .* version \d+|: it belongs .*\]"
+    r"|: did you mean .*\?|: the keys here are [a-z_, ]+)"
+    r"|the schedule is (adaptive|oblivious): .*"
+    r"|match \d+ of \S+ has (held|dark) links, .*"
 )
+# characters of a name that the program escapes, and those that have a letter
+CONTROLS = re.compile("[\0-\x1f\x7f-\x9f\u061c\u200e\u200f\u202a-\u202e\u2066-\u2069]")
+LETTERS = {"\t": r"\t", "\n": r"\n", "\r": r"\r"}
+
+
+def shown(name: str) -> str:
+    """The name of a file, as it stands in a line of the program."""
+    if not name:
+        return "''"
+    return CONTROLS.sub(lambda it: LETTERS.get(it[0], f"\\u{{{ord(it[0]):x}}}"), name)
+
+
+def names_in(word: str) -> Iterator[str]:
+    """The names of files that a word of a command may have: it is FILE, TEAM=FILE or
+    FILE:NUMBERS."""
+    yield word
+    if "=" in word:
+        yield word.partition("=")[2]
+    module = re.fullmatch(r"([^:]*):[\d,]*", word)
+    if module:
+        yield module[1]
+
+
+class Line(NamedTuple):
+    """A line of the program: the place that it names, if any, what it says of that, and
+    whether this is a note on the tournament and no fault."""
+
+    where: str
+    text: str
+    is_note: bool
+
+
+def parted(line: str, words: Sequence[str]) -> Line:
+    """A line of the program, by the words of the command. Names of files may have
+    colons, and so may texts. So the place is the longest name in the words with which
+    the line begins. If there is none, as for a network, the text has no colon, since it
+    is neither a note nor a fault of a module."""
+    names = {shown(name) for word in words for name in names_in(word)}
+    named = [it for it in names if line.startswith(f"{it}: ")]
+    if not named:
+        where, _, text = line.rpartition(": ")
+        return Line(where, text, False)
+    where = max(named, key=len)
+    text = line.removeprefix(f"{where}: ")
+    return Line(where, text, NOTE.fullmatch(text) is not None)
 
 
 def in_words(line: str) -> str:

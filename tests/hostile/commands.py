@@ -183,7 +183,7 @@ def ended(child: subprocess.Popen) -> Run:
     return Run(
         child.returncode,
         printed or b"",
-        without_help(without_notes(told or b"").decode(errors="replace")),
+        without_help(without_notes(told or b"", child.args).decode(errors="replace")),
     )
 
 

@@ -197,14 +197,10 @@ def drawn(number: int) -> Made:
 
 
 def said(program: str, folder: pathlib.Path) -> Tuple[int, str]:
-    ran = subprocess.run(
-        [program, "check", "t.toml"],
-        cwd=folder,
-        stdout=subprocess.PIPE,
-        stderr=subprocess.PIPE,
-    )
+    words = [program, "check", "t.toml"]
+    ran = subprocess.run(words, cwd=folder, capture_output=True)
     # a line of what helps begins with two spaces
-    lines = without_notes(ran.stderr).decode().splitlines(keepends=True)
+    lines = without_notes(ran.stderr, words).decode().splitlines(keepends=True)
     return ran.returncode, "".join(line for line in lines if not line.startswith("  "))
 
 

@@ -107,7 +107,7 @@ class Stage:
         return Run(
             ran.returncode,
             ran.stdout or b"",
-            told if wants_notes else without_notes(told),
+            told if wants_notes else without_notes(told, words),
         )
 
 
@@ -182,8 +182,9 @@ def do(step: Step, stage: Stage, printed: bytes) -> bytes:
     """Carries out a step, and gives what the last run printed."""
     place = stage.folder / step.rest
     if step.mark == "$":
-        wants_notes = without_notes(step.told) != step.told
-        ran = stage.run(shlex.split(step.rest), step.given, wants_notes=wants_notes)
+        words = shlex.split(step.rest)
+        wants_notes = without_notes(step.told, words) != step.told
+        ran = stage.run(words, step.given, wants_notes=wants_notes)
         expect(ran, step.wanted, step.told, step.status)
         return ran.printed
     if step.mark == "@":

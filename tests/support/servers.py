@@ -7,9 +7,9 @@ import socket
 import subprocess
 import threading
 import time
-from typing import Any, NamedTuple, Optional, Sequence, Tuple
+from typing import Any, NamedTuple, Optional, Sequence, Tuple, Union
 
-from arena_lab.rules.refusals import NOTE
+from arena_lab.rules.refusals import parted
 from arena_lab.support.built import TOP
 from arena_lab.support.ports import free_port
 from arena_lab.support.waiting import is_ready
@@ -23,12 +23,14 @@ PATIENCE = 20.0
 END = 60.0
 
 
-def without_notes(told: bytes) -> bytes:
-    """What was told but for notes on a tournament: ignored keys, the schedule, links."""
+def without_notes(told: bytes, words: Sequence[Union[str, bytes]]) -> bytes:
+    """What a command of these words told but for notes on a tournament: ignored keys,
+    the schedule, links."""
+    names = [os.fsdecode(it) for it in words]
     return b"".join(
         it
         for it in told.splitlines(True)
-        if not NOTE.match(it.decode(errors="replace"))
+        if not parted(it.decode(errors="replace").removesuffix("\n"), names).is_note
     )
 
 
@@ -137,7 +139,7 @@ class Server:
         return Run(
             self.child.returncode,
             self.first.removeprefix(self._listens) + printed,
-            without_notes(told or b""),
+            without_notes(told or b"", self.child.args),
         )
 
 

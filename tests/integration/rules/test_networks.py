@@ -48,7 +48,8 @@ class Written(InTemporary):
         ran = subprocess.run(
             words, cwd=folder, capture_output=True, text=True, stdin=subprocess.DEVNULL
         )
-        self.assertEqual((ran.returncode, without_notes(ran.stderr.encode())), (0, b""))
+        told = without_notes(ran.stderr.encode(), words)
+        self.assertEqual((ran.returncode, told), (0, b""))
         return ran.stdout
 
     def test_each_kind_of_network(self) -> None:

@@ -4,6 +4,8 @@ each reading."""
 import json
 import pathlib
 import re
+import shlex
+import shutil
 import unittest
 from typing import Any, Dict, Iterator, List, Tuple
 
@@ -16,6 +18,7 @@ from tests.support.matches import InFolder, program
 from tests.support.output import ran
 from tests.support.program_rows import Stage, Step, rows_of
 from tests.support.sample_modules import LEAVER
+from tests.support.wasm_encoding import Function, module
 
 SCHEMA: Dict[str, Any] = json.loads(
     (TOP / "docs" / "results.schema.json").read_text(encoding="utf-8")
@@ -53,7 +56,8 @@ class Rows(unittest.TestCase):
             text = ASKED.sub("", step.wanted.decode())
             if step.status != 2 and not HELP & {*step.rest.split(" ")}:
                 errors = step.told.decode(errors="replace")
-                found = printed.reading(command, text, errors, step.status)
+                words = shlex.split(step.rest)
+                found = printed.reading(words, text, errors, step.status)
                 yield text, step, found
 
     def test_each_reading_has_what_is_printed_and_its_schema(self) -> None:
@@ -148,9 +152,9 @@ class Runs(InFolder):
             [it["nodes"] for it in found["result"]["matches"]], [8, 16, 25, 3]
         )
         self.assertEqual(len(found["notes"]), 2)
-        module = self.folder / "leaver.wasm"
-        module.write_bytes(LEAVER)
-        found = self.compared("explore", "examples/first.toml", 0, "--module", module)
+        leaver = self.folder / "leaver.wasm"
+        leaver.write_bytes(LEAVER)
+        found = self.compared("explore", "examples/first.toml", 0, "--module", leaver)
         self.assertEqual(
             (found["status"], found["result"]["found"]["found"]), (1, "fails")
         )
@@ -163,6 +167,35 @@ class Runs(InFolder):
         (fault,) = found["faults"]
         self.assertEqual(fault["fault"], "read")
         self.assertIn("match 0 (red) is left out of the table", fault["more"])
+
+    def test_names_of_files_may_have_colons(self) -> None:
+        for name in ("x: y", "a: b is ignored", "a: the schedule is x", "a\u2028b\n"):
+            file = self.folder / name
+            place = str(file).replace("\n", r"\n")
+            absent = {
+                "where": place,
+                "fault": "read",
+                "more": ["there is no such file"],
+            }
+            with self.subTest(name):
+                for words in (("judge", file), ("table", f"a={file}")):
+                    self.assertEqual(self.compared(*words)["faults"], [absent])
+                shutil.copy(EXAMPLES / "first.toml", file)
+                found = self.compared("check", file)
+                self.assertEqual((found["faults"], len(found["notes"])), ([], 2))
+
+    def test_names_of_imports_may_have_colons(self) -> None:
+        file = self.folder / "x.wasm"
+        for name in ("a: b", "a is ignored: did you mean b?"):
+            file.write_bytes(module([Function([], [], b"", "run")], [name]))
+            found = self.compared(
+                "explore", "examples/first.toml", 0, "--module", f"{file}:8"
+            )
+            (fault,) = found["faults"]
+            self.assertEqual(
+                (fault["where"], fault["fault"]),
+                (str(file), f"import arena.{name} at byte 21"),
+            )
 
     def test_words_that_are_refused_have_no_json(self) -> None:
         for words in (("judge",), ("table", "red"), ("explore", "cup.toml", 0)):
