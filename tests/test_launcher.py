@@ -87,17 +87,13 @@ class Launcher(Trees):
 
     def test_what_cannot_be_compiled_is_not_played(self) -> None:
         write(self.main, "broken\n")
-        with self.start("x") as child:
-            printed, errors = child.communicate()
-        self.assertEqual((child.returncode, printed), (1, ""))
-        self.assertRegex(
-            errors, "arena: the program was not compiled: see .*/build.log\n$"
-        )
         with self.start("serve", "x") as child:
             printed, errors = child.communicate()
         self.assertEqual((child.returncode, printed), (1, ""))
         self.assertRegex(
-            errors, "arena: `./arena-lab serve` takes the same words: [^\n]*\n$"
+            errors,
+            "arena: the program was not compiled: see .*/build.log\n"
+            "arena: `./arena-lab serve` and .* need no program: [^\n]*\n$",
         )
 
     def test_it_plays_the_proved_one_and_says_nothing(self) -> None:
