@@ -184,17 +184,28 @@ def enters_after_the_close(stage: Stage) -> None:
 FEW_DESCRIPTORS = 12
 
 
+def descriptors(server: Server) -> int:
+    """How many descriptors a server has open."""
+    return len(os.listdir(f"/proc/{server.child.pid}/fd"))
+
+
 @case("who connects while descriptors are used up is served once some are free")
 def descriptors_used_up(stage: Stage) -> None:
     def limit() -> None:
         resource.setrlimit(resource.RLIMIT_NOFILE, (FEW_DESCRIPTORS, FEW_DESCRIPTORS))
 
-    with served(stage, turns=LONG, limit=limit, sessions=3 * FEW_DESCRIPTORS) as server:
-        clients = [server.connect() for _ in range(FEW_DESCRIPTORS + 2)]
-        time.sleep(0.3)
+    many = FEW_DESCRIPTORS + 2
+    with served(stage, "--log", turns=LONG, limit=limit, sessions=2 * many) as server:
+        before = descriptors(server)
+        clients = [server.connect() for _ in range(many)]
+        # each was accepted, the last ones in the place of others, which were cut off
+        told_so_far(server, b"session %d from " % (many - 1))
         for client in clients:
             client.close()
+        # who comes before the server has read these ends may be cut off, too
+        are_free = wait_for(lambda: descriptors(server) <= before)
         heard = server.hears(enter("ra") + LEAVE)
+    require(are_free, "descriptors are used up after all clients have gone")
     require(heard == HERE + BYE, f"it heard {heard!r}")
 
 
