@@ -118,6 +118,13 @@ class Crates(unittest.TestCase):
 
 
 class Links(unittest.TestCase):
+    def test_rows_of_a_table_have_equally_many_cells(self) -> None:
+        for path in documents():
+            text = path.read_text(encoding="utf-8").replace(r"\|", "")
+            for rows in re.findall(r"(?:^\|.*\n)+", text, re.MULTILINE):
+                lines = re.sub("`[^`\n]*`", "", rows).splitlines()
+                self.assertEqual(len({it.count("|") for it in lines}), 1, rows)
+
     def test_links_lead_to_files(self) -> None:
         for path in documents():
             for target in LINK.findall(path.read_text(encoding="utf-8")):
