@@ -70,6 +70,9 @@ SPIN searches two models of `bench/models`, written by hand; its start takes som
 fewer states: it joins a step that no agent can observe with the step before. `./arena-lab explore` asks the step, and
 `arena explore` alone reads the answers from a file. All find the same moves.
 """
+MEMORY_NOTE = """\
+What 256 agents in four matches take, after each has entered and looked fifty times, by `/proc/PID/smaps`.
+"""
 HUNTS_NOTE = """\
 Schedules until a wrong agent of `arena_lab/mutants` fails, of ten seeds. `run` plays fair schedules. A hunt plays the
 same first, 300 at most, and then lets Hypothesis search.
@@ -267,6 +270,11 @@ BENCHMARKS: Dict[str, Benchmark] = {
         "Memory of looks",
         lambda at: of_python("bench.looks"),
         noted_text(LOOKS_NOTE, looks_text),
+    ),
+    "memory": Benchmark(
+        "Memory of sessions",
+        lambda at: of_python("bench.memory"),
+        noted_text(MEMORY_NOTE),
     ),
     "bare": Benchmark(
         "A bare Debian",

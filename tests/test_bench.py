@@ -13,6 +13,7 @@ from bench import figure_texts
 from bench import figures
 from arena_lab.rules.limits import MOST_TEXT
 from bench import inputs
+from bench import memory
 from bench import rehearse
 from examples import contest
 from arena_lab.rules.printed import table
@@ -70,6 +71,35 @@ class Inputs(InTemporary):
             3, sys.executable, words, self.folder / "in", self.folder
         )
         self.assertGreater(held.peak, 32 * 1024)
+
+
+SMAPS = """\
+00400000-0042b000 r-xp 00000000 fe:00 1 /work/program
+Rss:                 100 kB
+01000000-01100000 rw-p 00000000 00:00 0          [heap]
+Size:               1024 kB
+Rss:                   8 kB
+7f0000000000-7f0000100000 rw-p 00000000 00:00 0
+Rss:                  20 kB
+7f0000200000-7f0000201000 ---p 00000000 00:00 0
+Rss:                   0 kB
+7f0000201000-7f0000a01000 rw-p 00000000 00:00 0
+Rss:                  32 kB
+7f0000a01000-7f0000b01000 rw-p 00000000 00:00 0
+Rss:                   4 kB
+7f0000b01000-7f0000b02000 ---p 00000000 fe:00 2 /work/library
+Rss:                   0 kB
+7f0000b02000-7f0000b03000 rw-p 00000000 fe:00 2 /work/library
+Rss:                   2 kB
+"""
+
+
+class Memory(unittest.TestCase):
+    def test_each_mapping_is_told_by_what_it_is_for(self) -> None:
+        self.assertEqual(
+            memory.parts(SMAPS),
+            {memory.STACKS: 32, memory.HEAP: 8, memory.PIECES: 24, memory.REST: 102},
+        )
 
 
 class Figures(unittest.TestCase):

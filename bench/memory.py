@@ -1,0 +1,112 @@
+"""Measures where the memory of a server goes while sessions are open.
+
+    tools/build               # proves and builds the program, if that is not done yet
+    python3 -m bench.memory [--sessions N]
+
+The agents of N sessions (256), in four matches on a torus of sixteen nodes, enter and
+look fifty times each. A row of the table has what the memory is for, how many KiB of it
+the server held before anybody came and while all sessions were open, and how many more
+these are a session, by /proc/PID/smaps. The stack of a thread is a mapping that lies
+above one that nobody may touch. The program is ./arena, or what ARENA names.
+"""
+import argparse
+import pathlib
+import re
+import sys
+import tempfile
+from typing import Dict
+
+from arena_lab.rules.networks import text_of, torus
+from bench.inputs import key, tournament
+from bench.looks import Agent
+from bench.servers import prepare, serving
+from tests.support.counts import Wrong
+
+MATCHES = 4
+AGENTS = 64
+LOOKS = 50
+BOARD = 64
+# the match takes longer than the looks
+TURNS = 600_000
+PAUSE = 1
+STACKS = "stacks of threads"
+HEAP = "the allocator's heap"
+PIECES = "the allocator's other pieces"
+REST = "the program, its libraries and the rest"
+# the head of a mapping, and how much of it the memory holds
+HEAD = re.compile(r"([0-9a-f]+)-([0-9a-f]+) (\S+) \S+ \S+ \S+ *(.*)")
+HELD = re.compile(r"Rss: +(\d+) kB")
+
+
+def parts(smaps: str) -> Dict[str, int]:
+    """How many KiB a program holds for what, by what the system says of its memory."""
+    found = dict.fromkeys((STACKS, HEAP, PIECES, REST), 0)
+    what = REST
+    guarded = ""
+    for line in smaps.splitlines():
+        head = HEAD.fullmatch(line)
+        held = HELD.fullmatch(line)
+        if head:
+            begin, end, access, name = head.groups()
+            what = HEAP if name == "[heap]" else REST
+            if not name:
+                what = STACKS if begin == guarded else PIECES
+            guarded = end if access.startswith("---") else ""
+        elif held:
+            found[what] += int(held[1])
+    return found
+
+
+def measured(sessions: int) -> Dict[str, Dict[str, int]]:
+    """What a server holds for what, before and with this many sessions."""
+    with tempfile.TemporaryDirectory() as name:
+        folder = pathlib.Path(name)
+        (folder / "torus.toml").write_text(text_of(torus(4, 4)))
+        (folder / "cup.toml").write_text(
+            tournament(str(folder / "torus.toml"), MATCHES, AGENTS, BOARD)
+        )
+        with serving(folder, sessions, TURNS, PAUSE) as server:
+            smaps = pathlib.Path(f"/proc/{server.child.pid}/smaps")
+            before = parts(smaps.read_text())
+            agents = []
+            for session in range(sessions):
+                agent = Agent(server.port)
+                agents.append(agent)
+                agent.say({"do": "enter", "key": key(*divmod(session, AGENTS))})
+                agent.say({"do": "look"}, LOOKS)
+            return {"before": before, "open": parts(smaps.read_text())}
+
+
+def main(words_given: list) -> int:
+    parser = argparse.ArgumentParser(
+        prog="python3 -m bench.memory",
+        description=__doc__,
+        formatter_class=argparse.RawDescriptionHelpFormatter,
+    )
+    most = MATCHES * AGENTS
+    parser.add_argument(
+        "--sessions",
+        type=int,
+        default=most,
+        choices=range(1, most + 1),
+        metavar="N",
+        help="how many sessions (%(default)s)",
+    )
+    sessions = parser.parse_args(words_given).sessions
+    prepare(2 * most)
+    try:
+        found = measured(sessions)
+    except (Wrong, OSError, ValueError) as fault:
+        sys.exit(str(fault))
+    print(f"| KiB | before | with {sessions} sessions | a session |")
+    print("| --- | --- | --- | --- |")
+    for column in found.values():
+        column["all"] = sum(column.values())
+    for what, before in found["before"].items():
+        held = found["open"][what]
+        print(f"| {what} | {before:,} | {held:,} | {(held - before) / sessions:.1f} |")
+    return 0
+
+
+if __name__ == "__main__":
+    sys.exit(main(sys.argv[1:]))
