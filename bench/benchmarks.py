@@ -65,10 +65,15 @@ answers from a file: processor seconds, states a second, and the most memory of 
 of each state twice: in the search, and in the check of its result.
 """
 SPIN_NOTE = """\
-All schedules of two agents of `examples/agents/ring_step.py`, each black hole in turn, in seconds of one processor.
-SPIN searches two models of `bench/models`, written by hand; its start takes some 0.1 s. The merged model has
-fewer states: it joins a step that no agent can observe with the step before. `./arena-lab explore` asks the step, and
-`arena explore` alone reads the answers from a file. All find the same moves.
+All schedules of two agents of `examples/agents/ring.py`, each black hole in turn. SPIN searches two models of
+`bench/models`, written by hand, without the seconds of its compiler. The merged model has fewer states: it joins a step
+that no agent can observe with the step before. On several processors SPIN's processes (`-DNCORE`) search one model, and
+reduce the natural one by less; what they take together SPIN does not say. `./arena-lab explore` asks the search as a
+step, `arena explore` alone reads the answers from a file, and `--module` runs `ring.wasm`; on several processors it
+searches as many matches at a time. All find the same moves.
+"""
+MEMORY_NOTE = """\
+What 256 agents in four matches take, after each has entered and looked fifty times, by `/proc/PID/smaps`.
 """
 MEMORY_NOTE = """\
 What 256 agents in four matches take, after each has entered and looked fifty times, by `/proc/PID/smaps`.

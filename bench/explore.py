@@ -13,6 +13,7 @@ the program alone, states a second of the latter, and the most memory of one mat
 program is ./arena, or what ARENA names.
 """
 import argparse
+import concurrent.futures
 import json
 import os
 import pathlib
@@ -167,17 +168,21 @@ def words_of(agent: str) -> str:
     return f"{AGENTS / agent}.py{NUMBERS.get(agent, ' {nodes}')}"
 
 
-def measured_by_module(network: str, module: str, states: int) -> List[Taken]:
+def measured_by_module(
+    network: str, module: str, states: int, at_a_time: int = 1
+) -> List[Taken]:
     """What the matches of a network take whose agents run a module with the number of
-    nodes as its argument."""
+    nodes as its argument, so many at a time."""
     given = parser().parse_args(
         ["explore", "--network", network, "--agent", words_of("ring_step")]
     )
     [game] = games_of(given)
-    return [
-        by_module(fixture, f"{AGENTS / module}:{fixture.setup.nodes}", states)
-        for fixture in game.fixtures()
-    ]
+
+    def taken(fixture: Fixture) -> Taken:
+        return by_module(fixture, f"{AGENTS / module}:{fixture.setup.nodes}", states)
+
+    with concurrent.futures.ThreadPoolExecutor(at_a_time) as pool:
+        return [*pool.map(taken, game.fixtures())]
 
 
 def measured(network: str, agent: str, states: int) -> List[Taken]:

@@ -5,20 +5,28 @@ SPIN (G. J. Holzmann, "The Model Checker SPIN", 1997) makes a program of a model
 searches all states of one match after another: each node but the home base is the black
 hole in turn. `models/ring_natural.pml` is the search as one would write it down, for
 SPIN's own partial order reduction; in `models/ring_merged.pml` departures and arrivals
-that nobody can know of are merged by hand into the step before.
+that nobody can know of are merged by hand into the step before. Several processors
+search one model by SPIN's processes, which share the table of states.
 """
+import contextlib
 import os
 import pathlib
 import re
 import shutil
+import signal
 import subprocess
 import tempfile
+import time
 from typing import List, NamedTuple
 
 MODELS = pathlib.Path(__file__).resolve().parent / "models"
 HAS_SPIN = shutil.which("spin") is not None and shutil.which("cc") is not None
-# no depth is reached that is greater, and the table of states has 2^22 places at first
-SEARCH = ["-E", "-m1000000", "-w22"]
+# no depth is reached that is greater
+SEARCH = ["-E", "-m1000000"]
+# the table of states has 2^22 places at first, and 2^25 if processes share it, since it
+# does not grow then
+TABLE = ["-w22"]
+SHARED_TABLE = ["-w25"]
 
 
 class Model(NamedTuple):
@@ -33,19 +41,21 @@ MERGED = Model("ring_merged", ["-DSAFETY", "-DNOREDUCE"])
 
 
 class Searched(NamedTuple):
-    """What a search came to, in how many seconds of a processor, with how many
-    megabytes."""
+    """What a search came to, in how many seconds; and in how many seconds of a
+    processor and with how many megabytes, of its first process if there are several."""
 
     states: int
     moves: int
     errors: int
-    seconds: float
+    whole: float
+    processor: float
     memory: float
 
 
-def search(model: Model, nodes: int, source: str = "") -> Searched:
+def search(model: Model, nodes: int, source: str = "", processors: int = 1) -> Searched:
     """Searches all schedules of a model, or of another source, on a ring of this many
-    nodes. To compile the program takes no part of the time."""
+    nodes, by a process for each processor. To compile the program takes no part of the
+    time."""
     with tempfile.TemporaryDirectory(prefix="spin-") as name:
         folder = pathlib.Path(name)
         text = source or (MODELS / f"{model.name}.pml").read_text(encoding="utf-8")
@@ -56,33 +66,53 @@ def search(model: Model, nodes: int, source: str = "") -> Searched:
             check=True,
             stdout=subprocess.DEVNULL,
         )
+        options = [*model.options, *(shared(processors) if processors > 1 else [])]
         subprocess.run(
-            ["cc", "-O2", "-w", *model.options, "-o", "pan", "pan.c"],
+            ["cc", "-O2", "-w", *options, "-o", "pan", "pan.c"],
             cwd=folder,
             check=True,
         )
-        return searched(folder)
+        return searched(folder, SHARED_TABLE if processors > 1 else TABLE)
 
 
-def searched(folder: pathlib.Path) -> Searched:
+def shared(processors: int) -> List[str]:
+    """The options for processes that share at most half of the machine's memory."""
+    pages = os.sysconf("SC_PHYS_PAGES") * os.sysconf("SC_PAGE_SIZE")
+    return [f"-DNCORE={processors}", f"-DMEMLIM={pages // 2**21}"]
+
+
+def searched(folder: pathlib.Path, table: List[str]) -> Searched:
     """What the compiled program comes to."""
+    begun = time.monotonic()
     with (folder / "printed").open("wb+") as printed:
         child = subprocess.Popen(
-            [str(folder / "pan"), *SEARCH], cwd=folder, stdout=printed
+            [str(folder / "pan"), *SEARCH, *table],
+            cwd=folder,
+            stdout=printed,
+            start_new_session=True,
         )
-        _, status, used = os.wait4(child.pid, 0)
-        child.returncode = os.waitstatus_to_exitcode(status)
+        try:
+            _, status, used = os.wait4(child.pid, 0)
+            child.returncode = os.waitstatus_to_exitcode(status)
+            whole = time.monotonic() - begun
+        finally:
+            # those that the first process started
+            with contextlib.suppress(ProcessLookupError):
+                os.killpg(child.pid, signal.SIGKILL)
     text = (folder / "printed").read_text(encoding="utf-8")
-    if (
+    # a process of several that finds one says no more
+    errors = text.count("assertion violated")
+    if not errors and (
         "max search depth too small" in text
         or "Search not completed" in text
-        and number(r"errors: (\d+)", text) == 0
+        or number(r"errors: (\d+)", text) != 0
     ):
         raise RuntimeError(f"SPIN did not search all states:\n{text}")
     return Searched(
-        int(number(r"([\d.e+]+) states, stored", text)),
-        int(number(r"MOST MOVES (\d+)", text)),
-        int(number(r"errors: (\d+)", text)),
+        0 if errors else int(number(r"([\d.e+]+) states, stored", text)),
+        max(map(int, re.findall(r"MOST MOVES (\d+)", text)), default=0),
+        errors,
+        whole,
         used.ru_utime + used.ru_stime,
         used.ru_maxrss / 1024,
     )

@@ -10,76 +10,99 @@ black hole in turn. SPIN searches two models of `examples/agents/ring.py` that w
 written by hand: "natural" with SPIN's own reductions, and "merged", in which steps that
 nobody can know of were merged by hand as well. `./arena-lab explore` asks the same
 search as a step, `ring_step.py`: its row has the whole, and the next row what `arena
-explore` takes if it reads the agents' answers from a file. The last row is of `arena
-explore --module` on `wasm/ring.wasm`. A row has who searched, the states, the most
-moves, the seconds of one processor, and megabytes. All must find the same moves. The
-seconds of SPIN do not count the compiler.
+explore` takes if it reads the agents' answers from a file. Then `arena explore
+--module` runs `wasm/ring.wasm`. On several processors (--processors, else all) SPIN's
+processes search one model, and `arena explore --module` as many matches at a time.
+
+A row has who searched, the states, the most moves, the seconds, those of one processor,
+and megabytes. All must find the same moves. The seconds of SPIN do not count the
+compiler. What its processes take together SPIN does not say.
 """
 import argparse
-from typing import List, NamedTuple
+import os
+import time
+from typing import Iterator, List, NamedTuple, Optional
 
 from arena_lab.support.faults import Fault
 from bench import promela
-from bench.explore import STATES, measured, measured_by_module
+from bench.explore import STATES, Taken, measured, measured_by_module
 
 
 class Row(NamedTuple):
-    """What one search of all matches on a ring took."""
+    """What one search of all matches on a ring took; what is not known is None."""
 
     name: str
     states: int
     moves: int
-    seconds: float
-    memory: str
+    whole: Optional[float]
+    processor: Optional[float] = None
+    memory: Optional[float] = None
 
 
-def rows_of(nodes: int) -> List[Row]:
-    """What each search takes on a ring."""
-    found = []
+def by_spin(nodes: int, processors: int) -> Iterator[Row]:
+    """What SPIN takes on a ring, for each model."""
     for name, model in (
         ("SPIN, natural", promela.NATURAL),
         ("SPIN, merged", promela.MERGED),
     ):
         one = promela.search(model, nodes)
-        if one.errors:
+        more = promela.search(model, nodes, processors=processors)
+        if one.errors or more.errors:
             raise SystemExit(
                 f"{name} finds a schedule of the ring of {nodes} that fails"
             )
-        found.append(Row(name, one.states, one.moves, one.seconds, f"{one.memory:.0f}"))
-    matches = measured(f"ring:{nodes}", "ring_step", STATES)
-    states = sum(it.states for it in matches)
-    moves = max(it.moves for it in matches)
-    found.append(
-        Row(
-            "./arena-lab explore",
-            states,
-            moves,
-            sum(it.processor for it in matches),
-            "",
-        )
+        yield Row(name, one.states, one.moves, one.whole, one.processor, one.memory)
+        yield Row(f"{name}, on {processors}", more.states, more.moves, more.whole)
+
+
+def of_matches(
+    name: str,
+    matches: List[Taken],
+    whole: Optional[float],
+    processor: float,
+    has_memory: bool = True,
+) -> Row:
+    """The row of these matches."""
+    return Row(
+        name,
+        sum(it.states for it in matches),
+        max(it.moves for it in matches),
+        whole,
+        processor,
+        max(it.memory for it in matches) if has_memory else None,
     )
-    found.append(
-        Row(
-            "arena explore alone",
-            states,
-            moves,
-            sum(it.program for it in matches),
-            f"{max(it.memory for it in matches):.0f}",
-        )
-    )
-    matches = measured_by_module(f"ring:{nodes}", "wasm/ring.wasm", STATES)
-    found.append(
-        Row(
-            "arena explore --module",
-            sum(it.states for it in matches),
-            max(it.moves for it in matches),
-            sum(it.program for it in matches),
-            f"{max(it.memory for it in matches):.0f}",
-        )
-    )
+
+
+def by_explore(nodes: int, processors: int) -> Iterator[Row]:
+    """What `explore` takes on a ring, by its hosts."""
+    ring = f"ring:{nodes}"
+    matches = measured(ring, "ring_step", STATES)
+    whole = sum(it.whole for it in matches)
+    processor = sum(it.processor for it in matches)
+    yield of_matches("./arena-lab explore", matches, whole, processor, False)
+    alone = sum(it.program for it in matches)
+    yield of_matches("arena explore alone", matches, None, alone)
+    for name, at_a_time in (
+        ("arena explore --module", 1),
+        (f"arena explore --module, {processors} at a time", processors),
+    ):
+        begun = time.monotonic()
+        matches = measured_by_module(ring, "wasm/ring.wasm", STATES, at_a_time)
+        whole = time.monotonic() - begun
+        processor = sum(it.program for it in matches)
+        yield of_matches(name, matches, whole, processor, at_a_time == 1)
+
+
+def rows_of(nodes: int, processors: int) -> List[Row]:
+    """What each search takes on a ring."""
+    found = [*by_spin(nodes, processors), *by_explore(nodes, processors)]
     if len({row.moves for row in found}) > 1:
         raise SystemExit(f"they differ on the ring of {nodes}: {found}")
     return found
+
+
+def told(number: Optional[float], form: str) -> str:
+    return "" if number is None else format(number, form)
 
 
 def main() -> None:
@@ -92,17 +115,27 @@ def main() -> None:
         metavar="N",
         help="numbers of nodes of rings (16 24 32)",
     )
+    given.add_argument(
+        "--processors",
+        type=int,
+        default=os.cpu_count(),
+        metavar="N",
+        help="on how many processors all are searched once more (%(default)s)",
+    )
     words = given.parse_args()
     if not promela.HAS_SPIN:
         raise SystemExit(
             "spin is not installed, or there is no C compiler: apt install spin gcc"
         )
-    print("| ring | searched by | states | most moves | processor, s | memory, MB |")
-    print("|---|---|---|---|---|---|")
+    print(
+        "| ring | searched by | states | most moves | seconds | processor, s | memory, MB |"
+    )
+    print("|---|---|---|---|---|---|---|")
     for nodes in words.nodes:
-        for row in rows_of(nodes):
+        for row in rows_of(nodes, words.processors):
             print(
-                f"| {nodes} | {row.name} | {row.states:,} | {row.moves} | {row.seconds:.2f} | {row.memory} |",
+                f"| {nodes} | {row.name} | {row.states:,} | {row.moves} | {told(row.whole, '.2f')} "
+                f"| {told(row.processor, '.2f')} | {told(row.memory, '.0f')} |",
                 flush=True,
             )
 

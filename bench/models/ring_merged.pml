@@ -25,9 +25,12 @@ byte right_mark[N], left_mark[N];
 byte unvisited, lost, finished, right_accusations, wrong_accusations;
 short moves;
 
+/* each process of a search has a most of its own, and prints it when it rises */
 c_code {
-	static int most_moves, is_told_at_exit;
-	static void tell_most(void) { printf("MOST MOVES %d\n", most_moves); }
+	static int most_moves;
+	static void tell_most(int moves) {
+		if (moves > most_moves) { most_moves = moves; printf("MOST MOVES %d\n", moves); fflush(stdout); }
+	}
 };
 
 #define UNKNOWN (N - 1 - mine - theirs)
@@ -139,13 +142,12 @@ proctype agent() {
 init {
 	atomic {
 		select(hole : 1 .. N - 1);
-		c_code { if (!is_told_at_exit) { is_told_at_exit = 1; atexit(tell_most); } };
 		unvisited = N - 2;
 		run agent(); run agent()
 	}
 	/* at rest */
 	atomic { timeout ->
 		assert(unvisited == 0 && right_accusations >= 1 && wrong_accusations == 0 && lost <= 1 && finished + lost == 2);
-		c_code { if (now.moves > most_moves) most_moves = now.moves; }
+		c_code { tell_most(now.moves); }
 	}
 }

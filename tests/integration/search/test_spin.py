@@ -30,6 +30,14 @@ class TestSpin(unittest.TestCase):
                         max(row["moves"] for row in proof.rows), found.moves
                     )
 
+    def test_several_processes_find_the_same_most_moves(self) -> None:
+        for model in (promela.NATURAL, promela.MERGED):
+            with self.subTest(model.name):
+                one = promela.search(model, 8)
+                more = promela.search(model, 8, processors=3)
+                self.assertEqual((one.moves, 0), (more.moves, more.errors))
+                self.assertGreaterEqual(more.states, one.states)
+
     def test_spin_finds_a_mistake(self) -> None:
         """An agent that does not look again before it writes overwrites what the other
         one has told."""
@@ -37,17 +45,22 @@ class TestSpin(unittest.TestCase):
         unchanged = "#define IS_UNCHANGED (right_seen == right_mark[node] && left_seen == left_mark[node])"
         self.assertIn(unchanged, source)
         blind = source.replace(unchanged, "#define IS_UNCHANGED true")
-        self.assertNotEqual(0, promela.search(promela.MERGED, 6, blind).errors)
+        for processors in (1, 3):
+            found = promela.search(promela.MERGED, 6, blind, processors)
+            self.assertNotEqual(0, found.errors)
 
     def test_the_benchmark_compares_them(self) -> None:
         with mock.patch.object(explore, "PROGRAM", program()):
-            rows = bench_spin.rows_of(5)
+            rows = bench_spin.rows_of(5, 2)
         names = [
             "SPIN, natural",
+            "SPIN, natural, on 2",
             "SPIN, merged",
+            "SPIN, merged, on 2",
             "./arena-lab explore",
             "arena explore alone",
             "arena explore --module",
+            "arena explore --module, 2 at a time",
         ]
         self.assertEqual(names, [it.name for it in rows])
         self.assertEqual(1, len({it.moves for it in rows}))
