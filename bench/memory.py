@@ -7,13 +7,14 @@ The agents of N sessions (256), in four matches on a torus of sixteen nodes, ent
 look fifty times each. A row of the table has what the memory is for, how many KiB of it
 the server held before anybody came and while all sessions were open, and how many more
 these are a session, by /proc/PID/smaps. The stack of a thread is a mapping that lies
-above one that nobody may touch. The program is ./arena, or what ARENA names.
+above a few pages that nobody may touch. The program is ./arena, or what ARENA names.
 """
 import argparse
 import pathlib
 import re
 import sys
 import tempfile
+import time
 from typing import Dict
 
 from arena_lab.rules.networks import text_of, torus
@@ -33,6 +34,8 @@ STACKS = "stacks of threads"
 HEAP = "the allocator's heap"
 PIECES = "the allocator's other pieces"
 REST = "the program, its libraries and the rest"
+# more bytes than lie below a stack; what the allocator keeps for later has more
+GUARD = 1 << 20
 # the head of a mapping, and how much of it the memory holds
 HEAD = re.compile(r"([0-9a-f]+)-([0-9a-f]+) (\S+) \S+ \S+ \S+ *(.*)")
 HELD = re.compile(r"Rss: +(\d+) kB")
@@ -51,7 +54,8 @@ def parts(smaps: str) -> Dict[str, int]:
             what = HEAP if name == "[heap]" else REST
             if not name:
                 what = STACKS if begin == guarded else PIECES
-            guarded = end if access.startswith("---") else ""
+            is_guard = int(end, 16) - int(begin, 16) < GUARD
+            guarded = end if is_guard and access.startswith("---") else ""
         elif held:
             found[what] += int(held[1])
     return found
@@ -67,6 +71,8 @@ def measured(sessions: int) -> Dict[str, Dict[str, int]]:
         )
         with serving(folder, sessions, TURNS, PAUSE) as server:
             smaps = pathlib.Path(f"/proc/{server.child.pid}/smaps")
+            # it makes the matches once it listens
+            time.sleep(1)
             before = parts(smaps.read_text())
             agents = []
             for session in range(sessions):

@@ -85,11 +85,15 @@ Rss:                  20 kB
 Rss:                   0 kB
 7f0000201000-7f0000a01000 rw-p 00000000 00:00 0
 Rss:                  32 kB
-7f0000a01000-7f0000b01000 rw-p 00000000 00:00 0
+7f0000a01000-7f0000a02000 rw-p 00000000 00:00 0
 Rss:                   4 kB
-7f0000b01000-7f0000b02000 ---p 00000000 fe:00 2 /work/library
+7f0000a02000-7f0004000000 ---p 00000000 00:00 0
 Rss:                   0 kB
-7f0000b02000-7f0000b03000 rw-p 00000000 fe:00 2 /work/library
+7f0004000000-7f0004001000 rw-p 00000000 00:00 0
+Rss:                   1 kB
+7f0005001000-7f0005002000 ---p 00000000 fe:00 2 /work/library
+Rss:                   0 kB
+7f0005002000-7f0005003000 rw-p 00000000 fe:00 2 /work/library
 Rss:                   2 kB
 """
 
@@ -98,7 +102,7 @@ class Memory(unittest.TestCase):
     def test_each_mapping_is_told_by_what_it_is_for(self) -> None:
         self.assertEqual(
             memory.parts(SMAPS),
-            {memory.STACKS: 32, memory.HEAP: 8, memory.PIECES: 24, memory.REST: 102},
+            {memory.STACKS: 32, memory.HEAP: 8, memory.PIECES: 25, memory.REST: 102},
         )
 
 
