@@ -4,6 +4,8 @@ use Rattle.std.specs.Str.{bytes_eq}
 use Rattle.bhs_net.specs.declared.faults.TheConstants.{MIN_NODES, MAX_NODES}
 use Rattle.bhs_command_line.specs.Arguments.{number_within}
 use Rattle.bhs_command_line.specs.Exploring.{module_in}
+use Rattle.bhs_protocols_charts.specs.declared.memories.NetworkFacts.{NetworkFacts}
+use Rattle.bhs_protocols_charts.specs.declared.memories.Told.TheVariants.{Links}
 use Rattle.bhs_searcher.specs.declared.protocol_agent.Protocol.{Protocol}
 use Rattle.bhs_searcher.specs.declared.protocol_agent.Protocol.TheVariants.{Halves, Shuttle}
 use Rattle.bhs_player.specs.declared.words.AgentChoice.{AgentChoice}
@@ -31,9 +33,16 @@ search_in protocol nodes side =
     option_and_then (λ protocol. option_and_then (λ nodes. option_map (λ side. runs.Protocol protocol nodes side)
     (number_within 0 1 side)) (number_within MIN_NODES MAX_NODES nodes)) (protocol_in protocol)
 
--- what an agent runs: PROTOCOL NODES SIDE, or --module FILE[:N,..]
+-- NODES LINKS: the search by a chart of a network with as many nodes as a file may have
+abbrev pub chart_in : (nodes links : List ℕ) → Option AgentChoice
+chart_in nodes links =
+    option_and_then (λ nodes. option_map (λ links. runs.Chart (record { nodes = nodes; told = Links links }))
+    (number_within 1 4294967295 links)) (number_within MIN_NODES MAX_NODES nodes)
+
+-- what an agent runs: PROTOCOL NODES SIDE, chart NODES LINKS, or --module FILE[:N,..]
 abbrev pub choice_in : List (List ℕ) → Option AgentChoice
-choice_in (protocol ∷ nodes ∷ side ∷ []) = search_in protocol nodes side
+choice_in (protocol ∷ nodes ∷ number ∷ []) =
+    if bytes_eq protocol (codes "chart") then chart_in nodes number else search_in protocol nodes number
 choice_in (option ∷ word ∷ []) =
     if bytes_eq option (codes "--module") then option_map (λ it. runs.Module it) (module_in word) else None
 choice_in words = None

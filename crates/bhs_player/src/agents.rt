@@ -8,7 +8,7 @@ ghost use Rattle.bhs_player.specs.Agents.{IsChosen};
 use crate::words::AgentChoice;
 use bhs_command_line::AgentModule;
 use bhs_model::{MAX_TEXT, MAX_TURNS};
-use bhs_searcher::{ModuleAgent, PlayFault, ProtocolAgent};
+use bhs_searcher::{ChartAgent, ModuleAgent, PlayFault, ProtocolAgent};
 use bhs_stream::{ReadFault, read_text};
 use bhs_wasm_read::{ModuleFault, module_of};
 use bhs_wasm_team::{FUEL, FailureCause};
@@ -21,6 +21,7 @@ use thiserror::Error;
 #[derive(Drop)]
 pub enum PlayedAgent {
     Protocol(ProtocolAgent),
+    Chart(ChartAgent),
     Module(ModuleAgent),
 }
 
@@ -78,6 +79,7 @@ pub fn agent_of<F: Files>(
             let agent = ProtocolAgent::new(alloc, *protocol, *nodes, *side);
             Ok(PlayedAgent::Protocol(agent))
         }
+        AgentChoice::Chart(known) => Ok(PlayedAgent::Chart(ChartAgent::new(alloc, *known))),
         AgentChoice::Module(module) => Ok(PlayedAgent::Module(module_agent(alloc, files, module)?)),
     }
 }

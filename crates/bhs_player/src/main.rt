@@ -1,5 +1,5 @@
-//! An agent as a client of any server: one that searches a ring by a protocol that is proved for every size, or one
-//! that runs a WebAssembly module.
+//! An agent as a client of any server: one that searches a ring by a protocol that is proved for every size, one that
+//! draws a chart of an unknown network, or one that runs a WebAssembly module.
 #![tactic(auto)]
 
 pub mod agents;
@@ -67,6 +67,7 @@ fn tell_of_agent<D: Display + Drop>(
             nodes: _,
             side: _,
         } => eprintln!(rt; "bhs_player: {fault}"),
+        AgentChoice::Chart(_) => eprintln!(rt; "bhs_player: {fault}"),
     }
 }
 

@@ -30,6 +30,7 @@ pub fn played<R: Input + Drop, W: Output + Drop>(
     let alloc = wire.rt.alloc();
     match agent {
         PlayedAgent::Protocol(agent) => play(alloc, wire, agent, key, MOST_REPLIES),
+        PlayedAgent::Chart(agent) => play(alloc, wire, agent, key, MOST_REPLIES),
         PlayedAgent::Module(agent) => play(alloc, wire, agent, key, MOST_REPLIES),
     }
 }

@@ -6,6 +6,7 @@ ghost use Rattle.bhs_player.specs.Entrants as entrants;
 
 use bhs_command_line::{AgentModule, module_in, number_within};
 use bhs_net::{MAX_NODES, MIN_NODES};
+use bhs_protocols_charts::memories::{NetworkFacts, Told};
 use bhs_searcher::Protocol;
 use std::alloc::{AllocError, Global};
 
@@ -28,6 +29,8 @@ pub enum AgentChoice {
         nodes: u16,
         side: u16,
     },
+    /// The search of an unknown network by a chart.
+    Chart(NetworkFacts),
     /// The module of a file.
     Module(AgentModule),
 }
@@ -35,17 +38,20 @@ pub enum AgentChoice {
 /// What is told if the words are not fit.
 pub const USAGE: &str = "\
 usage: bhs_player HOST PORT KEY PROTOCOL NODES SIDE
+       bhs_player HOST PORT KEY chart NODES LINKS
        bhs_player HOST PORT KEY --module FILE[:N,..]
 
-An agent as the client of a server: one that searches a ring by a protocol that is proved to solve every ring, or one
-that runs a WebAssembly module, as `arena explore --module` tries it. Run a protocol twice, with the sides 0 and 1.
+An agent as the client of a server: one that searches a ring by a protocol that is proved to solve every ring, one that
+draws a chart of an unknown network, or one that runs a WebAssembly module, as `arena explore --module` tries it. Run a
+protocol twice, with the sides 0 and 1, and a chart once more than the black hole has links.
 
   HOST      the server's name or address, or - to talk over standard input and output
   PORT      its port, 1 to 65535; 0 with -
   KEY       the agent's key
   PROTOCOL  halves (the fewest moves) or shuttle (the simplest)
-  NODES     how many nodes the ring has, 3 to 4096
+  NODES     how many nodes the ring or the network has, 3 to 4096
   SIDE      0 or 1: the port of the home base behind which the agent begins
+  LINKS     how many links the network has, 1 to 4294967295
   FILE      the module's file, and behind a colon its arguments, numbers below 2^32 with commas between them";
 
 /// What the words say, if they are fit.
@@ -77,7 +83,13 @@ fn choice_of(alloc: Global, words: &[String]) -> Result<Option<AgentChoice>, All
             }
             Ok(module_in(alloc, word.as_str())?.map(AgentChoice::Module))
         }
-        [protocol, nodes, side] => Ok(search_of(protocol.as_str(), nodes.as_str(), side.as_str())),
+        [protocol, nodes, number] => {
+            let (nodes, number) = (nodes.as_str(), number.as_str());
+            if protocol.as_str() == "chart" {
+                return Ok(chart_of(nodes, number));
+            }
+            Ok(search_of(protocol.as_str(), nodes, number))
+        }
         _ => Ok(None),
     }
 }
@@ -90,6 +102,14 @@ fn search_of(protocol: &str, nodes: &str, side: &str) -> Option<AgentChoice>
         nodes: number_of(nodes, MIN_NODES, MAX_NODES)?,
         side: number_of(side, 0, 1)?,
     })
+}
+
+fn chart_of(nodes: &str, links: &str) -> Option<AgentChoice>
+    ensures { result ≡ entrants.chart_in nodes.now links.now }
+{
+    let nodes = number_of(nodes, MIN_NODES, MAX_NODES)?;
+    let told = Told::Links(number_within(1, u32::MAX, links)?);
+    Some(AgentChoice::Chart(NetworkFacts { nodes, told }))
 }
 
 fn protocol_of(word: &str) -> Option<Protocol>

@@ -45,7 +45,7 @@ pub record HasPlaces (net : Network) (home hole : ℕ) (chart : Chart) (place : 
   pub safe : (i : ℕ) → i < length chart → place i ≢ hole
 
 -- the path of a row with a father
-path_on : (chart : Chart) (fuel row : ℕ) → path_to chart (suc fuel) (suc row)
+pub path_on : (chart : Chart) (fuel row : ℕ) → path_to chart (suc fuel) (suc row)
     ≡ path_to chart fuel (row_at chart (suc row)).father ++ (row_at chart (suc row)).port ∷ []
 path_on chart fuel row = cond-false (suc row == 0) [] (path_to chart fuel (row_at chart (suc row)).father
     ++ (row_at chart (suc row)).port ∷ []) (ne_eqb (suc row) 0 (omega arith))

@@ -24,3 +24,4 @@ pub mod ChartSettles
 pub mod ChartLemmas
 pub mod PortCounts
 pub mod ExactlyLemmas
+pub mod ProgramLemmas

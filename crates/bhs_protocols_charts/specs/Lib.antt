@@ -4,3 +4,4 @@ pub mod Told
 pub mod ChartLaws
 pub mod Exactly
 pub mod Square
+pub mod Programs

@@ -2,4 +2,8 @@
 
 #![tactic(auto)]
 
+pub mod charting;
+pub mod charts;
+pub mod deciding;
 pub mod laws;
+pub mod memories;

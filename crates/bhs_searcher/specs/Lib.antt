@@ -5,3 +5,4 @@ pub mod Protocols
 pub mod Searchers
 pub mod Talks
 pub mod Transcripts
+pub mod Charters

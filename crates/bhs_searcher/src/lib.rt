@@ -1,6 +1,7 @@
 //! Agents as clients of a server: those that run a protocol that is proved for every size, and WebAssembly modules.
 #![tactic(auto)]
 
+mod chart_agent;
 mod commands;
 mod laws;
 mod module_agent;
@@ -9,6 +10,7 @@ mod protocol_agent;
 mod replies;
 mod searchers;
 
+pub use chart_agent::ChartAgent;
 pub use commands::line_of;
 pub use laws::{replies_are_read, writes_have_this_length};
 pub use module_agent::ModuleAgent;

@@ -65,7 +65,7 @@ pub enum PlayFault {
     Refused(Why),
     #[error("a line of the server is no reply")]
     Line,
-    #[error("the ring has too many nodes, or a whiteboard a strange mark")]
+    #[error("the network has too many nodes, or a whiteboard a strange text")]
     Size,
     #[error("memory ran out")]
     Memory,

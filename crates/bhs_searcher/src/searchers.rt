@@ -5,6 +5,7 @@ ghost use Rattle.bhs_schedules.specs.Strategies.{History, Strategy};
 ghost use Rattle.bhs_searcher.specs.Searchers.{KeepsTo, observation_of};
 
 use bhs_model::{Reply, Why};
+use bhs_protocols_charts::charts::ChartFault;
 use bhs_schedules::{Step, TeamFault};
 use std::alloc::{AllocError, AllocFailed};
 
@@ -37,7 +38,7 @@ pub trait Searcher {
 /// Why an agent cannot go on.
 #[derive(Clone, Copy, Debug, PartialEq, Eq)]
 pub enum SearcherFault {
-    /// A number has come to 4,094 or more: the ring has too many nodes, or a whiteboard has a strange mark.
+    /// A number has come to 4,094 or more: the network has too many nodes, or a whiteboard has a strange text.
     Size,
     /// Its protocol knows no refusals.
     Refused(Why),
@@ -54,6 +55,16 @@ impl From<AllocError> for SearcherFault {
 impl<T: Drop> From<AllocFailed<T>> for SearcherFault {
     fn from(_refused: AllocFailed<T>) -> SearcherFault {
         SearcherFault::Memory
+    }
+}
+
+/// A chart is not written only if a number is too large, or memory is lacking.
+impl From<ChartFault> for SearcherFault {
+    fn from(fault: ChartFault) -> SearcherFault {
+        match fault {
+            ChartFault::TooLarge => SearcherFault::Size,
+            ChartFault::Memory => SearcherFault::Memory,
+        }
     }
 }
 

@@ -10,17 +10,19 @@ from typing import Any, Dict, List, NamedTuple, Sequence
 
 from arena_lab.play import schedulers
 from arena_lab.play.schedulers import Choice, MatchView, Scheduler
-from arena_lab.play.teams import OUTSIDE, AgentWords
+from arena_lab.play.teams import INSIDE, OUTSIDE, AgentWords
 from arena_lab.rules.fixtures import Fixture, fixture_of
 from arena_lab.rules.model import Setup
-from arena_lab.rules.networks import Network, ring
+from arena_lab.rules.networks import Network, drawn as drawn_network, ring
 from tests.integration.play.test_halves import SEARCHES, fixture
+from tests.program.unmapped_networks import QUOTA, Search
 from tests.support.matches import TOP, InFolder, flipped_ring, program, two, under
 from tests.support.servers import HOST, Server
 from tests.support.tournaments import write_cup
 
 PLAYER = TOP / "crates" / "bhs_player" / "out" / "bhs_player"
 MODULE = TOP / "examples" / "agents" / "wasm" / "ring.wasm"
+CHART = TOP / "examples" / "agents" / "chart.py"
 SIZES = (3, 4, 5, 8, 13, 16)
 # rings of which every schedule is tried
 SMALL = (3, 4, 5, 8)
@@ -28,8 +30,9 @@ SMALL = (3, 4, 5, 8)
 # a contest has for each search
 DRAWN = 12
 SERVED = 28
-# how many matches of each are played by modules
+# how many matches of each are played by modules, and by agents that draw a chart
 MODULES = 4
+CHARTS = 6
 # the schedulers of `explore`
 EXPLORED = ("fair", "slow-agents", "last-departed", "starved")
 # seconds within which a contest must end
@@ -67,6 +70,20 @@ def searched(name: str, chance: random.Random) -> Game:
     return Game(
         network, fixture(network, hole, home, bounds.commands), runs, bounds.moves
     )
+
+
+def charted(chance: random.Random) -> Game:
+    """A match on a drawn network, with the least whiteboards, and one agent more than
+    the black hole has links."""
+    network = drawn_network(chance)
+    home, hole = chance.sample(range(network.nodes), 2)
+    search = Search(network, home, hole, len(network.links))
+    count = search.degree + 1
+    setup = Setup(
+        network.nodes, network.links, home, [hole], count, QUOTA, search.board
+    )
+    runs = [f"chart {network.nodes} {search.links}"] * count
+    return Game(network, fixture_of(setup), runs, search.most_moves(count))
 
 
 def following(schedule: Sequence[int]) -> Scheduler:
@@ -129,6 +146,22 @@ class Players(InFolder):
                                 maker(seed), game.fixture, two(name, "{nodes}")
                             ).replay,
                         )
+
+    def test_they_draw_the_charts_that_agents_in_python_draw(self) -> None:
+        for scheduler, maker in sorted(schedulers.NAMED.items()):
+            for seed in range(CHARTS):
+                game = charted(random.Random(f"chart {scheduler} {seed}"))
+                with self.subTest(game.runs[0], scheduler=scheduler, seed=seed):
+                    found = under(
+                        maker(seed), game.fixture, agents(game.runs), seconds=20
+                    )
+                    self.assertFalse(found.has_failed(), found.faults)
+                    self.assertLessEqual(found.verdict().moves, game.moves)
+                    words = AgentWords(INSIDE, f"{CHART} {{nodes}} {{links}}")
+                    python = [words] * len(game.runs)
+                    self.assertEqual(
+                        found.replay, under(maker(seed), game.fixture, python).replay
+                    )
 
     def test_modules_solve_what_they_are_proved_to_solve(self) -> None:
         for scheduler, maker in sorted(schedulers.NAMED.items()):

@@ -1,0 +1,89 @@
+//! What an agent that searches by a chart holds.
+
+use crate::charts::FoundNode;
+use bhs_text::Text;
+use std::collections::VecDeque;
+
+/// By what agents can tell how many links the black hole has.
+#[derive(Clone, Copy, Debug, PartialEq, Eq)]
+pub enum Told {
+    /// The network has this number of links.
+    Links(u32),
+    /// No node has more than three links, and the black hole has two or three.
+    Parity,
+    /// All nodes have this number of links.
+    Degree(u16),
+}
+
+/// What agents know of the network.
+#[derive(Clone, Copy, Debug, PartialEq, Eq)]
+pub struct NetworkFacts {
+    pub nodes: u16,
+    pub told: Told,
+}
+
+/// A port of the chart, by its row and its number there.
+#[derive(Clone, Copy, Debug, PartialEq, Eq)]
+pub struct Claim {
+    pub row: usize,
+    pub port: u16,
+}
+
+/// What an agent has seen of a node: the number of its ports and the text on its whiteboard.
+#[derive(Debug, Drop)]
+pub struct NodeSight {
+    pub ports: u16,
+    pub text: Text,
+}
+
+/// What an agent has to report at the home base: the port that it has crossed, what it has found behind that, and what
+/// it sees here.
+#[derive(Debug, Drop)]
+pub struct Report {
+    pub claim: Claim,
+    pub found: Option<FoundNode>,
+    pub seen: NodeSight,
+}
+
+/// What an agent is about, and what it holds for that.
+#[derive(Debug, Drop)]
+pub enum Memory {
+    /// It has not entered.
+    Begins,
+    /// It sleeps at the home base, since no port is free.
+    Waits(NodeSight),
+    /// It has woken, and looks at the home base's whiteboard.
+    Looks,
+    /// It writes that it claims a port.
+    Claims {
+        seen: NodeSight,
+        claim: Claim,
+    },
+    /// It goes to the port that it has claimed, and crosses it.
+    GoesOut {
+        claim: Claim,
+        ahead: VecDeque<u16>,
+        behind: VecDeque<u16>,
+    },
+    /// It writes a name on the whiteboard of a new node.
+    Names {
+        claim: Claim,
+        ports: u16,
+        behind: VecDeque<u16>,
+    },
+    /// It goes back to the home base.
+    GoesBack {
+        claim: Claim,
+        found: Option<FoundNode>,
+        behind: VecDeque<u16>,
+    },
+    /// It writes what it has found.
+    Reports(Report),
+    /// It goes to a port that leads to the black hole.
+    GoesToAccuse {
+        port: u16,
+        ahead: VecDeque<u16>,
+    },
+    /// It has accused.
+    Ends,
+}
