@@ -1,42 +1,16 @@
 -- What the loops of the program keep: what is left of a list, of a text and of a path.
-use Rattle.std.proofs.Common.{ℕ, zero, suc, ◌+◌, ◌-◌, ◌<◌, ◌≤◌, ◌≡◌, ◌≢◌, Bool, Some, inl, inr}
-use Rattle.std.proofs.Common.{List, [], ◌∷◌, ◌++◌, length, take, drop, refl, sym, ap, ◌∙◌, arith, add-one}
+use Rattle.std.proofs.Common.{ℕ, zero, suc, ◌+◌, ◌-◌, ◌<◌, ◌≤◌, ◌≡◌, ◌≢◌, inl, inr}
+use Rattle.std.proofs.Common.{List, [], ◌∷◌, ◌++◌, length, take, drop, refl, sym, ap, ◌∙◌, arith}
 use Rattle.std.proofs.Common.{append_assoc, sub-one, get_or, drop-drop}
-use Rattle.std.specs.Prelude.{if◌then◌else◌, min, count_by}
+use Rattle.std.specs.Prelude.{min, count_by}
 use Rattle.std.proofs.Math.Seq.{take-length}
 use Rattle.std.proofs.lemmas.Bool.{cases_lt}
 use Rattle.std.proofs.lemmas.List.{length-drop, length-map, length-take, take_all, drop_all}
 use Rattle.std.proofs.lemmas.List.Sums.{sum_by-cons, count_by-le-length}
-use Rattle.bhs_protocols_charts.specs.Charts.{Chart, ChartRow, ends_of, open_ends_of, first_port, first_end, or_later}
+use Rattle.bhs_protocols_charts.specs.Charts.{Chart, ChartRow, ends_of, open_ends_of}
 use Rattle.bhs_protocols_charts.specs.Charts.{is_open, rows_in, value, path_to, row_at}
 use Rattle.bhs_protocols_charts.specs.Programs.{row_read}
 use Rattle.bhs_protocols_charts.proofs.ChartPaths.{path_on}
-
--- ---- the first port
-
-first_port_next : (test : ℕ → Bool) (states : List ℕ) (at port d : ℕ) → at < length states
-    → first_port test (drop at states) port
-    ≡ (if test (get_or states at d) then Some port else first_port test (drop (suc at) states) (port + 1))
-first_port_next test [] at port d within = absurd (omega arith)
-first_port_next test (state ∷ states) zero port d within = refl
-first_port_next test (state ∷ states) (suc at) port d within = first_port_next test states at port d (omega arith)
-
-pub first_port_here : (test : ℕ → Bool) (states : List ℕ) (at port d : ℕ) → at < length states
-    → first_port test (drop at states) port
-    ≡ (if test (get_or states at d) then Some port else first_port test (drop (at + 1) states) (port + 1))
-first_port_here test states at port d within = rw (add-one at) (first_port_next test states at port d within)
-
-first_end_next : (test : ℕ → Bool) (chart : Chart) (at row : ℕ) (d : ChartRow) → at < length chart
-    → first_end test (drop at chart) row
-    ≡ or_later row (first_port test (get_or chart at d).states 0) (first_end test (drop (suc at) chart) (row + 1))
-first_end_next test [] at row d within = absurd (omega arith)
-first_end_next test (it ∷ chart) zero row d within = refl
-first_end_next test (it ∷ chart) (suc at) row d within = first_end_next test chart at row d (omega arith)
-
-pub first_end_here : (test : ℕ → Bool) (chart : Chart) (at row : ℕ) (d : ChartRow) → at < length chart
-    → first_end test (drop at chart) row
-    ≡ or_later row (first_port test (get_or chart at d).states 0) (first_end test (drop (at + 1) chart) (row + 1))
-first_end_here test chart at row d within = rw (add-one at) (first_end_next test chart at row d within)
 
 -- ---- paths
 
@@ -48,11 +22,6 @@ path_here chart (suc fuel) zero ports some other = absurd (other refl)
 path_here chart (suc fuel) (suc at) ports some other =
     let row : ChartRow = row_at chart (suc at) in
     rw (sub-one, path_on chart fuel at) (append_assoc (path_to chart fuel row.father) (row.port ∷ []) ports)
-
-pub path_ends : (chart : Chart) (fuel at : ℕ) → at ≡ 0 → path_to chart fuel at ≡ []
-path_ends chart zero at home = refl
-path_ends chart (suc fuel) zero home = refl
-path_ends chart (suc fuel) (suc at) home = absurd (omega arith)
 
 -- ---- texts
 
