@@ -35,7 +35,7 @@ use Rattle.bhs_protocols_charts.proofs.ChartTurns.{M, new_of, quietly, kept, roo
 use Rattle.bhs_protocols_charts.proofs.ChartTurns.{Rewakes, after_as, told_rewakes, commands_as, turns_as, way_as}
 use Rattle.bhs_protocols_charts.proofs.ChartHome.{three, claim_end, claim_small, late_claim}
 
--- what is owed unless a test passes
+-- k, unless the test passes
 abbrev unless : Bool → (k : ℕ) → ℕ
 unless test k = if test then 0 else k
 
@@ -209,7 +209,7 @@ module _ (game : Game) where
           subst (λ (k : ℕ). port < k) (sym ports_are) r.holds.has in
           let few = report_fits game inv.charted.drawn (chart_of count text) row port found r.past r.known has r.safe
           r.finds in
-          let board = can.board in
+          let board = can.enough.board in
           omega (arith, few, board)
 
       space : configuration.used agent < terms.quota

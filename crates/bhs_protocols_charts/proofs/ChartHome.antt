@@ -190,7 +190,7 @@ module _ (game : Game) where
         let end = claim_end count text row port is in
         let few =
         claim_fits game inv.charted.drawn (chart_of count text) row port claimed placed.3 end.within end.has in
-        let board = can.board in
+        let board = can.enough.board in
         omega (arith, few, board)
 
     pub late_claim : (count : ℕ) (text : List ℕ) (row port : ℕ) → mine ≡ Claims count text row port

@@ -138,13 +138,13 @@ module _ (game : Game) where
 
   -- ---- what others owe after a turn
 
-  -- the whiteboard of the home base shows what it showed, and who stands there has woken as often; or the turn pays for
-  -- what others have to do again
+  -- The whiteboard of the home base shows the same text, and an agent that stands there has woken as often. Or the turn
+  -- pays for what others have to do again.
   abbrev pub IsQuietFor : (rise woken woken_now : ℕ) → (text text_now : List ℕ) → Position → Type 0
   IsQuietFor rise woken woken_now text text_now position =
       ((text_now ≡ text) × (IsAt game home position → woken_now ≡ woken)) ⊎ (rise ≡ refill game)
 
-  -- what is owed where the whiteboard shows another text than this
+  -- k, unless the whiteboard shows this text
   abbrev choice : (k : ℕ) → (text shown : List ℕ) → ℕ
   choice k text shown = if bytes_eq shown text then 0 else k
 
@@ -211,7 +211,7 @@ module _ (game : Game) where
     pub other_woken : (k : ℕ) → (k == agent) ≡ false → IsAt game home (old.position k)
         → new.woken k ≡ (if bytes_eq (old.shown home) (new.shown home) then old.woken k else 0)
 
-  -- who is at home and has woken has woken as often as before, as the text is the same
+  -- If an agent at home has woken since the last change, the text is the same, and it has woken as often as before.
   wakes_alike : (old new : List ℕ) (woken woken_now : ℕ) → woken_now ≡ (if bytes_eq old new then woken else 0)
       → 0 < woken_now → (new ≡ old) × (woken_now ≡ woken)
   wakes_alike old new woken woken_now is some = by_cases (bytes_eq old new) ((new ≡ old) × (woken_now ≡ woken))

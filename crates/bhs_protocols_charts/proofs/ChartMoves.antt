@@ -66,7 +66,7 @@ module _ (game : Game) {configuration : Configuration} {left : ℕ} (inv : Inv g
       let owes = commands_as game inv agent within it place is at in
       room game inv agent within (omega (arith, some, owes))
 
-  -- what it does costs so much, and so it owes so much less
+  -- The agent owes less by what this turn costs.
   pub record Pays (it after : Charting) (place there : Position) (cost moved : ℕ) : Type 0 where
     pub way : way_left game after there + moved ≤ way_left game it place
     pub commands : commands_left game (new.woken agent) (shown home) after there + cost
@@ -138,13 +138,13 @@ module _ (game : Game) {configuration : Configuration} {left : ℕ} (inv : Inv g
       says_moves (trial_of game) configuration agent within (At node at.came) command at.at refl
       (says_as game inv agent within it is (ap is_bound at.at) ∙ says)
 
-  -- who is on a link can if that does not lead to the black hole
+  -- An agent on a link has a turn if the link does not lead to the black hole ..
   pub link_moves : (node port : ℕ) → here ≡ Bound node port → (far game node port).0 ≢ hole
       → can_move_in (trial_of game) configuration agent ≡ true
   link_moves node port at safe =
       bound_moves (trial_of game) configuration agent within node port at refl ∙ ap not (spared game node port safe)
 
-  -- and only if it does not
+  -- .. and only then.
   pub moves_safe : (node port : ℕ) → here ≡ Bound node port → can_move_in (trial_of game) configuration agent ≡ true
       → (far game node port).0 ≢ hole
   moves_safe node port at moves same =

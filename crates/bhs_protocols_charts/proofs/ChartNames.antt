@@ -17,7 +17,7 @@ module _ (game : Game) where
   pub name_fits : 4 ≤ terms.board
   name_fits =
       let few : 3 ≤ size game = can.network.labelled.few in
-      let board = can.board in
+      let board = can.enough.board in
       omega (arith, few, board)
 
   module _ {chart : Chart} {place : ℕ → ℕ} {shown : ℕ → List ℕ} {reached : ℕ → Bool}

@@ -33,14 +33,16 @@ pub record Game : Type 0 where
   pub hole : ℕ
   pub can : CanSearch net terms tells home hole
 
--- what is at least 1 of the states of ports, and what they come to
+-- 1 for a port that somebody has claimed, also once it is done
 abbrev pub taken_by : (state : ℕ) → ℕ
 taken_by zero = 0
 taken_by (suc state) = 1
 
+-- how many ports have been claimed
 abbrev pub taken : Chart → ℕ
 taken chart = sum_by (λ row. sum_by taken_by row.states) chart
 
+-- how often ports have changed their state
 abbrev pub changes : Chart → ℕ
 changes chart = sum_by (λ row. sum_by (λ state. state) row.states) chart
 

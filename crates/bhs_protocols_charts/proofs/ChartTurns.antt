@@ -119,7 +119,7 @@ module _ (game : Game) where
     room some =
         let used = fit.used in
         let few : paid game inv.chart ≤ most_paid game = paid_few game inv.charted.drawn in
-        let quota : most_paid game + (size game + terms.wakeups) ≤ terms.quota = can.quota in
+        let quota : most_paid game + (size game + terms.wakeups) ≤ terms.quota = can.enough.quota in
         omega (arith, used, few, quota, some)
 
     pub placed_as : (it : Charting) → M ≡ it
@@ -135,7 +135,7 @@ module _ (game : Game) where
         → (trial_of game).strategies agent (configuration.history agent) ≡ does_in it
     says_as it is here = cond-false _ _ _ (fit.waits ∙ here) ∙ ap does_in is
 
-    -- what it owes, by what it is about and where it is
+    -- the commands and turns that the agent still owes, by its duty and its position
     pub commands_as : (it : Charting) (place : Position) → M ≡ it → configuration.position agent ≡ place
         → commands_of game configuration agent
         ≡ commands_left game (configuration.woken agent) (configuration.shown home) it place

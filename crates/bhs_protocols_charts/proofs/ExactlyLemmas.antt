@@ -18,8 +18,9 @@ use Rattle.bhs_protocols_unmapped.proofs.UnmappedLemmas.{many_agents_are_needed_
 use Rattle.bhs_protocols_unmapped.proofs.UnmappedLemmas.{many_agents_are_needed_to_find_with_links}
 use Rattle.bhs_protocols_unmapped.proofs.UnmappedLemmas.{many_agents_are_needed_with_links}
 use Rattle.bhs_protocols_charts.specs.Charting.{charters}
-use Rattle.bhs_protocols_charts.specs.ChartLaws.{CanSearch, chart_trial, chart_bounds, chart_commands, chart_moves}
-use Rattle.bhs_protocols_charts.specs.Exactly.{CanChart, chart_limits, LinksSuffice, ThreeLinksSuffice}
+use Rattle.bhs_protocols_charts.specs.ChartLaws.{CanChart, CanSearch, chart_trial, chart_bounds, chart_commands}
+use Rattle.bhs_protocols_charts.specs.ChartLaws.{chart_moves}
+use Rattle.bhs_protocols_charts.specs.Exactly.{chart_limits, LinksSuffice, ThreeLinksSuffice}
 use Rattle.bhs_protocols_charts.specs.Exactly.{RegularNetworksSuffice, ExactlyFour, ExactlyFourFind, ExactlyOneMore}
 use Rattle.bhs_protocols_charts.specs.Exactly.{ExactlyOneMoreFinds}
 use Rattle.bhs_protocols_charts.specs.Told.{by_links, by_parity, by_degree}
@@ -59,9 +60,11 @@ solved net terms tells home hole nodes ports is size home_within hole_within apa
       apart = apart;
       told = told;
       agents = agents;
-      board = omega (arith, size, few, can.board);
-      quota = subst (λ (n : ℕ). chart_commands n (ports_beside net hole) terms.wakeups ≤ terms.quota) (sym size)
-          (omega (arith, commands_grow nodes (ports_beside net hole) ports terms.wakeups few, can.quota));
+      enough = record {
+        board = omega (arith, size, few, can.board);
+        quota = subst (λ (n : ℕ). chart_commands n (ports_beside net hole) terms.wakeups ≤ terms.quota) (sym size)
+            (omega (arith, commands_grow nodes (ports_beside net hole) ports terms.wakeups few, can.quota));
+      };
     }
 
     it : IsSolved (chart_trial net terms tells home hole) (chart_bounds net terms hole)

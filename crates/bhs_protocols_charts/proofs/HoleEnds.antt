@@ -34,7 +34,7 @@ counted_once test n value one = omega (
   mul-le-mul_right value (at_most_one test n one),
 )
 
--- places that differ have together at most what all nodes have
+-- Different places have together no more than all nodes.
 differing : (f place : ℕ → ℕ) (rows nodes : ℕ) → ((i : ℕ) → i < rows → place i < nodes)
     → ((i j : ℕ) → i < rows → j < rows → place i ≡ place j → i ≡ j)
     → total (λ i. f (place i)) rows ≤ total f nodes
@@ -57,7 +57,7 @@ differing f place rows nodes within apart = omega (
     at_node node low = counted_once (λ i. place i == node) rows (f node) (λ i j below under one other.
         apart i j below under (eqb-true (place i) node one ∙ sym (eqb-true (place j) node other)))
 
--- places of which each node is one have together at least what all nodes have
+-- If each node is one of the places, these have together no less than all nodes.
 covering : (f place : ℕ → ℕ) (rows nodes : ℕ)
     → ((node : ℕ) → node < nodes → (i : ℕ) × (i < rows) × (place i ≡ node))
     → total f nodes ≤ total (λ i. f (place i)) rows
@@ -98,7 +98,7 @@ module _ (nodes hole : ℕ) (within : hole < nodes) (place : ℕ → ℕ) (rows 
   with_hole_apart (suc i) zero low below same = absurd (are.safe i (omega arith) same)
   with_hole_apart (suc i) (suc j) low below same = ap suc (are.apart i j (omega arith) (omega arith) same)
 
-  -- what they have together, and the hole has, all nodes have at least
+  -- The places and the hole have together no more than all nodes.
   pub places_have : (f : ℕ → ℕ) → total (λ i. f (place i)) rows + f hole ≤ total f nodes
   places_have f = omega (
     arith,
@@ -106,11 +106,11 @@ module _ (nodes hole : ℕ) (within : hole < nodes) (place : ℕ → ℕ) (rows 
     total_first (λ i. f (with_hole hole place i)) rows,
   )
 
-  -- they are fewer than the nodes
+  -- There are fewer places than nodes.
   pub places_few : rows + 1 ≤ nodes
   places_few = omega (arith, places_have (λ k. 1), total_constant 1 rows, total_constant 1 nodes)
 
-  -- if they are all nodes but the hole, each other node is one of them
+  -- If one place fewer than nodes is given, each node but the hole is a place.
   pub all_places : rows + 1 ≡ nodes → (node : ℕ) → node < nodes → node ≢ hole → (i : ℕ) × (i < rows) × (place i ≡ node)
   all_places all node low other =
       let found = some_fails (λ i. not (place i == node)) rows few in
@@ -134,7 +134,7 @@ module _ (nodes hole : ℕ) (within : hole < nodes) (place : ℕ → ℕ) (rows 
         one_is nodes node low,
       )
 
-  -- places of which each other node is one are, with the hole, all nodes
+  -- If every node but the hole is a place, the places and the hole are all nodes.
   with_hole_all : ((node : ℕ) → node < nodes → node ≢ hole → (i : ℕ) × (i < rows) × (place i ≡ node))
       → (node : ℕ) → node < nodes → (i : ℕ) × (i < suc rows) × (with_hole hole place i ≡ node)
   with_hole_all all node low = ⊎_elim
@@ -143,7 +143,7 @@ module _ (nodes hole : ℕ) (within : hole < nodes) (place : ℕ → ℕ) (rows 
       (suc found.0, (let below : found.0 < rows = found.1 in omega arith), found.2))
       (cases_eq node hole)
 
-  -- and they have, with the hole, just what all nodes have
+  -- Then they have together just what all nodes have.
   pub all_have : rows + 1 ≡ nodes → (f : ℕ → ℕ) → total (λ i. f (place i)) rows + f hole ≡ total f nodes
   all_have all f = omega (
     arith,

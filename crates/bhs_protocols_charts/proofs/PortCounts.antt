@@ -13,7 +13,7 @@ pub record IsEven (number : ℕ) : Type 0 where
   pub half : ℕ
   pub is : number ≡ 2 * half
 
--- what is the same for two numbers in either order, and nothing for a number and itself, comes to an even number
+-- The total over all pairs is even if a pair counts the same in either order, and a number with itself counts 0.
 even_total : (f : ℕ → ℕ → ℕ) (n : ℕ) → ((i j : ℕ) → f i j ≡ f j i) → ((i : ℕ) → i < n → f i i ≡ 0)
     → IsEven (total (λ j. total (λ i. f i j) n) n)
 even_total f zero same none = record { half = 0; is = refl }

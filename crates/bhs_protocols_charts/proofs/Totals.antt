@@ -132,7 +132,7 @@ some_fails test (suc n) few = ⊎_elim
     (λ no. (n, omega arith, no))
     (cases_Bool (test n))
 
--- who pass a test have labels that differ, so they are at most as many as labels
+-- If the numbers that pass a test have different labels, they are no more than the labels.
 pub few_labels : (test : ℕ → Bool) (label : ℕ → ℕ) (n labels : ℕ) → ((k : ℕ) → k < n → test k ≡ true → label k < labels)
     → ((i j : ℕ) → i < n → j < n → test i ≡ true → test j ≡ true → label i ≡ label j → i ≡ j)
     → total (λ k. one_if (test k)) n ≤ labels

@@ -15,9 +15,9 @@ abbrev pub chart_trial : Network → Limits → (tells : ℕ → ℕ) → (home 
 chart_trial net terms tells home hole =
     played_on (network_of net) terms (strategies_by (charters (nodes_of net) tells)) home hole
 
--- ---- what it costs on a network of n nodes, where the nodes other than the black hole have so many ports together
+-- ---- the costs on a network of this number of nodes; `ports` are those of all nodes but the black hole together
 
--- a trip to a port of each node and back; and each agent goes to accuse
+-- For each port a trip through it and back; then each agent goes to a link to accuse it.
 abbrev pub chart_moves : (nodes ports agents : ℕ) → ℕ
 chart_moves nodes ports agents = 2 * (nodes - 1) * ports + agents * (nodes - 2)
 
@@ -41,8 +41,14 @@ chart_bounds net terms hole = record {
   turns = chart_turns (nodes_of net) (ports_beside net hole) terms.agents terms.wakeups;
 }
 
+-- The quota and the whiteboards suffice for networks with this number of nodes, where all nodes but the black hole
+-- have at most this number of ports together.
+pub record CanChart (nodes ports : ℕ) (terms : Limits) : Type 0 where
+  pub board : 6 * (nodes - 1) + ports ≤ terms.board
+  pub quota : chart_commands nodes ports terms.wakeups ≤ terms.quota
+
 -- Agents can search a network for this black hole: they are more than it has links, and can tell how many these are;
--- the quota suffices, and the whiteboards hold the chart.
+-- the quota and the whiteboards suffice.
 pub record CanSearch (net : Network) (terms : Limits) (tells : ℕ → ℕ) (home hole : ℕ) : Type 0 where
   pub network : IsNetwork net
   pub start : home < nodes_of net
@@ -50,8 +56,7 @@ pub record CanSearch (net : Network) (terms : Limits) (tells : ℕ → ℕ) (hom
   pub apart : hole ≢ home
   pub told : tells (ports_beside net hole) ≡ degree_of net hole
   pub agents : degree_of net hole < terms.agents
-  pub board : 6 * (nodes_of net - 1) + ports_beside net hole ≤ terms.board
-  pub quota : chart_commands (nodes_of net) (ports_beside net hole) terms.wakeups ≤ terms.quota
+  pub enough : CanChart (nodes_of net) (ports_beside net hole) terms
 
 -- They solve the match under every schedule, whatever the network is: they are told its number of nodes, and no more
 -- than `tells`.

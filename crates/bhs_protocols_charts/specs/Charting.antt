@@ -13,9 +13,9 @@ use Rattle.bhs_protocols.specs.Programs.{Program}
 use Rattle.bhs_protocols_charts.specs.Charts.{Chart, ChartRow, claimed, new_row, with_state, reported, path, first_end}
 use Rattle.bhs_protocols_charts.specs.Charts.{is_free, is_open, is_sure, name_of, row_named, text_of, chart_of}
 
--- What an agent is about, and what it holds for that: at the home base the number of ports there and the text that it
--- has seen on the whiteboard, of a trip the port that it has claimed, the ports that are ahead of it and those by which
--- it goes back, and what it has found behind that port.
+-- What an agent is about, with what it holds for that. At the home base it holds the number of ports and the text on
+-- the whiteboard. On a trip it holds the port that it has claimed, the ports ahead, the ports by which it goes back,
+-- and what it has found.
 pub data Charting : Type 0 where
   Begins : Charting
   Waits : (ports : ℕ) → (text : List ℕ) → Charting

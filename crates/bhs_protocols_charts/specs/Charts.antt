@@ -15,7 +15,7 @@ pub record ChartRow : Type 0 where
 abbrev pub Chart : Type 0
 Chart = List ChartRow
 
--- Of a port: nobody has claimed it; an agent is about to cross it, or has, and has not come back; it has come back.
+-- The state of a port: nobody has claimed it; the agent that claimed it has not come back; that agent has come back.
 abbrev pub free : ℕ
 free = 0
 
@@ -51,7 +51,7 @@ is_same_name one other = one.father == other.father && one.port == other.port
 abbrev pub has_row : Chart → ChartRow → Bool
 has_row chart row = list_any (is_same_name row) (drop 1 chart)
 
--- the chart with the row of a node that was found, if it lacks that
+-- the chart with a row for the node that was found
 abbrev pub joined : Chart → (found : Option ChartRow) → Chart
 joined chart None = chart
 joined chart (Some row) = if has_row chart row then chart else chart ++ row ∷ []
@@ -114,8 +114,8 @@ abbrev pub name_of : (father port : ℕ) → List ℕ
 name_of father port =
     (32 + father / 64) ∷ (32 + father % 64) ∷ (32 + port / 64) ∷ (32 + port % 64) ∷ []
 
--- the row of a node with this number of ports, by the text on its whiteboard; a text of another length is the home
--- base's, and that has a row
+-- The row of a node with this number of ports, by the text on its whiteboard. A text of another length is the home
+-- base's, which has a row from the beginning.
 abbrev pub row_named : (ports : ℕ) → List ℕ → Option ChartRow
 row_named ports (a ∷ b ∷ c ∷ d ∷ []) = Some (new_row (value a b) (value c d) ports)
 row_named ports text = None

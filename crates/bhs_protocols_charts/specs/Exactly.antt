@@ -10,16 +10,10 @@ use Rattle.bhs_protocols.specs.Programs.{strategies_by}
 use Rattle.bhs_protocols.specs.Sizes.{Limits, played_on}
 use Rattle.bhs_protocols_unmapped.specs.Unmapped.{SolvesNetworks, SolvesWithLinks, FindsOnNetworks, FindsWithLinks}
 use Rattle.bhs_protocols_charts.specs.Charting.{charters}
-use Rattle.bhs_protocols_charts.specs.ChartLaws.{chart_commands}
+use Rattle.bhs_protocols_charts.specs.ChartLaws.{CanChart, chart_commands}
 use Rattle.bhs_protocols_charts.specs.Told.{by_links, by_parity, by_degree}
 
--- The quota and the whiteboards suffice for networks with this number of nodes, where all nodes but the black hole
--- have at most this number of ports together.
-pub record CanChart (nodes ports : ℕ) (terms : Limits) : Type 0 where
-  pub board : 6 * (nodes - 1) + ports ≤ terms.board
-  pub quota : chart_commands nodes ports terms.wakeups ≤ terms.quota
-
--- a number of agents, with no more than that quota and those whiteboards
+-- so many agents, with just the quota and the whiteboards that suffice
 abbrev pub chart_limits : (nodes ports agents wakeups : ℕ) → Limits
 chart_limits nodes ports agents wakeups = record {
   agents = agents;

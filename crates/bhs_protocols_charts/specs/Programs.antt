@@ -8,7 +8,7 @@ use Rattle.bhs_model.specs.declared.commands.Command.TheVariants.{Depart, Write}
 use Rattle.bhs_schedules.specs.declared.answers.Step.{Step}
 use Rattle.bhs_schedules.specs.declared.answers.Step.TheVariants.{Says}
 use Rattle.bhs_protocols_charts.specs.declared.memories.Told.{Told}
-use Rattle.bhs_protocols_charts.specs.declared.memories.Told.TheVariants.{Links, Parity, Degree}
+use Rattle.bhs_protocols_charts.specs.declared.memories.Told.TheVariants.{Links, Parity}
 use Rattle.bhs_protocols_charts.specs.declared.memories.Memory.{Memory}
 use Rattle.bhs_protocols_charts.specs.declared.memories.Report.{Report}
 use Rattle.bhs_protocols_charts.specs.declared.memories.Memory.TheVariants as held
@@ -16,7 +16,7 @@ use Rattle.bhs_protocols_charts.specs.Charts.{Chart, ChartRow, new_row, is_free,
 use Rattle.bhs_protocols_charts.specs.Charts.{reported}
 use Rattle.bhs_protocols_charts.specs.Charting.{Charting, Begins, Waits, Looks, Claims, GoesOut, Names, GoesBack}
 use Rattle.bhs_protocols_charts.specs.Charting.{Reports, GoesToAccuse, Ends}
-use Rattle.bhs_protocols_charts.specs.Told.{by_links, by_parity, by_degree}
+use Rattle.bhs_protocols_charts.specs.Told.{by_links, by_parity}
 
 -- the ports of this kind, by their states
 abbrev pub test_of : PortKind → (state : ℕ) → Bool
@@ -51,7 +51,6 @@ are_small chart = list_all is_small chart
 abbrev pub tells_of : Told → (ports : ℕ) → ℕ
 tells_of (Links links) = by_links links
 tells_of Parity = by_parity
-tells_of (Degree degree) = by_degree degree
 
 -- what an agent holds that has this to report
 abbrev pub report_of : Report → Charting

@@ -7,7 +7,8 @@ ghost use Rattle.bhs_protocols_charts.specs.Charting as specs;
 ghost use Rattle.bhs_protocols_charts.specs.Programs as programs;
 
 use crate::charts::{
-    ChartFault, FoundNode, NodeRow, chart_of, join, name_of, path, row_named, set_state, text_of,
+    CLAIMED, ChartFault, DONE, FoundNode, NodeRow, chart_of, join, name_of, path, row_named,
+    set_state, text_of,
 };
 use crate::deciding::decides;
 use crate::memories::{Claim, Memory, NetworkFacts, NodeSight, Report};
@@ -16,10 +17,6 @@ use bhs_schedules::Step;
 use bhs_text::Text;
 use std::alloc::{AllocError, Global};
 use std::collections::VecDeque;
-
-const CLAIMED: u8 = 1;
-
-const DONE: u8 = 2;
 
 /// What an agent does next.
 pub fn does(alloc: Global, memory: &Memory) -> Result<Step, ChartFault>

@@ -11,9 +11,14 @@ use std::alloc::{AllocError, Global};
 use std::collections::VecDeque;
 use std::marker::Model;
 
-const FREE: u8 = 0;
+/// The state of a port that nobody has claimed.
+pub const FREE: u8 = 0;
 
-const DONE: u8 = 2;
+/// The state of a port that an agent has claimed, and from which it has not come back.
+pub const CLAIMED: u8 = 1;
+
+/// The state of a port from which an agent has come back.
+pub const DONE: u8 = 2;
 
 /// Why a text cannot be written.
 #[derive(Clone, Copy, Debug, PartialEq, Eq)]

@@ -64,6 +64,5 @@ fn hole_links(told: Told, ports: usize) -> usize
     match told {
         Told::Links(links) => (2 * links as usize).saturating_sub(ports),
         Told::Parity => 2 + ports % 2,
-        Told::Degree(degree) => usize::from(degree),
     }
 }

@@ -11,8 +11,6 @@ pub enum Told {
     Links(u32),
     /// No node has more than three links, and the black hole has two or three.
     Parity,
-    /// All nodes have this number of links.
-    Degree(u16),
 }
 
 /// What agents know of the network.
