@@ -1,11 +1,13 @@
 -- What the words of the command line say: where an agent plays, with which key, and what it runs.
-use Rattle.std.specs.Prelude.{ℕ, List, [], ◌∷◌, Option, Some, None, option_map, option_and_then, codes, if◌then◌else◌}
+use Rattle.std.specs.Prelude.{ℕ, ◌==◌, List, [], ◌∷◌, Option, Some, None, option_map, option_and_then, codes}
+use Rattle.std.specs.Prelude.{if◌then◌else◌}
 use Rattle.std.specs.Str.{bytes_eq}
 use Rattle.bhs_net.specs.declared.faults.TheConstants.{MIN_NODES, MAX_NODES}
 use Rattle.bhs_command_line.specs.Arguments.{number_within}
 use Rattle.bhs_command_line.specs.Exploring.{module_in}
 use Rattle.bhs_protocols_charts.specs.declared.memories.NetworkFacts.{NetworkFacts}
-use Rattle.bhs_protocols_charts.specs.declared.memories.Told.TheVariants.{Links}
+use Rattle.bhs_protocols_charts.specs.declared.memories.Told.{Told}
+use Rattle.bhs_protocols_charts.specs.declared.memories.Told.TheVariants.{Links, Parity}
 use Rattle.bhs_searcher.specs.declared.protocol_agent.Protocol.{Protocol}
 use Rattle.bhs_searcher.specs.declared.protocol_agent.Protocol.TheVariants.{Halves, Shuttle}
 use Rattle.bhs_player.specs.declared.words.AgentChoice.{AgentChoice}
@@ -33,11 +35,15 @@ search_in protocol nodes side =
     option_and_then (λ protocol. option_and_then (λ nodes. option_map (λ side. runs.Protocol protocol nodes side)
     (number_within 0 1 side)) (number_within MIN_NODES MAX_NODES nodes)) (protocol_in protocol)
 
+-- the number of links, or 0 if no node has more than three
+abbrev pub told_by : (links : ℕ) → Told
+told_by links = if links == 0 then Parity else Links links
+
 -- NODES LINKS: the search by a chart of a network with as many nodes as a file may have
 abbrev pub chart_in : (nodes links : List ℕ) → Option AgentChoice
 chart_in nodes links =
-    option_and_then (λ nodes. option_map (λ links. runs.Chart (record { nodes = nodes; told = Links links }))
-    (number_within 1 4294967295 links)) (number_within MIN_NODES MAX_NODES nodes)
+    option_and_then (λ nodes. option_map (λ links. runs.Chart (record { nodes = nodes; told = told_by links }))
+    (number_within 0 4294967295 links)) (number_within MIN_NODES MAX_NODES nodes)
 
 -- what an agent runs: PROTOCOL NODES SIDE, chart NODES LINKS, or --module FILE[:N,..]
 abbrev pub choice_in : List (List ℕ) → Option AgentChoice

@@ -51,7 +51,7 @@ protocol twice, with the sides 0 and 1, and a chart once more than the black hol
   PROTOCOL  halves (the fewest moves) or shuttle (the simplest)
   NODES     how many nodes the ring or the network has, 3 to 4096
   SIDE      0 or 1: the port of the home base behind which the agent begins
-  LINKS     how many links the network has, 1 to 4294967295
+  LINKS     how many links the network has, or 0 if no node has more than three
   FILE      the module's file, and behind a colon its arguments, numbers below 2^32 with commas between them";
 
 /// What the words say, if they are fit.
@@ -108,7 +108,12 @@ fn chart_of(nodes: &str, links: &str) -> Option<AgentChoice>
     ensures { result ≡ entrants.chart_in nodes.now links.now }
 {
     let nodes = number_of(nodes, MIN_NODES, MAX_NODES)?;
-    let told = Told::Links(number_within(1, u32::MAX, links)?);
+    let links = number_within(0, u32::MAX, links)?;
+    let told = if links == 0 {
+        Told::Parity
+    } else {
+        Told::Links(links)
+    };
     Some(AgentChoice::Chart(NetworkFacts { nodes, told }))
 }
 

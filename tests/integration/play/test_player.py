@@ -9,14 +9,23 @@ import unittest
 from typing import Any, Dict, List, NamedTuple, Sequence
 
 from arena_lab.play import schedulers
+from arena_lab.play.repeating import with_repeats
 from arena_lab.play.schedulers import Choice, MatchView, Scheduler
-from arena_lab.play.teams import OUTSIDE, AgentWords
+from arena_lab.play.teams import INSIDE, OUTSIDE, AgentWords
 from arena_lab.rules.fixtures import Fixture, fixture_of
 from arena_lab.rules.model import Setup
 from arena_lab.rules.networks import Network, drawn as drawn_network, ring
 from tests.integration.play.test_halves import SEARCHES, fixture
-from tests.program.unmapped_networks import QUOTA, Search
-from tests.support.matches import TOP, InFolder, flipped_ring, program, two, under
+from tests.program.unmapped_networks import CUBIC, QUOTA, Search
+from tests.support.matches import (
+    AGENTS,
+    TOP,
+    InFolder,
+    flipped_ring,
+    program,
+    two,
+    under,
+)
 from tests.support.servers import HOST, Server
 from tests.support.tournaments import write_cup
 
@@ -77,10 +86,13 @@ def searched(name: str, chance: random.Random) -> Game:
 
 def charted(chance: random.Random) -> Game:
     """A match on a drawn network, with the least whiteboards, and one agent more than
-    the black hole has links."""
+    the black hole has links. If no node has more than three links, the agents are told
+    just that, or the number of links."""
     network = drawn_network(chance, CHARTED)
     home, hole = chance.sample(range(network.nodes), 2)
-    search = Search(network, home, hole, len(network.links))
+    is_cubic = max(network.degrees()) <= CUBIC
+    links = chance.choice([len(network.links), 0][: 1 + is_cubic])
+    search = Search(network, home, hole, links)
     count = search.degree + 1
     setup = Setup(
         network.nodes, network.links, home, [hole], count, QUOTA, search.board
@@ -162,6 +174,21 @@ class Players(InFolder):
                     self.assertFalse(found.has_failed(), found.faults)
                     self.assertLessEqual(found.verdict().moves, game.moves)
                     self.assertLess(found.verdict().lost, len(game.runs))
+
+    def test_charts_say_what_the_agents_in_python_say(self) -> None:
+        told = set()
+        for scheduler, maker in sorted(schedulers.NAMED.items()):
+            game = charted(random.Random(f"told {scheduler}"))
+            _, nodes, links = game.runs[0].split()
+            told.add(links == "0")
+            python = AgentWords(INSIDE, f"{AGENTS / 'chart.py'} {nodes} {links}")
+            with self.subTest(game.runs[0], scheduler=scheduler):
+                played = under(maker(0), game.fixture, [python] * len(game.runs))
+                self.assertFalse(played.has_failed(), played.faults)
+                # each agent alone, told what the agent in Python was told
+                again = with_repeats(played, agents(game.runs), game.fixture, 20)
+                self.assertEqual(again.faults, [])
+        self.assertEqual(told, {False, True})
 
     def test_modules_solve_what_they_are_proved_to_solve(self) -> None:
         for scheduler, maker in sorted(schedulers.NAMED.items()):
