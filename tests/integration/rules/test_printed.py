@@ -168,10 +168,20 @@ class Runs(InFolder):
         self.assertEqual(fault["fault"], "read")
         self.assertIn("match 0 (red) is left out of the table", fault["more"])
 
-    def test_names_of_files_may_have_colons(self) -> None:
-        for name in ("x: y", "a: b is ignored", "a: the schedule is x", "a\u2028b\n"):
+    def test_names_of_files_may_have_colons_and_characters_that_are_escaped(
+        self,
+    ) -> None:
+        for name, shown in (
+            ("x: y", "x: y"),
+            ("a: b is ignored", "a: b is ignored"),
+            ("a: the schedule is x", "a: the schedule is x"),
+            ("a\u2028b\n", "a\u2028b\\n"),
+            ("\x1b: y", r"\u{1b}: y"),
+            ("a\u202eb: c", r"a\u{202e}b: c"),
+            ("a\x7f\x9f\u061c: c", r"a\u{7f}\u{9f}\u{61c}: c"),
+        ):
             file = self.folder / name
-            place = str(file).replace("\n", r"\n")
+            place = f"{self.folder}/{shown}"
             absent = {
                 "where": place,
                 "fault": "read",
