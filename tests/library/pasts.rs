@@ -1,6 +1,7 @@
 //! Matches that are drawn from a seed: each agent's past, played by itself, is answered as it was; and the twin of each
 //! node is refused as it should be, or each agent was answered the same in it.
 
+use super::played::twin_played;
 use bhs_deal::Dealer;
 use bhs_match::{Match, Sealed};
 use bhs_model::{Command, DarkLinks, Event, Holes, Mark, Reply, Setup, Text};
@@ -242,6 +243,7 @@ fn is_twin_alike(alloc: Global, whole: &Sealed, node: u16) -> Result<bool, Fail>
         Ok(twin) => twin,
         Err(fault) => return Ok(refusal(whole, node) == Some(fault)),
     };
+    let twin = twin_played(whole, twin)?;
     for agent in 0..AGENTS {
         if replies_to(alloc, whole, agent)? != replies_to(alloc, &twin, agent)? {
             return Ok(false);

@@ -3,6 +3,7 @@
 use bhs_match::{Match, Sealed};
 use bhs_model::{Command, DarkLinks, Event, Holes, Setup, Text};
 use bhs_net::{Link, Net};
+use bhs_view::Twin;
 use std::alloc::Global;
 use std::test::Fail;
 
@@ -56,6 +57,19 @@ pub fn played(
         game.apply(event(alloc, word.as_bytes())?);
     }
     game.apply(Event::Close);
+    game.sealed()
+        .map_err(|_| Fail::from("a match that goes on"))
+}
+
+/// A twin of a match, once what is left of the match has happened in it.
+pub fn twin_played(whole: &Sealed, twin: Twin) -> Result<Sealed, Fail> {
+    let Twin { start, left } = twin;
+    let mut game = start;
+    for (kept, is_left) in whole.log().iter().zip(&left) {
+        if *is_left {
+            game.apply(kept.event.try_clone()?);
+        }
+    }
     game.sealed()
         .map_err(|_| Fail::from("a match that goes on"))
 }

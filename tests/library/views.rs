@@ -1,6 +1,6 @@
 //! Causal pasts, parts and twins of matches that have ended.
 
-use super::played::played;
+use super::played::{played, twin_played};
 use bhs_model::{Reply, Text};
 use bhs_referee::{Outcome, judge};
 use bhs_view::{RestrictFault, TwinFault, cut_and_looks, cut_of, restrict, twin_of};
@@ -119,11 +119,14 @@ fn twin(
 ) -> Result<Result<Shown, TwinFault>, Fail> {
     let whole = played(alloc, nodes, holes, &[], row)?;
     match twin_of(alloc, &whole, node) {
-        Ok(twin) => Ok(Ok(Shown {
-            outcome: judge(&twin).outcome,
-            hole: twin.setup().holes.nodes().first().copied(),
-            events: twin.log().len(),
-        })),
+        Ok(twin) => {
+            let twin = twin_played(&whole, twin)?;
+            Ok(Ok(Shown {
+                outcome: judge(&twin).outcome,
+                hole: twin.setup().holes.nodes().first().copied(),
+                events: twin.log().len(),
+            }))
+        }
         Err(fault) => Ok(Err(fault)),
     }
 }

@@ -15,8 +15,7 @@ pub use match_files::parts::{
 };
 pub use match_files::private_files::private_options;
 pub use match_files::replays::{
-    file_name, first_status, match_of, put_in_place, read_match, write_match, write_replays,
-    write_sealed,
+    file_name, first_status, match_of, put_in_place, read_match, write_replays, write_sealed,
 };
 pub use match_files::turn_files::{read_part_of_turns, turns_name, turns_of, write_turns};
 pub use match_files::turns::{turns_in, turns_text};

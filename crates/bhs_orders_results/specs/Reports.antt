@@ -10,10 +10,11 @@ use Rattle.bhs_standings.specs.Ranks.{IsRanking}
 use Rattle.bhs_standings.specs.Tables.{outcome_text, table_of}
 use Rattle.bhs_standings.specs.declared.rows.Row.{Row}
 use Rattle.bhs_replay.specs.EventLine.{event_line}
-use Rattle.bhs_replay.specs.Replay.{replay_of}
+use Rattle.bhs_replay.specs.Head.{version_of}
+use Rattle.bhs_replay.specs.Replay.{replay, replay_of}
 use Rattle.bhs_terminal.specs.Visible.{visible}
 use Rattle.bhs_view.specs.Places.{places_of}
-use Rattle.bhs_view.specs.Twins.{IsTwin, twin_fault}
+use Rattle.bhs_view.specs.Twins.{HasTwin, IsTwin, twin_events, twin_fault, twin_setup}
 use Rattle.bhs_view.specs.declared.twins.TwinFault.{TwinFault}
 use Rattle.bhs_command_line.specs.declared.orders.TableEntry.{TableEntry}
 use Rattle.bhs_orders.specs.Fault.{status}
@@ -92,13 +93,15 @@ pub record IsPast (kind : OutputKind) (agent : ℕ) (text : List ℕ) : Type 0 w
 
 -- ---- the twin
 
--- the text is the replay of the twin, with its black hole at this node, of a match that some text is the replay of
+-- The text is the replay of the twin, with its black hole at this node, of a match that some text is the replay of. So
+-- it is the replay of each match that is this twin.
 pub record IsTwinReplay (node : ℕ) (text : List ℕ) : Type 0 where
   pub play : Play
-  pub twin : Play
   pub replayed : IsReplayed play
-  pub twinned : IsTwin play node twin
-  pub said : text ≡ replay_of twin
+  pub twinned : HasTwin play node
+  pub said : text
+      ≡ replay (version_of play.net (twin_setup play node)) play.net (twin_setup play node) (twin_events play)
+  pub same : (twin : Play) → IsTwin play node twin → text ≡ replay_of twin
 
 -- a match that some text is the replay of has no twin with its black hole at this node, and nothing was written
 pub record HasNoTwin {O : Type 0} (node : ℕ) (output output' : O) (code : ℕ) : Type 0 where

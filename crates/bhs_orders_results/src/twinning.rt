@@ -1,14 +1,18 @@
 //! The replay of a twin.
 
-ghost use Rattle.std.specs.Prelude.{◌⊎◌};
+ghost use Rattle.std.specs.Prelude.{◌≡◌, ◌⊎◌, length, IfErr, OnOk};
+ghost use Rattle.bhs_stream.specs.Sending.{PutsAll};
+ghost use Rattle.bhs_replay.specs.Replay.{replay_of_part};
 ghost use Rattle.bhs_orders.specs.Filing.{IsReplayed};
+ghost use Rattle.bhs_orders.specs.Playing.{StopsPlaying};
 ghost use Rattle.bhs_orders_results.specs.Reports.{HasNoTwin, IsTwinReplay};
 ghost use Rattle.bhs_orders.specs.Showing.{PrintsByLine, Reports};
 
 use bhs_match::Sealed;
-use bhs_orders::{Fault, match_of, passed_on, report, write_match};
+use bhs_orders::{Fault, match_of, passed_on, report};
+use bhs_replay::write_part;
 use bhs_stream::Output;
-use bhs_view::twin_of;
+use bhs_view::{Twin, twin_of};
 use std::alloc::Global;
 use std::io::Write;
 use std::rt::Files;
@@ -45,7 +49,25 @@ fn print_twin_of<W: Output, E: Write>(
         ⊎ HasNoTwin node writer.old writer.new result }
 {
     match twin_of(alloc, sealed, node) {
-        Ok(twin) => passed_on(write_match(alloc, &twin, writer), writer, errors),
+        Ok(twin) => passed_on(write_twin(alloc, sealed, &twin, writer), writer, errors),
         Err(fault) => report("twin", Fault::from(fault), errors),
     }
+}
+
+// Writes the replay of a twin of a match.
+fn write_twin<W: Output>(
+    alloc: Global,
+    sealed: &Sealed,
+    twin: &Twin,
+    writer: &mut W,
+) -> Result<(), Fault>
+    requires { length twin.now.left.items ≡ length sealed.now.log }
+    ensures ok { OnOk result (PutsAll W.takes writer.old
+        (replay_of_part twin.now.start.net twin.now.start.setup sealed.now.log twin.now.left.items) writer.new) }
+    ensures err { IfErr result (StopsPlaying W.takes
+        (replay_of_part twin.now.start.net twin.now.start.setup sealed.now.log twin.now.left.items)
+        writer.old writer.new) }
+{
+    write_part(alloc, &twin.start, sealed, &twin.left, writer)?;
+    Ok(())
 }

@@ -19,6 +19,7 @@ pub mod ListLemmas
 pub mod ListedLinks
 pub mod OpeningLemmas
 pub mod ReplayTexts
+pub mod PartTexts
 pub mod TextLines
 pub mod ReaderLemmas
 pub mod FeedLemmas

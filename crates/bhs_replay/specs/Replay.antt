@@ -1,12 +1,14 @@
 -- The text of a match that has ended.
-use Rattle.std.specs.Prelude.{ℕ, List, [], ◌∷◌, ◌++◌, codes, decimal, length, Option}
+use Rattle.std.specs.Prelude.{ℕ, Bool, List, [], ◌∷◌, ◌++◌, codes, decimal, length, map, Option}
 use Rattle.bhs_net.specs.Network.{Network}
 use Rattle.bhs_model.specs.declared.setups.Setup.{Setup}
 use Rattle.bhs_model.specs.declared.events.Event.{Event}
 use Rattle.bhs_model.specs.declared.replies.Reply.{Reply}
+use Rattle.bhs_model.specs.declared.marks.Kept.{Kept}
+use Rattle.bhs_model.specs.Cuts.{at_places}
 use Rattle.bhs_model.specs.Setups.{world_of}
 use Rattle.bhs_model.specs.InOrder.{replies}
-use Rattle.bhs_model.specs.Marks.{events_of}
+use Rattle.bhs_model.specs.Marks.{events_of, read_if}
 use Rattle.bhs_match.specs.Matches.{Play}
 use Rattle.bhs_replay.specs.declared.heads.Version.{Version}
 use Rattle.bhs_replay.specs.Head.{head_line, version_of}
@@ -37,3 +39,12 @@ replay version net setup events = with_feeds (head_line version net setup ∷ bo
 -- the text of a match as it is written
 abbrev pub replay_of : Play → List ℕ
 replay_of play = replay (version_of play.net play.setup) play.net play.setup (events_of play.log)
+
+-- the text of a match on this network, set up so, in which the events at these places of a log happened, each with the
+-- reply that it has in the log
+abbrev pub replay_of_part : Network → Setup → List Kept → (places : List Bool) → List ℕ
+replay_of_part net setup log places =
+    let events = at_places (events_of log) places in
+    let answers = at_places (map (λ one. read_if log one.mark) log) places in
+    with_feeds (head_line (version_of net setup) net setup ∷ (event_lines events answers
+    ++ end_line (length events) ∷ []))

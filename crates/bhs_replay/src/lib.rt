@@ -27,4 +27,4 @@ pub use laws::{
 pub use lines::{event_line, line_of};
 pub use read::{read_part, read_replay};
 pub use reading::reply_in;
-pub use writing::write_replay;
+pub use writing::{write_part, write_replay};

@@ -1,18 +1,18 @@
 //! Writing a replay.
 
-ghost use Rattle.std.specs.Prelude.{ℕ, List, ◌≡◌, ◌∷◌, ◌++◌, [], string_bytes, IfOk, IfErr, IsOk, OnOk};
+ghost use Rattle.std.specs.Prelude.{ℕ, List, ◌≡◌, ◌∷◌, ◌++◌, [], length, string_bytes, IfOk, IfErr, IsOk, OnOk};
 ghost use Rattle.bhs_stream.specs.Sending.{PutsAll};
 ghost use Rattle.bhs_model.specs.Marks.{events_of, read_if};
 ghost use Rattle.bhs_replay.specs.EventLine.{event_line};
 ghost use Rattle.bhs_replay.specs.Played.{IsTyped};
-ghost use Rattle.bhs_replay.specs.Replay.{end_line, replay_of};
+ghost use Rattle.bhs_replay.specs.Replay.{end_line, replay_of, replay_of_part};
 ghost use Rattle.bhs_replay.specs.Stages.{Ends, Comes};
 ghost use Rattle.bhs_replay.specs.Writing.{Breaks};
 
 use crate::faults::WritingFault;
 use crate::heads::head_of;
 use crate::lines::add_line_in;
-use bhs_match::Sealed;
+use bhs_match::{Match, Sealed};
 use bhs_model::Kept;
 use bhs_net::Memory;
 use bhs_stream::{Output, WriteFault, send};
@@ -39,6 +39,34 @@ pub fn write_replay<W: Output>(
         send_event(alloc, &mut line, sealed, one, writer)?;
     }
     send_line(end_line(alloc, log.len()), writer)
+}
+
+/// Writes the replay of a match that begins so, in which the events at these places of another match happened, each
+/// with the reply that it had there. It takes the memory of one line.
+pub fn write_part<W: Output>(
+    alloc: Global,
+    start: &Match,
+    sealed: &Sealed,
+    places: &[bool],
+    writer: &mut W,
+) -> Result<(), WritingFault>
+    requires { length places.now ≡ length sealed.now.log }
+    ensures ok { OnOk result (PutsAll W.takes writer.old
+        (replay_of_part start.now.net start.now.setup sealed.now.log places.now) writer.new) }
+    ensures err { IfErr result (λ fault. Breaks W.takes writer.old
+        (replay_of_part start.now.net start.now.setup sealed.now.log places.now) fault writer.new) }
+{
+    let log = sealed.log();
+    send_line(head_of(alloc, start.net(), start.setup()), writer)?;
+    let mut line = Vec::new(alloc);
+    let mut count: usize = 0;
+    for place in 0..log.len() {
+        if places[place] {
+            send_event(alloc, &mut line, sealed, &log[place], writer)?;
+            count += 1;
+        }
+    }
+    send_line(end_line(alloc, count), writer)
 }
 
 // The end line, without its line feed.

@@ -1,31 +1,28 @@
 -- The log of a twin.
-use Rattle.std.proofs.Common.{ℕ, ◌≡◌, ◌<◌, Bool, true, false, not, Option, Some, None, List, [], ◌∷◌, ◌++◌}
-use Rattle.std.proofs.Common.{if◌then◌else◌, ◌==◌, nat_lt, map, append-nil, refl, sym, ap, ap₂, ◌∙◌, subst}
+use Rattle.std.proofs.Common.{ℕ, ◌≡◌, ◌<◌, Bool, true, false, not, Option, Some, None, List, [], ◌∷◌}
+use Rattle.std.proofs.Common.{if◌then◌else◌, ◌==◌, nat_lt, map, refl, sym, ap, ap₂, ◌∙◌, subst}
 use Rattle.std.specs.Prelude.{option_map}
 use Rattle.std.proofs.lemmas.Bool.{ltb-true}
-use Rattle.bhs_net.specs.Network.{Network, nodes_of}
+use Rattle.bhs_net.specs.Network.{nodes_of}
 use Rattle.bhs_model.specs.declared.events.Event.{Event}
-use Rattle.bhs_model.specs.declared.events.Event.TheVariants.{Close}
 use Rattle.bhs_model.specs.declared.replies.Reply.{Reply}
 use Rattle.bhs_model.specs.declared.marks.Kept.{Kept}
-use Rattle.bhs_model.specs.declared.setups.Setup.{Setup}
 use Rattle.bhs_model.specs.Worlds.{World, is_hole}
-use Rattle.bhs_model.specs.Runs.{State, initial, run}
+use Rattle.bhs_model.specs.Runs.{initial}
 use Rattle.bhs_model.specs.InOrder.{replies}
-use Rattle.bhs_model.specs.Kept.{kept, kept_first, nobody}
+use Rattle.bhs_model.specs.Kept.{kept, nobody}
 use Rattle.bhs_model.specs.Cuts.{at_places}
 use Rattle.bhs_model.specs.Laws.{LookAlike}
 use Rattle.bhs_model.specs.Marks.{events_of, read_if}
 use Rattle.bhs_model.specs.Setups.{world_of, normal}
 use Rattle.bhs_model.specs.Twins.{Twins}
-use Rattle.bhs_model.proofs.AddLemmas.{kept-append}
 use Rattle.bhs_model.proofs.TwinLemmas.{twins_look_alike_lemma}
 use Rattle.bhs_match.specs.Matches.{Play, world_in}
 use Rattle.bhs_view.specs.Entries.{LogEntry, entries}
 use Rattle.bhs_view.specs.Laws.{IsEnded}
 use Rattle.bhs_view.specs.declared.twins.TwinFault.TheVariants.{Node, Home, Same, Reached}
-use Rattle.bhs_view.specs.Twins.{replaced, moved, left, first_arrival, twin_fault, IsTwin}
-use Rattle.bhs_view.proofs.RestrictLemmas.{paired, entries_paired, chosen_paired}
+use Rattle.bhs_view.specs.Twins.{replaced, moved, left, first_arrival, twin_fault, IsTwin, HasTwin}
+use Rattle.bhs_view.specs.Twins.{hole_replaced, twin_setup, twin_events, places_left}
 use Rattle.bhs_view.proofs.TwinLemmas.{with_these, HasMoved, left_same}
 use Rattle.bhs_view.proofs.TwinSetupLemmas.{has_moved}
 
@@ -99,79 +96,38 @@ firsts_at (one ∷ chosen) [] = refl
 firsts_at (one ∷ chosen) (true ∷ set) = ap (λ (others : List Event). one.0 ∷ others) (firsts_at chosen set)
 firsts_at (one ∷ chosen) (false ∷ set) = firsts_at chosen set
 
+-- a twin has the events that are left
+pub events_left : (whole part : Play) (node : ℕ) → IsTwin whole node part → events_of part.log ≡ twin_events whole
+events_left whole part node twin =
+    sym (firsts part.log part.log)
+    ∙ ap (map (λ (entry : LogEntry). entry.0)) twin.log
+    ∙ firsts_at (entries whole.log) (places_left whole)
+    ∙ ap (λ (events : List Event). at_places events (places_left whole)) (firsts whole.log whole.log)
+
 pub made_of : (whole part : Play) (node : ℕ) → IsEnded whole → node < nodes_of whole.net → IsTwin whole node part →
     let old = replaced (world_in whole) (events_of whole.log) in
     let other = normal whole.net (moved whole.net whole.setup old node) in
     IsTwinOf whole part node other.holes other.dark old
 made_of whole part node ended is_node twin =
-    let set = left (world_in whole) (replaced (world_in whole) (events_of whole.log)) (events_of whole.log) in
     record {
       moved = has_moved whole.net whole.setup (events_of whole.log) node ended.network.labelled ended.within is_node;
       world = ap₂ world_of twin.net twin.setup;
-      events = sym (firsts part.log part.log)
-          ∙ ap (map (λ (entry : LogEntry). entry.0)) twin.log
-          ∙ firsts_at (entries whole.log) set
-          ∙ ap (λ (events : List Event). at_places events set) (firsts whole.log whole.log);
+      events = events_left whole part node twin;
     }
 
--- a log that was kept whole, and that ends the match, is kept whole with one Close more
-closed_whole : (world : World) (chosen : List Event) → kept world chosen ≡ chosen → (run world chosen).closed ≡ true
-    → kept world (chosen ++ Close ∷ []) ≡ chosen
-closed_whole world chosen all ended =
-    kept-append world initial nobody chosen (Close ∷ [])
-    ∙ ap₂ (λ (before : List Event) (closed : Bool). before ++ kept_first (not closed) Close []) all ended
-    ∙ append-nil chosen
-
-pub record AreTwins (whole part : Play) (node : ℕ) : Type 0 where
-  pub twin : IsTwin whole node part
-  pub alike : LookAlike (world_in whole) (events_of whole.log) (world_in part) (events_of part.log)
-
-pub is_twin : (whole part game : Play) (net : Network) (setup : Setup) (log : List Kept) (node : ℕ) (marks : List Bool)
-    → net ≡ whole.net → log ≡ whole.log → IsEnded whole → node < nodes_of whole.net →
-    first_arrival (world_in whole) node (events_of whole.log) ≡ None →
-    setup ≡ moved whole.net whole.setup (replaced (world_in whole) (events_of whole.log)) node
-    → game ≡ record { net = net; setup = normal net setup; log = [] } →
-    marks ≡ left (world_in whole) (replaced (world_in whole) (events_of whole.log)) (events_of whole.log) →
-    kept (world_in game) (at_places (events_of log) marks ++ Close ∷ []) ≡ events_of part.log → (part.net ≡ game.net)
-    × (part.setup ≡ game.setup) →
-    map (λ (one : Kept). read_if part.log one.mark) part.log ≡ replies (world_in part) (events_of part.log)
-    → AreTwins whole part node
-is_twin whole part game net setup log node marks is_net is_log ended is_node unreached is_setup is_game is_marks is_part
-    same part_replied =
-    let world = world_in whole in
+pub has_twin : (whole : Play) (node : ℕ) → IsEnded whole → node < nodes_of whole.net
+    → first_arrival (world_in whole) node (events_of whole.log) ≡ None → HasTwin whole node
+has_twin whole node ended is_node unreached =
     let events = events_of whole.log in
-    let old = replaced world events in
-    let other = normal whole.net (moved whole.net whole.setup old node) in
-    let twin = with_these world other.holes other.dark in
-    let set = left world old events in
-    let chosen = at_places events set in
-    let pair = pair_of world other.holes other.dark old node events
+    let other = twin_setup whole node in
+    let pair = pair_of (world_in whole) other.holes other.dark (hole_replaced whole) node events
     (has_moved whole.net whole.setup events node ended.network.labelled ended.within is_node)
     ended.kept unreached in
-    let game_net : game.net ≡ whole.net = ap (λ (play : Play). play.net) is_game ∙ is_net in
-    let game_setup : game.setup ≡ other = ap (λ (play : Play). play.setup) is_game ∙ ap₂ normal is_net is_setup in
-    let game_world : world_in game ≡ twin = ap₂ world_of game_net game_setup in
-    let part_world : world_in part ≡ twin = ap₂ world_of (same.0 ∙ game_net) (same.1 ∙ game_setup) in
-    let shut : (run twin chosen).closed ≡ true = ap (λ (state : State). state.closed) (sym pair.alike.states)
-    ∙ ended.closed in
-    let part_events : events_of part.log ≡ chosen =
-    sym is_part
-    ∙ ap₂ (λ (world : World) (events : List Event). kept world (events ++ Close ∷ [])) game_world
-    (ap₂ (λ (log : List Kept) (set : List Bool). at_places (events_of log) set) is_log is_marks)
-    ∙ closed_whole twin chosen pair.kept shut in
     record {
-      twin = record {
-        net = same.0 ∙ game_net;
-        setup = same.1 ∙ game_setup;
-        log = entries_paired part.log part.log
-            ∙ ap (paired (events_of part.log)) (part_replied ∙ ap₂ replies part_world part_events ∙ pair.answers_are
-            ∙ ap (λ (answers : List (Option Reply)). at_places answers set) (sym ended.replies))
-            ∙ ap (λ (events : List Event). paired events
-            (at_places (map (λ (one : Kept). read_if whole.log one.mark) whole.log) set)) part_events
-            ∙ sym (chosen_paired whole.log whole.log set);
-      };
-      alike = subst (λ (there : World). LookAlike world events there (events_of part.log)) (sym part_world)
-          (subst (λ (others : List Event). LookAlike world events twin others) (sym part_events) pair.alike);
+      kept = pair.kept;
+      answers = pair.answers_are
+          ∙ ap (λ (answers : List (Option Reply)). at_places answers (places_left whole)) (sym ended.replies);
+      alike = pair.alike;
     }
 
 pub twins_alike : (whole twin : Play) (node : ℕ) → IsEnded whole → twin_fault whole node ≡ None

@@ -1,6 +1,6 @@
 -- Twins of a match: the same match with a black hole elsewhere, at a node where no agent arrived.
 use Rattle.std.specs.Prelude.{ℕ, suc, ◌≡◌, Bool, true, false, not, ◌&&◌, ◌||◌, ◌==◌, Option, Some, None, List, [], ◌∷◌}
-use Rattle.std.specs.Prelude.{if◌then◌else◌, nat_lt, find, option_map}
+use Rattle.std.specs.Prelude.{if◌then◌else◌, nat_lt, find, map, option_map}
 use Rattle.std.specs.List.{range_with_len}
 use Rattle.std.specs.Option.{option_or}
 use Rattle.bhs_net.specs.Network.{Network, nodes_of}
@@ -13,8 +13,11 @@ use Rattle.bhs_model.specs.declared.setups.Setup.{Setup}
 use Rattle.bhs_model.specs.Worlds.{World, is_hole, is_dark}
 use Rattle.bhs_model.specs.Runs.{Position, At, State, initial, arrives, next, reply}
 use Rattle.bhs_model.specs.Cuts.{at_places, meet, node_reached}
-use Rattle.bhs_model.specs.Marks.{events_of}
-use Rattle.bhs_model.specs.Setups.{normal, nodes_where}
+use Rattle.bhs_model.specs.InOrder.{replies}
+use Rattle.bhs_model.specs.Kept.{kept}
+use Rattle.bhs_model.specs.Laws.{LookAlike}
+use Rattle.bhs_model.specs.Marks.{events_of, read_if}
+use Rattle.bhs_model.specs.Setups.{world_of, normal, nodes_where}
 use Rattle.bhs_match.specs.Matches.{Play, world_in}
 use Rattle.bhs_view.specs.declared.twins.TwinFault.{TwinFault}
 use Rattle.bhs_view.specs.declared.twins.TwinFault.TheVariants.{Node, Home, Same, Reached}
@@ -99,12 +102,34 @@ twin_fault play node =
     else (if is_hole play.setup.holes node then Some Same
     else option_map Reached (first_arrival (world_in play) node (events_of play.log))))
 
--- the twin of a match with a black hole at this node: the hole that gives way is no hole, each Deliver that finds its
--- agent bound for it is taken out, and all else happened with the replies that it had
+-- the black hole of a match that gives way
+abbrev pub hole_replaced : Play → Option ℕ
+hole_replaced play = replaced (world_in play) (events_of play.log)
+
+-- how the twin with a black hole at this node is set up: the hole that gives way is no hole
+abbrev pub twin_setup : Play → (node : ℕ) → Setup
+twin_setup play node = normal play.net (moved play.net play.setup (hole_replaced play) node)
+
+-- the places of a match that are left in a twin: each Deliver that finds its agent bound for the hole that gives way is
+-- taken out
+abbrev pub places_left : Play → List Bool
+places_left play = left (world_in play) (hole_replaced play) (events_of play.log)
+
+-- the events of a twin
+abbrev pub twin_events : Play → List Event
+twin_events play = at_places (events_of play.log) (places_left play)
+
+-- the twin of a match with a black hole at this node: what is left of the match happened, with the replies that it had
 pub record IsTwin (whole : Play) (node : ℕ) (twin : Play) : Type 0 where
   pub net : twin.net ≡ whole.net
-  pub setup : twin.setup
-      ≡ normal whole.net (moved whole.net whole.setup (replaced (world_in whole) (events_of whole.log)) node)
-  pub log : entries twin.log
-      ≡ at_places (entries whole.log)
-      (left (world_in whole) (replaced (world_in whole) (events_of whole.log)) (events_of whole.log))
+  pub setup : twin.setup ≡ twin_setup whole node
+  pub log : entries twin.log ≡ at_places (entries whole.log) (places_left whole)
+
+-- What is left of a match can happen in its twin, set up with a black hole at this node: all of it is kept there and
+-- gets the replies that it had, and no agent can tell the two matches apart.
+pub record HasTwin (whole : Play) (node : ℕ) : Type 0 where
+  pub kept : kept (world_of whole.net (twin_setup whole node)) (twin_events whole) ≡ twin_events whole
+  pub answers : replies (world_of whole.net (twin_setup whole node)) (twin_events whole)
+      ≡ at_places (map (λ one. read_if whole.log one.mark) whole.log) (places_left whole)
+  pub alike : LookAlike (world_in whole) (events_of whole.log) (world_of whole.net (twin_setup whole node))
+      (twin_events whole)

@@ -12,4 +12,4 @@ mod twins;
 
 pub use cuts::{cut_and_looks, cut_of};
 pub use restricting::{RestrictFault, restrict};
-pub use twins::{TwinFault, twin_of};
+pub use twins::{Twin, TwinFault, twin_of};

@@ -1,21 +1,18 @@
 //! Twins: the same match with a black hole elsewhere.
 
-ghost use Rattle.std.specs.Prelude.{◌≡◌, ◌⊎◌, ◌<◌, ◌^◌, None, Some, IfOk, IfErr, OnOk, find, length};
+ghost use Rattle.std.specs.Prelude.{◌≡◌, ◌⊎◌, ◌<◌, ◌^◌, None, Some, [], IfOk, IfErr, OnOk, find, length};
 ghost use Rattle.std.specs.List.{range_with_len};
 ghost use Rattle.std.specs.Option.{option_or};
 ghost use Rattle.bhs_net.specs.Network.{nodes_of};
-ghost use Rattle.bhs_model.specs.Laws.{LookAlike};
-ghost use Rattle.bhs_model.specs.Marks.{events_of};
 ghost use Rattle.bhs_model.specs.Setups.{world_of, nodes_where};
 ghost use Rattle.bhs_model.specs.Worlds.{is_hole};
-ghost use Rattle.bhs_match.specs.Matches.{world_in};
-ghost use Rattle.bhs_view.specs.Twins.{hole_beyond, is_moved, twin_fault, IsTwin};
+ghost use Rattle.bhs_view.specs.Twins.{hole_beyond, is_moved, places_left, twin_fault, twin_setup, HasTwin};
 ghost use Rattle.bhs_view.specs.TwinWalks.{hole_at, first_hole, is_bound_for, left_at, is_arrival_at, first_arrival_at};
 ghost use Rattle.bhs_view.specs.declared.twins.TwinFault.TheVariants.{Memory as OutOfMemory};
 
-use crate::playing::{begun, replay};
+use crate::playing::begun;
 use crate::reading::{Reading, read};
-use bhs_match::{Sealed, Site};
+use bhs_match::{Match, Sealed, Site};
 use bhs_model::{Command, Event, Holes, Kept, Mark, Setup};
 use bhs_net::{Memory, Net};
 use bhs_referee::is_dark;
@@ -50,13 +47,25 @@ impl From<Memory> for TwinFault {
     }
 }
 
+/// A twin of a match.
+#[derive(Debug, Drop)]
+pub struct Twin {
+    /// The twin before anything happened.
+    pub start: Match,
+    /// Which places of the match are left in the twin.
+    pub left: Vec<bool>,
+}
+
 /// The match with a black hole at this node, in which no agent saw anything else. The black hole that was first accused
 /// by a link that is not dark gives way; without such an accusation the least, and none if there is none. Each
-/// Deliver that finds its agent bound for that one is left out.
-pub fn twin_of(alloc: Global, sealed: &Sealed, node: u16) -> Result<Sealed, TwinFault>
-    ensures twin { IfOk result (λ twin. IsTwin sealed.now node twin) }
-    ensures alike { IfOk result (λ twin. LookAlike (world_in sealed.now) (events_of sealed.now.log) (world_in twin)
-        (events_of twin.log)) }
+/// Deliver that finds its agent bound for that one is left out. Nothing is played: what is left has the replies that it
+/// had.
+pub fn twin_of(alloc: Global, sealed: &Sealed, node: u16) -> Result<Twin, TwinFault>
+    ensures start { IfOk result (λ twin. twin.start
+        ≡ record { net = sealed.now.net; setup = twin_setup sealed.now node; log = [] }) }
+    ensures left { IfOk result (λ twin. twin.left.items ≡ places_left sealed.now) }
+    ensures count { IfOk result (λ twin. length twin.left.items ≡ length sealed.now.log) }
+    ensures twin { OnOk result (HasTwin sealed.now node) }
     ensures fit { OnOk result (twin_fault sealed.now node ≡ None) }
     ensures fault { IfErr result (λ fault. (fault ≡ OutOfMemory) ⊎ (twin_fault sealed.now node ≡ Some fault)) }
 {
@@ -80,9 +89,9 @@ pub fn twin_of(alloc: Global, sealed: &Sealed, node: u16) -> Result<Sealed, Twin
         return Err(TwinFault::Reached { place });
     }
     let old = replaced(net, setup, log, sites);
-    let set = left(alloc, log, sites, old)?;
+    let left = left(alloc, log, sites, old)?;
     let holes = moved_holes(alloc, net, setup, old, node)?;
-    let game = begun(
+    let start = begun(
         alloc,
         net,
         Setup {
@@ -90,7 +99,7 @@ pub fn twin_of(alloc: Global, sealed: &Sealed, node: u16) -> Result<Sealed, Twin
             ..setup.try_clone()?
         },
     )?;
-    Ok(replay(game, log, &set)?)
+    Ok(Twin { start, left })
 }
 
 // The place of the first arrival at a node.

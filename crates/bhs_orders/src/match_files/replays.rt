@@ -215,8 +215,12 @@ fn write_new<F: Files>(alloc: Global, files: &F, name: &str, sealed: &Sealed) ->
     write_match(alloc, sealed, &mut file)
 }
 
-/// Writes the replay of a match.
-pub fn write_match<W: Output>(alloc: Global, sealed: &Sealed, writer: &mut W) -> Result<(), Fault>
+// Writes the replay of a match.
+pub(crate) fn write_match<W: Output>(
+    alloc: Global,
+    sealed: &Sealed,
+    writer: &mut W,
+) -> Result<(), Fault>
     ensures ok { OnOk result (PutsAll W.takes writer.old (replay_of sealed.now) writer.new) }
     ensures err { IfErr result (StopsPlaying W.takes (replay_of sealed.now) writer.old writer.new) }
 {

@@ -1,6 +1,5 @@
 use Rattle.std.proofs.Common.{option_map}
 use Rattle.bhs_wire.specs.LentReply.{reply_of}
-use Rattle.bhs_replay.specs.Spelling.{may_stand}
 use Rattle.bhs_replay.proofs.EventReads.{event_utf8}
 use Rattle.bhs_replay.proofs.Spellings.{spelled-seen}
 use Rattle.bhs_replay.proofs.reading.spells.Goals as goal

@@ -1,11 +1,17 @@
-use Rattle.std.proofs.Common.{ℕ, Option, inr, length, sym, ap, ◌∙◌}
-use Rattle.bhs_net.specs.Network.{nodes_of}
+use Rattle.std.proofs.Common.{ℕ, Option, List, [], length, inr, refl, sym, ap, ap₂, ◌∙◌}
+use Rattle.bhs_net.specs.Network.{Network, nodes_of}
 use Rattle.bhs_model.specs.declared.setups.Setup.{Setup}
 use Rattle.bhs_view.specs.Twins.{moved}
+use Rattle.bhs_match.specs.Matches.{Play}
+use Rattle.bhs_model.specs.declared.marks.Kept.{Kept}
+use Rattle.bhs_model.specs.Setups.{normal}
 use Rattle.bhs_view.proofs.TwinReadLemmas.{counted, left_count, read_arrival, read_hole, read_left, twin_setup}
 use Rattle.bhs_view.proofs.TwinReadLemmas.{fits_twin, fault_is, ended_of}
-use Rattle.bhs_view.proofs.TwinPlayLemmas.{is_twin}
+use Rattle.bhs_view.proofs.TwinPlayLemmas.{has_twin}
 use Rattle.bhs_view.proofs.twins.twin_of.Goals as goal
+
+abbrev begun_on : Network → Setup → Play
+begun_on net setup = record { net = net; setup = normal net setup; log = [] }
 
 pub first_arrival-requires-clause-sites : goal.first_arrival-requires-clause-sites
 first_arrival-requires-clause-sites c = counted c.read.ensures
@@ -38,11 +44,6 @@ begun-requires c =
     c.in_ok-holes.holes c.replaced-old.result c.args.node c.read.ensures.net c.read.ensures.setup
     c.in_ok-try_clone.ensures c.in_ok-holes.ensures)
 
-pub replay-requires-clause-set : goal.replay-requires-clause-set
-replay-requires-clause-set c =
-    ap length (c.deref.ensures.value ∙ c.in_ok-set.ensures) ∙ left_count c.replaced-old.result c.read.result.log.now
-    c.read.result.sites.now (counted c.read.ensures)
-
 pub returns : goal.returns
 returns c =
     let play = c.args.sealed.now in
@@ -55,18 +56,17 @@ returns c =
     c.first_arrival.ensures in
     let moved_setup = twin_setup play net setup c.in_ok-try_clone.field-0 c.in_ok-holes.holes c.replaced-old.result
     c.args.node c.read.ensures.net c.read.ensures.setup c.in_ok-try_clone.ensures c.in_ok-holes.ensures in
-    let twins = is_twin play c.in_ok-replay.field-0 c.in_ok-game.game net _ log c.args.node c.deref.result.now
-    c.read.ensures.net c.read.ensures.log (ended_of play net setup log found c.read.ensures)
-    (rw (sym (c.nodes-nodes.ensures.count ∙ ap nodes_of c.read.ensures.net)) c.if-node-nodes.false)
-    (unreached ∙ c.in_default.is)
-    (moved_setup ∙ ap (λ (old : Option ℕ). moved play.net play.setup old c.args.node) old) c.in_ok-game.ensures
-    (read_left play net setup log found c.replaced-old.result c.in_ok-set.set.items c.deref.result.now c.read.ensures
-    old
-    c.in_ok-set.ensures c.deref.ensures.value)
-    c.in_ok-replay.ensures.log c.in_ok-replay.ensures.same c.in_ok-replay.ensures.replies in
     record {
-      twin = twins.twin;
-      alike = twins.alike;
+      start = c.in_ok-start.ensures ∙ ap₂ begun_on c.read.ensures.net
+          (moved_setup ∙ ap (λ (old : Option ℕ). moved play.net play.setup old c.args.node) old);
+      left = read_left play net setup log found c.replaced-old.result c.in_ok-left.left.items c.in_ok-left.left.items
+          c.read.ensures old c.in_ok-left.ensures refl;
+      count = ap length c.in_ok-left.ensures
+          ∙ left_count c.replaced-old.result log found (counted c.read.ensures)
+          ∙ ap (λ (log : List Kept). length log) c.read.ensures.log;
+      twin = has_twin play c.args.node (ended_of play net setup log found c.read.ensures)
+          (rw (sym (c.nodes-nodes.ensures.count ∙ ap nodes_of c.read.ensures.net)) c.if-node-nodes.false)
+          (unreached ∙ c.in_default.is);
       fit = fault_is play net setup c.nodes-nodes.result c.args.node c.contains.result _ c.read.ensures.net
           c.read.ensures.setup c.nodes-nodes.ensures.count c.if-node-nodes.false c.if-node-setup.false
           c.contains.ensures c.if-contains.false (unreached ∙ c.in_default.is);
