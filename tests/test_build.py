@@ -166,18 +166,20 @@ class Build(unittest.TestCase):
         text = source.read_text()
         path = f"{words.parent}:{os.environ['PATH']}"
         with unittest.mock.patch.dict(os.environ, PATH=path):
-            for touched, is_same, reads in (
-                (None, True, 0),
-                (text, True, 1),
-                (None, True, 1),
-                (text[::-1], False, 2),
-                (None, False, 3),
-                (text, True, 4),
-                (None, True, 4),
+            for file, touched, is_same, reads in (
+                (source, None, True, 0),
+                (source, text, True, 1),
+                (source, None, True, 1),
+                (source, text[::-1], False, 2),
+                (source, None, False, 3),
+                (source, text, True, 4),
+                (source, None, True, 4),
+                (self.record, self.record.read_text(), True, 5),
+                (self.record, self.record.read_text().replace("0", "1"), False, 6),
             ):
                 if touched is not None:
-                    write(source, touched)
-                    os.utime(source, (1, 1))
+                    write(file, touched)
+                    os.utime(file, (1, 1))
                 self.assertEqual(prover.is_current(self.record), is_same)
                 told = (self.top / "read").read_text().splitlines()
                 self.assertEqual(len(told), reads)
