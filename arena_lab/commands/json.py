@@ -48,6 +48,10 @@ def run(words: argparse.Namespace) -> int:
         words.refuse(
             "name modules by --module: without them `arena explore` asks its host, in lines of JSON"
         )
+    if words.order == "explore" and "--all-holes" in words.words:
+        words.refuse(
+            "leave out --all-holes: `arena explore --all-holes` prints lines of JSON itself, of several matches"
+        )
     order = [words.order, *words.words]
     status, printed, errors = ran([program_at(words.program), *order])
     if status != REFUSED:

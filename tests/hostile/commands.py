@@ -14,6 +14,7 @@ TOP = pathlib.Path(__file__).resolve().parents[2]
 
 
 __all__ = [
+    "ALL_HOLES",
     "COMMANDS",
     "Command",
     "DONE",
@@ -76,6 +77,8 @@ DRAWS = [
     "--objective",
     "moves",
 ]
+# the name of the command whose searches share the processors
+ALL_HOLES = "all holes"
 # each order of the program with each of its options, but `serve`, for which the tools
 # have runs of their own: tests/test_commands.py compares
 COMMANDS = [
@@ -152,6 +155,20 @@ COMMANDS = [
     Command(
         "module",
         ["explore", "examples/appeal.toml", "0", "--module", f"{MODULE}:8"],
+        "",
+        "examples/appeal.toml",
+        beside=[MODULE],
+    ),
+    Command(
+        ALL_HOLES,
+        [
+            "explore",
+            "examples/appeal.toml",
+            "0",
+            "--module",
+            f"{MODULE}:8",
+            "--all-holes",
+        ],
         "",
         "examples/appeal.toml",
         beside=[MODULE],

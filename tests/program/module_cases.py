@@ -22,6 +22,7 @@ from tests.support.counts import require, wants
 from tests.support.program_rows import DONE, REFUSED_TEXT, Stage, Wrong, expect
 from tests.support.servers import Run
 from tests.support.tournaments import TRIANGLE as NETWORK
+from tests.support.tournaments import match, write_cup
 from tests.support.wasm_encoding import (
     I32,
     Call,
@@ -131,6 +132,57 @@ def solved(stage: Stage) -> None:
     )
 
 
+def holed(stage: Stage, hole: int, *words: str) -> Run:
+    """What is found of the sample module on a ring of 5 with home base 2."""
+    limits = {"home": 2, "quota": 100, "board": 48}
+    dark = [] if "--all-holes" not in words else [(2, 0)]
+    write_cup(stage.folder, [match("red", ring(5), [hole], dark=dark, **limits)])
+    (stage.folder / "ring.wasm").write_bytes(RING.read_bytes())
+    return stage.run(
+        ["explore", "cup.toml", "0", "--module", "ring.wasm:5", *words], b""
+    )
+
+
+def named(hole: int) -> bytes:
+    """The line that names a black hole."""
+    return b'{"hole":%d}\n' % hole
+
+
+@case("with --all-holes a ring is solved with each black hole, as with each alone")
+def all_holes(stage: Stage) -> None:
+    for words in ([], ["--draws", "3"], ["--spurious-wakeups", "0"]):
+        wanted = b"".join(
+            named(hole) + holed(stage, hole, *words).printed for hole in (0, 1, 3, 4)
+        )
+        expect(holed(stage, 4, "--all-holes", *words), wanted, b"", DONE)
+
+
+@case("with --all-holes the first black hole with which a schedule fails is the last")
+def first_failing(stage: Stage) -> None:
+    for agent, file in three_agents().items():
+        (stage.folder / f"{agent}.wasm").write_bytes(file)
+    for port, holes in ((1, (1, 2)), (0, (1,))):
+        modules = ["--module", f"walks.wasm:{port}", "--module", "leaves.wasm"]
+        words = ["explore", "cup.toml", "0", *modules]
+        wanted = b""
+        for hole in holes:
+            writes(
+                stage,
+                tri=TRIANGLE,
+                cup=CUP.replace("holes = [2]", f"holes = [{hole}]"),
+            )
+            wanted += named(hole) + stage.run(words, b"").printed
+        expect(stage.run([*words, "--all-holes"], b""), wanted, b"", FAILING)
+
+
+@case("with --all-holes a search with too many states names its black hole")
+def too_many_states(stage: Stage) -> None:
+    told = b"agent.wasm: states\n  with node 1 as the black hole\n"
+    agent = running(CALL + b"\x00" + DROP, "enter")
+    found = tried(stage, agent, "--all-holes", "--max-states", "1")
+    expect(found, b"", told, REFUSED_TEXT)
+
+
 @case("the sample module is what clang makes of its source, as far as searches tell")
 def compiled(stage: Stage) -> None:
     if shutil.which("clang") is None or shutil.which("wasm-ld") is None:
@@ -208,30 +260,25 @@ def burns(stage: Stage) -> None:
     explores(stage, running(grows + fills * 25), SILENT, FAILING)
 
 
-@case("each agent runs its own module, and each module has a line of its own")
-def for_each(stage: Stage) -> None:
-    writes(stage, tri=TRIANGLE, cup=CUP)
+def three_agents() -> Dict[str, bytes]:
+    """Modules of three agents on a triangle: one walks by the port of its argument, and
+    then accuses the link behind it; one leaves; one traps."""
     enters, leaves, departs, accuses, argument, came = (
         CALL + bytes([place]) for place in range(6)
     )
     goes = constant(I32, 0) + argument + departs + DROP
     walks = goes + constant(I32, 1) + came + SUBTRACT + accuses + DROP
-    agents = {
-        name: running(
-            enters + DROP + body,
-            "enter",
-            "leave",
-            "depart",
-            "accuse",
-            "argument",
-            "came",
-        )
-        for name, body in (
-            ("walks", walks),
-            ("leaves", leaves + DROP),
-            ("traps", b"\0"),
-        )
+    calls = ("enter", "leave", "depart", "accuse", "argument", "came")
+    bodies = {"walks": walks, "leaves": leaves + DROP, "traps": b"\0"}
+    return {
+        name: running(enters + DROP + body, *calls) for name, body in bodies.items()
     }
+
+
+@case("each agent runs its own module, and each module has a line of its own")
+def for_each(stage: Stage) -> None:
+    writes(stage, tri=TRIANGLE, cup=CUP)
+    agents = three_agents()
     for agent, file in agents.items():
         (stage.folder / f"{agent}.wasm").write_bytes(file)
     solves = '{"found":"solves","moves":%d,"lost":%d,'

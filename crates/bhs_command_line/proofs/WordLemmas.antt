@@ -20,6 +20,7 @@ use Rattle.bhs_command_line.specs.declared.orders.Order.{Order}
 use Rattle.bhs_command_line.specs.declared.orders.Order.TheVariants.{Check, Explain, Explore, Judge, Recover, Rehearse}
 use Rattle.bhs_command_line.specs.declared.orders.Order.TheVariants.{RehearseInteractively, Serve, Table, Twin}
 use Rattle.bhs_command_line.specs.declared.orders.Order.TheVariants.{ContestTable, ExploreModules, RecoverContest}
+use Rattle.bhs_command_line.specs.declared.orders.Order.TheVariants.{ExploreAllHoles}
 use Rattle.bhs_command_line.specs.declared.orders.Order.TheVariants as order
 use Rattle.bhs_command_line.specs.declared.orders.AgentModule.{AgentModule}
 use Rattle.bhs_command_line.specs.declared.orders.TableEntry.{TableEntry}
@@ -326,7 +327,7 @@ module_explore_found : (tournament word spelled : Text) → is_dashed tournament
     → is_dashed spelled ≡ false
     → (faults (codes "explore" ∷ tournament ∷ word ∷ codes "--module" ∷ spelled ∷ []) ≡ [])
     × (option_and_then order_by (command_in (codes "explore" ∷ tournament ∷ word ∷ codes "--module" ∷ spelled ∷ []))
-    ≡ exploring_of tournament (spelled ∷ []) (plain_exploration_in word))
+    ≡ exploring_of tournament (spelled ∷ []) false (plain_exploration_in word))
 unfolding clap_on_literals drawing_in
 module_explore_found tournament word spelled e f h =
     order_read explore_enters (tournament ∷ word ∷ codes "--module" ∷ spelled ∷ []) _ _
@@ -335,6 +336,22 @@ module_explore_found tournament word spelled e f h =
     (reads_more (record { faultless = refl; goes = refl })
     (reads_more (read_plain (leaf_of explore) _ 3 (option (codes "module")) spelled h refl)
     (reads_none (leaf_of explore) _))))) refl refl
+
+all_holes_found : (tournament word spelled : Text) → is_dashed tournament ≡ false → is_dashed word ≡ false
+    → is_dashed spelled ≡ false
+    → (faults (codes "explore" ∷ tournament ∷ word ∷ codes "--module" ∷ spelled ∷ codes "--all-holes" ∷ []) ≡ [])
+    × (option_and_then order_by
+    (command_in (codes "explore" ∷ tournament ∷ word ∷ codes "--module" ∷ spelled ∷ codes "--all-holes" ∷ []))
+    ≡ exploring_of tournament (spelled ∷ []) true (plain_exploration_in word))
+unfolding clap_on_literals drawing_in
+all_holes_found tournament word spelled e f h =
+    order_read explore_enters (tournament ∷ word ∷ codes "--module" ∷ spelled ∷ codes "--all-holes" ∷ []) _ _
+    (reads_more (read_plain (leaf_of explore) _ 1 idle tournament e refl)
+    (reads_more (read_plain (leaf_of explore) _ 2 idle word f refl)
+    (reads_more (record { faultless = refl; goes = refl })
+    (reads_more (read_plain (leaf_of explore) _ 3 (option (codes "module")) spelled h refl)
+    (reads_more (record { faultless = refl; goes = refl })
+    (reads_none (leaf_of explore) _)))))) refl refl
 
 here : (words given : List Text) (order : Order) → words ≡ given → Gives given order → Gives words order
 here words given order is gives = subst (λ (ws : List Text). Gives ws order) (sym is) gives
@@ -383,8 +400,16 @@ says_gives words (ExploreModules tournament modules exploration)
     let found = module_explore_found tournament word spelled plain also third in
     here words _ _ is (
       found.0,
-      found.1 ∙ ap (exploring_of tournament (spelled ∷ [])) says
+      found.1 ∙ ap (exploring_of tournament (spelled ∷ []) false) says
           ∙ ap (option_map (λ (m : List AgentModule). ExploreModules tournament m exploration)) reads,
+    )
+says_gives words (ExploreAllHoles tournament modules exploration)
+    (word, spelled, plain, also, third, says, reads, is) =
+    let found = all_holes_found tournament word spelled plain also third in
+    here words _ _ is (
+      found.0,
+      found.1 ∙ ap (exploring_of tournament (spelled ∷ []) true) says
+          ∙ ap (option_map (λ (m : List AgentModule). ExploreAllHoles tournament m exploration)) reads,
     )
 says_gives words (Serve tournament hosting) (port, sessions, turns, pause, plain, also, says, is) =
     let found = serve_found tournament port sessions turns pause hosting.prefix plain also

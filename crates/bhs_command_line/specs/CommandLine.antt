@@ -17,10 +17,11 @@ use Rattle.bhs_command_line.specs.Exploring.{explore, exploration_by, modules_in
 use Rattle.bhs_command_line.specs.Serving.{hosting_by, hosting_in, plain_words, serve}
 use Rattle.bhs_command_line.specs.declared.orders.Order.{Order}
 use Rattle.bhs_command_line.specs.declared.orders.Order.TheVariants.{Rehearse, Check, Judge, Table, Explain, Twin}
-use Rattle.bhs_command_line.specs.declared.orders.Order.TheVariants.{Explore, ExploreModules, Recover, Serve}
-use Rattle.bhs_command_line.specs.declared.orders.Order.TheVariants.{RehearseInteractively}
+use Rattle.bhs_command_line.specs.declared.orders.Order.TheVariants.{Explore, ExploreModules, ExploreAllHoles, Recover}
+use Rattle.bhs_command_line.specs.declared.orders.Order.TheVariants.{RehearseInteractively, Serve}
 use Rattle.bhs_command_line.specs.declared.orders.Order.TheVariants.{ContestTable, RecoverContest}
 use Rattle.bhs_command_line.specs.declared.orders.Order.TheVariants as variants
+use Rattle.bhs_command_line.specs.declared.orders.AgentModule.{AgentModule}
 use Rattle.bhs_command_line.specs.declared.orders.Appeal.{Appeal}
 use Rattle.bhs_command_line.specs.declared.orders.Exploration.{Exploration}
 use Rattle.bhs_command_line.specs.declared.orders.TableEntry.{TableEntry}
@@ -142,12 +143,22 @@ recovery_of file (Some prefix) = RecoverContest file prefix
 abbrev pub recovery_by : List Row → Order
 recovery_by rows = recovery_of (text_in (codes "file") rows) (first_of (codes "prefix") rows)
 
+-- the exploration of a match whose agents a host plays, with the black holes of the match: with all others it is none
+abbrev pub exploring_host : (tournament : Text) → (is_all : Bool) → Option Exploration → Option Order
+exploring_host tournament is_all exploration = if is_all then None else option_map (Explore tournament) exploration
+
+-- the exploration of a match whose agents run these modules, with all black holes or those of the match
+abbrev pub exploring_modules : (tournament : Text) → (is_all : Bool) → Exploration → List AgentModule → Order
+exploring_modules tournament is_all exploration modules =
+    if is_all then ExploreAllHoles tournament modules exploration else ExploreModules tournament modules exploration
+
 -- the exploration of a match whose agents a host plays, or run the modules that words say
-abbrev pub exploring_of : (tournament : Text) → (words : List Text) → Option Exploration → Option Order
-exploring_of tournament [] exploration = option_map (Explore tournament) exploration
-exploring_of tournament (word ∷ words) (Some exploration) =
-    option_map (λ modules. ExploreModules tournament modules exploration) (modules_in (word ∷ words))
-exploring_of tournament (word ∷ words) None = None
+abbrev pub exploring_of : (tournament : Text) → (words : List Text) → (is_all : Bool) → Option Exploration
+    → Option Order
+exploring_of tournament [] is_all exploration = exploring_host tournament is_all exploration
+exploring_of tournament (word ∷ words) is_all (Some exploration) =
+    option_map (exploring_modules tournament is_all exploration) (modules_in (word ∷ words))
+exploring_of tournament (word ∷ words) is_all None = None
 
 -- the order that a command gives
 abbrev pub order_by : Text × List Row → Option Order
@@ -165,7 +176,8 @@ order_by (name, rows) =
     else (if bytes_eq name (codes "recover")
     then Some (recovery_by rows)
     else (if bytes_eq name (codes "explore")
-    then exploring_of (text_in (codes "tournament") rows) (texts_in (codes "module") rows) (exploration_by rows)
+    then exploring_of (text_in (codes "tournament") rows) (texts_in (codes "module") rows)
+    (is_given (codes "all-holes") rows) (exploration_by rows)
     else (if bytes_eq name (codes "serve")
     then option_map (Serve (text_in (codes "tournament") rows)) (hosting_by rows)
     else None))))))))
@@ -230,6 +242,10 @@ Says words (ExploreModules tournament modules exploration) =
     (word : Text) × (spelled : Text) × IsName tournament × IsName word × IsName spelled
     × (plain_exploration_in word ≡ Some exploration) × (modules_in (spelled ∷ []) ≡ Some modules)
     × (words ≡ codes "explore" ∷ tournament ∷ word ∷ codes "--module" ∷ spelled ∷ [])
+Says words (ExploreAllHoles tournament modules exploration) =
+    (word : Text) × (spelled : Text) × IsName tournament × IsName word × IsName spelled
+    × (plain_exploration_in word ≡ Some exploration) × (modules_in (spelled ∷ []) ≡ Some modules)
+    × (words ≡ codes "explore" ∷ tournament ∷ word ∷ codes "--module" ∷ spelled ∷ codes "--all-holes" ∷ [])
 Says words (Serve tournament hosting) =
     (port : Text) × (sessions : Text) × (turns : Text) × (pause : Text)
     × IsName tournament × IsName hosting.prefix

@@ -5,8 +5,8 @@ use Rattle.std.specs.List.{before_first, after_first, position_or_len}
 use Rattle.std.specs.Str.{bytes_eq}
 use Rattle.clap.specs.Words.{Row, Rule, Shape, Text, first_of}
 use Rattle.clap.specs.declared.builder.action.ArgAction.TheVariants.{Append}
-use Rattle.bhs_command_line.specs.Arguments.{NumberOption, behind, command, may_have, must_have, number_in, number_of}
-use Rattle.bhs_command_line.specs.Arguments.{all_said, number_within, numbered, text_in}
+use Rattle.bhs_command_line.specs.Arguments.{NumberOption, behind, command, flag, may_have, must_have, number_in}
+use Rattle.bhs_command_line.specs.Arguments.{all_said, number_of, number_within, numbered, text_in}
 use Rattle.bhs_command_line.specs.declared.orders.AgentModule.{AgentModule}
 use Rattle.bhs_command_line.specs.declared.orders.Drawing.{Drawing}
 use Rattle.bhs_command_line.specs.declared.orders.Exploration.{Exploration}
@@ -30,7 +30,8 @@ module_words = record (behind (codes "module") (may_have (codes "module"))) { ac
 
 abbrev pub explore : Shape
 explore = command (codes "explore") (must_have (codes "tournament") ∷ must_have (codes "match")
-    ∷ module_words ∷ numbered states_option ∷ numbered wakeups_option
+    ∷ module_words ∷ behind (codes "all-holes") (flag (codes "all-holes")) ∷ numbered states_option
+    ∷ numbered wakeups_option
     ∷ behind (codes "draws") (may_have (codes "draws")) ∷ behind (codes "seed") (may_have (codes "seed"))
     ∷ behind (codes "scheduler") (may_have (codes "scheduler"))
     ∷ behind (codes "objective") (may_have (codes "objective")) ∷ [])

@@ -5,6 +5,7 @@ ghost use Rattle.bhs_command_line.specs.Arguments.{is_given, number_in, number_w
 ghost use Rattle.bhs_command_line.specs.Serving.{hosting_by};
 ghost use Rattle.bhs_command_line.specs.Exploring.{drawing_by, exploration_by};
 ghost use Rattle.bhs_command_line.specs.CommandLine.{appeal_of, contest_table_by, entries_in, exploring_of};
+ghost use Rattle.bhs_command_line.specs.CommandLine.{exploring_host, exploring_modules};
 ghost use Rattle.bhs_command_line.specs.CommandLine.{is_one_word, judging_by, judging_of, order_by, recovery_by};
 ghost use Rattle.bhs_command_line.specs.CommandLine.{rehearsal_of, tabling_by};
 ghost use Rattle.bhs_command_line.specs.Told.{most_of, number_by, row_number};
@@ -15,7 +16,7 @@ use crate::commands::{
     twin,
 };
 use crate::drawings::drawing;
-use crate::orders::{Appeal, Drawing, Entries, Exploration, Hosting, Order};
+use crate::orders::{AgentModules, Appeal, Drawing, Entries, Exploration, Hosting, Order};
 use crate::words::{entries_in, modules_in, number_within, text};
 use bhs_text::Text;
 use clap::ArgMatches;
@@ -217,35 +218,68 @@ fn exploring_given(alloc: Global, words: &ArgMatches<'_>) -> Result<Option<Order
         return Ok(None);
     };
     let tournament = text_given(alloc, words, &TOURNAMENT)?;
+    let is_all = is_given(words, &explore::ALL_HOLES);
     match words.get_strs(explore::MODULE.id) {
-        Some(texts) => exploring(alloc, tournament, texts, exploration),
-        None => exploring(alloc, tournament, &[], exploration),
+        Some(texts) => exploring(alloc, tournament, texts, is_all, exploration),
+        None => exploring(alloc, tournament, &[], is_all, exploration),
     }
 }
 
-// The order to explore with the modules that words say, or with a host if there are none.
+// The order to explore with the modules that words say, with all black holes or those of the match; or with a host if
+// there are no words, which must then be with those of the match.
 fn exploring(
     alloc: Global,
     tournament: Text,
     words: &[&str],
+    is_all: bool,
     exploration: Exploration,
 ) -> Result<Option<Order>, AllocError>
     ensures { IfOk result (λ order. order
-        ≡ exploring_of tournament (map (λ word. word.now) words.now) (Some exploration)) }
+        ≡ exploring_of tournament (map (λ word. word.now) words.now) is_all (Some exploration)) }
 {
     if words.is_empty() {
-        return Ok(Some(Order::Explore {
-            tournament,
-            exploration,
-        }));
+        return Ok(exploring_host(tournament, is_all, exploration));
     }
     match modules_in(alloc, words)? {
-        Some(modules) => Ok(Some(Order::ExploreModules {
+        Some(modules) => Ok(Some(exploring_modules(tournament, is_all, exploration, modules))),
+        None => Ok(None),
+    }
+}
+
+// The order to explore with a host, with the black holes of the match.
+fn exploring_host(tournament: Text, is_all: bool, exploration: Exploration) -> Option<Order>
+    ensures { result ≡ exploring_host tournament is_all (Some exploration) }
+{
+    if is_all {
+        return None;
+    }
+    Some(Order::Explore {
+        tournament,
+        exploration,
+    })
+}
+
+// The order to explore with these modules, with all black holes or those of the match.
+fn exploring_modules(
+    tournament: Text,
+    is_all: bool,
+    exploration: Exploration,
+    modules: AgentModules,
+) -> Order
+    ensures { result ≡ exploring_modules tournament is_all exploration modules }
+{
+    if is_all {
+        Order::ExploreAllHoles {
             tournament,
             modules,
             exploration,
-        })),
-        None => Ok(None),
+        }
+    } else {
+        Order::ExploreModules {
+            tournament,
+            modules,
+            exploration,
+        }
     }
 }
 
@@ -262,8 +296,8 @@ fn serving_given(alloc: Global, words: &ArgMatches<'_>) -> Result<Option<Order>,
     }
 }
 
-// Whether an option that takes no word is given.
-fn is_given(words: &ArgMatches<'_>, argument: &Argument) -> bool
+/// Whether an option that takes no word is given.
+pub(crate) fn is_given(words: &ArgMatches<'_>, argument: &Argument) -> bool
     ensures { result ≡ is_given argument.now.id.now (rows_of (found_of words.now)) }
 {
     words.get_str(argument.id).unwrap_or("") == "true"

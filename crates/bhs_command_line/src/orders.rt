@@ -74,6 +74,12 @@ pub enum Order {
         modules: AgentModules,
         exploration: Exploration,
     },
+    /// The same, but each node other than the home base is the only black hole in turn.
+    ExploreAllHoles {
+        tournament: Text,
+        modules: AgentModules,
+        exploration: Exploration,
+    },
     /// Serves the tournament of this file to agents that connect.
     Serve {
         tournament: Text,

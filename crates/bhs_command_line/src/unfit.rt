@@ -2,7 +2,7 @@
 
 use crate::commands::{Argument, COMMANDS, Need, Takes, explore, judge, table};
 use crate::drawings::{objective_in, scheduler_in};
-use crate::given::number_by;
+use crate::given::{is_given, number_by};
 use crate::orders::MAX_ARGUMENTS;
 use crate::words::{entry_in, module_in};
 use clap::ArgMatches;
@@ -46,9 +46,14 @@ fn apart(name: &str, words: &ArgMatches<'_>) -> Option<&'static str> {
     match name {
         "judge" if !is_whole_appeal(words) => Some(judge::TOGETHER),
         "table" if is_there(words, &table::PREFIX) => Some(table::ONE_WORD),
+        "explore" if lacks_module(words) => Some(explore::NEED_MODULE),
         "explore" if lacks_draws(words) => Some(explore::NEED_DRAWS),
         _ => None,
     }
+}
+
+fn lacks_module(words: &ArgMatches<'_>) -> bool {
+    is_given(words, &explore::ALL_HOLES) && !is_there(words, &explore::MODULE)
 }
 
 fn lacks_draws(words: &ArgMatches<'_>) -> bool {

@@ -1,4 +1,7 @@
+mod HoleLemmas
 pub mod HostLemmas
 pub mod LinkLemmas
 pub mod ListLemmas
 pub mod ModuleLemmas
+mod RoleLemmas
+mod TellLemmas

@@ -1,21 +1,21 @@
 -- Teams that run modules, one role after the other, and the lines of their modules.
 use Rattle.std.proofs.Common.{◌≡◌, ◌∙◌, refl, sym, ap, ap₂, ℕ, ◌+◌, ◌<◌, List, [], ◌∷◌, ◌++◌, append_assoc, append-nil}
-use Rattle.std.proofs.Common.{get_or, length, map, subst, take, Option, Some, Result, Ok, Err, OnOk, false}
+use Rattle.std.proofs.Common.{get_or, length, map, take, Option, Some, Result, Ok, Err, OnOk, false}
 use Rattle.std.specs.Result.{is_err}
-use Rattle.std.proofs.lemmas.List.{length-map, map-append, take_more}
+use Rattle.std.proofs.lemmas.List.{map-append, take_more}
 use Rattle.bhs_command_line.specs.declared.orders.AgentModule.{AgentModule}
 use Rattle.bhs_wasm.specs.Contents.{contents_of}
 use Rattle.bhs_wasm_read.specs.Modules.{module_in}
 use Rattle.bhs_wasm_team.specs.declared.agents.Role.{Role}
 use Rattle.bhs_wasm_team.specs.declared.failures.ModuleFailure.{ModuleFailure}
 use Rattle.bhs_wasm_team.specs.Roles.{all_roles}
-use Rattle.bhs_orders_explore.specs.ModuleExploration.{AreFor, IsTeamOf, ModuleLine, module_line, module_lines}
+use Rattle.bhs_orders_explore.specs.ModuleExploration.{IsTeamOf, ModuleLine, module_line, module_lines}
 use Rattle.bhs_orders_explore.specs.declared.modules.FileRoles.{FileRoles}
 use Rattle.bhs_orders_explore.specs.declared.modules.ModuleFile.{ModuleFile}
 
 -- one more of each of two lists
-one_more : {T U V : Type 0} (f : T → V) (g : U → V) (xs : List T) (ys : List U) (x : T) (y : U) → map f xs ≡ map g ys
-    → f x ≡ g y → map f (xs ++ x ∷ []) ≡ map g (ys ++ y ∷ [])
+pub one_more : {T U V : Type 0} (f : T → V) (g : U → V) (xs : List T) (ys : List U) (x : T) (y : U)
+    → map f xs ≡ map g ys → f x ≡ g y → map f (xs ++ x ∷ []) ≡ map g (ys ++ y ∷ [])
 one_more {V = V} f g xs ys x y same one =
     map-append f xs (x ∷ [])
     ∙ (ap₂ (λ (front : List V) (last : V). front ++ last ∷ []) same one ∙ sym (map-append g ys (y ∷ [])))
@@ -53,16 +53,6 @@ has_more old new first others place d role file within one roles files of_role o
           old.files.items (all_roles old.roles) file role team.are is
           ∙ ap (map (λ (it : Role). Some (contents_of it.program))) (sym all));
     }
-
--- ---- how many modules there are
-
--- as many modules as arguments of modules
-pub counted : (agents wanted : ℕ) (all modules : List AgentModule) → agents ≡ wanted → all ≡ modules
-    → AreFor agents (length all) → AreFor wanted (length (map (λ it. it.arguments) modules))
-counted agents wanted all modules same_agents same_modules enough =
-    subst (λ (it : ℕ). AreFor it (length (map (λ one. one.arguments) modules))) same_agents
-    (subst (λ (count : ℕ). AreFor agents count) (ap length same_modules
-    ∙ sym (length-map modules (λ (one : AgentModule). one.arguments))) enough)
 
 -- ---- lines
 

@@ -1,3 +1,5 @@
 pub mod Discoveries
+pub mod HoleResults
+pub mod Holes
 pub mod HostAnswers
 pub mod ModuleExploration

@@ -1,6 +1,6 @@
 -- What is found of a match whose agents run modules, and what is printed of it.
-use Rattle.std.specs.Prelude.{◌≡◌, ◌==◌, ℕ, Bool, List, ◌++◌, codes, decimal, Option, Some, None, slice_get}
-use Rattle.std.specs.Prelude.{[], ◌∷◌, ◌⊎◌, if◌then◌else◌, is_some, length, map}
+use Rattle.std.specs.Prelude.{◌≡◌, ◌==◌, ℕ, Bool, true, false, List, ◌++◌, codes, decimal, Option, Some, None}
+use Rattle.std.specs.Prelude.{slice_get, [], ◌∷◌, ◌⊎◌, if◌then◌else◌, is_some, length, map}
 use Rattle.hex.specs.Hex.{encode_lower}
 use Rattle.sha2.specs.Sha256.{sha256}
 use Rattle.bhs_stream.specs.Streams.{WriteAnswer}
@@ -15,6 +15,8 @@ use Rattle.bhs_wasm_team.specs.declared.agents.TheConstants.{FUEL}
 use Rattle.bhs_wasm_team.specs.declared.failures.FailureCause.{FailureCause}
 use Rattle.bhs_wasm_team.specs.declared.failures.FailureCause.TheVariants as causes
 use Rattle.bhs_wasm_team.specs.declared.failures.ModuleFailure.{ModuleFailure}
+use Rattle.bhs_schedules.specs.declared.results.Finding.{Finding}
+use Rattle.bhs_schedules.specs.declared.results.Finding.TheVariants.{Comes}
 use Rattle.bhs_wasm_team.specs.Laws.{IsFoundOf}
 use Rattle.bhs_wasm_team.specs.Roles.{all_roles}
 use Rattle.bhs_orders_explore.specs.Discoveries.{AreLinks, IsCounted, discovery, found_in, found_status, is_drawn}
@@ -66,14 +68,20 @@ module_discovery found lines = discovery found ++ module_lines lines
 
 -- ---- what it is true of
 
+-- whether it is told of one schedule that it solves, and of all others nothing
+abbrev pub is_of_one : Finding → Bool
+is_of_one (Comes verdict schedule) = true
+is_of_one other = false
+
 -- What was found of this match, with its held links, is true of agents in these roles. Schedules were drawn if the
--- exploration has that.
+-- exploration has that. If all were tried, it is not told of one alone that it solves.
 pub record IsFoundOfModules (ready : Ready) (exploration : Exploration) (roles : Roles) (fuel : ℕ) (found : Discovery) :
     Type 0 where
   pub links : List (ℕ × ℕ)
   pub held : AreLinks ready links
   pub is_found : IsFoundOf ready.game.net ready.game.setup links exploration.wakeups roles fuel (found_in found)
   pub kind : is_drawn found ≡ is_some exploration.drawing
+  pub all : is_drawn found ≡ false → is_of_one (found_in found) ≡ false
   pub counted : IsCounted found
 
 -- the modules of all roles, in their order
@@ -101,6 +109,11 @@ AreFor agents modules = (modules ≡ 1) ⊎ (modules ≡ agents)
 -- the arguments of all roles, in their order
 abbrev pub arguments_of : Roles → List (List ℕ)
 arguments_of roles = map (λ role. role.arguments.items) (all_roles roles)
+
+-- the match of this number is wanted, with these modules: one for all its agents, or one for each of them
+pub record IsWanted (lineup : Lineup) (game : ℕ) (modules : List AgentModule) (ready : Ready) : Type 0 where
+  pub is_match : slice_get lineup.ready.items game ≡ Some ready
+  pub enough : AreFor ready.game.setup.agents (length (map (λ it. it.arguments) modules))
 
 -- the roles have the arguments of these modules, and so have the files, whose modules the roles run
 pub record IsTeamOf (modules : List AgentModule) (team : FileRoles) : Type 0 where

@@ -95,7 +95,7 @@ fn discovered<R: Input, W: Output>(
     ensures { IfOk result (IsFound ready.now exploration) }
 {
     let held = held_links(alloc, ready)?;
-    let world = world_of(alloc, ready)?;
+    let world = world_of(alloc, ready, None)?;
     let mut host = Host::new(alloc, reader, writer);
     let mut explorer = match Explorer::new(alloc, world, held, exploration.wakeups, &mut host) {
         Ok(explorer) => explorer,

@@ -3,10 +3,12 @@
 
 mod discoveries;
 mod exploring;
+mod holes;
 mod hosts;
 mod links;
 mod modules;
 mod worlds;
 
 pub use exploring::explore_named;
+pub use holes::explore_holes_named;
 pub use modules::explore_modules_named;

@@ -1,12 +1,17 @@
 //! The schedules of a match whose agents run WebAssembly modules: all of them, or some that are drawn.
 
-ghost use Rattle.std.specs.Prelude.{◌≡◌, ◌∷◌, ◌++◌, [], ℕ, List, Some, IfErr, IfOk, IfSome, OnOk, length, map};
+ghost use Rattle.std.specs.Prelude.{◌≡◌, ◌<◌, ◌∷◌, ◌++◌, [], ℕ, List, Some, IfErr, IfOk, IfSome, OnOk};
+ghost use Rattle.std.specs.Prelude.{false, length, map};
 ghost use Rattle.std.specs.Prelude.{string_bytes};
 ghost use Rattle.hex.specs.Hex.{encode_lower};
 ghost use Rattle.sha2.specs.Sha256.{sha256};
 ghost use Rattle.bhs_orders.specs.Fault.{IsOfFault};
 ghost use Rattle.bhs_orders_explore.specs.ModuleExploration.{AreFor, ExploresModules, IsFoundOfModules, IsModuleReport};
-ghost use Rattle.bhs_orders_explore.specs.ModuleExploration.{IsTeamOf, ModuleLine, PrintsReport, cause_text};
+ghost use Rattle.bhs_orders_explore.specs.ModuleExploration.{IsTeamOf, IsWanted, ModuleLine, PrintsReport};
+ghost use Rattle.bhs_orders_explore.specs.ModuleExploration.{cause_text, is_of_one};
+ghost use Rattle.bhs_orders_explore.specs.Holes.{match_with};
+ghost use Rattle.bhs_orders_explore.specs.declared.discoveries.Discovery.TheVariants.{Tried};
+ghost use Rattle.bhs_net.specs.Network.{nodes_of};
 ghost use Rattle.bhs_orders_explore.specs.ModuleExploration.{failure_items};
 ghost use Rattle.bhs_orders_explore.specs.ModuleExploration.{module_items, module_line, module_lines, programs_of};
 ghost use Rattle.bhs_wasm.specs.Contents.{contents_of};
@@ -17,11 +22,12 @@ use crate::exploring::draws_of;
 use crate::links::held_links;
 use crate::worlds::world_of;
 use bhs_command_line::{AgentModule, AgentModules, Exploration};
-use bhs_lineup::Ready;
+use bhs_explore::Explored;
+use bhs_lineup::{Lineup, Ready};
 use bhs_model::{MAX_TEXT, MAX_TURNS, Text};
 use bhs_net::Memory;
 use bhs_orders::{DONE, Fault, Shown, lineup_of, report, report_with_cause, show_text};
-use bhs_schedules::ExploreFault;
+use bhs_schedules::{ExploreFault, Finding};
 use bhs_stream::{Output, read_text};
 use bhs_wasm::Module;
 use bhs_wasm_read::{FaultKind, ModuleFault, module_of};
@@ -34,18 +40,18 @@ use std::fs;
 use std::io::Write;
 use std::rt::Files;
 
-// The file of a module, and the arguments of the agents that run it.
+/// The file of a module, and the arguments of the agents that run it.
 #[derive(Drop)]
-struct ModuleFile {
-    bytes: Vec<u8>,
-    arguments: Vec<u32>,
+pub(crate) struct ModuleFile {
+    pub(crate) bytes: Vec<u8>,
+    pub(crate) arguments: Vec<u32>,
 }
 
-// The roles of agents that run the modules of files, and these files in the order of the roles.
+/// The roles of agents that run the modules of files, and these files in the order of the roles.
 #[derive(Drop)]
-struct FileRoles {
-    roles: Roles,
-    files: Vec<ModuleFile>,
+pub(crate) struct FileRoles {
+    pub(crate) roles: Roles,
+    pub(crate) files: Vec<ModuleFile>,
 }
 
 impl FileRoles {
@@ -77,30 +83,60 @@ pub fn explore_modules_named<F: Files, W: Output, E: Write>(
     ensures { ExploresModules W.takes W.flushes (map (λ it. it.arguments) modules) exploration writer.old writer.new
         result }
 {
-    let lineup = match lineup_of(alloc, files, tournament.as_str(), errors) {
+    let name = tournament.as_str();
+    let lineup = match lineup_of(alloc, files, name, errors) {
         Ok(lineup) => lineup,
         Err(status) => return status,
     };
-    let game = exploration.game;
-    let Some(ready) = lineup.ready.get(usize::from(game)) else {
-        return report(tournament.as_str(), Fault::NoMatch { game }, errors);
+    let (ready, first, others) = match wanted(&lineup, name, &modules, exploration.game, errors) {
+        Ok(wanted) => wanted,
+        Err(status) => return status,
     };
-    let agents = ready.game.setup().agents;
-    let Some((first, others)) = modules_for(agents, modules.all()) else {
-        return report_count(tournament.as_str(), modules.all().len(), agents, errors);
-    };
-    let team = match team_of(alloc, files, first, others, errors) {
+    let FileRoles { roles, files } = match team_of(alloc, files, first, others, errors) {
         Ok(team) => team,
         Err(status) => return status,
     };
-    match explored(alloc, ready, exploration, team, errors) {
+    let search = ModuleSearch {
+        ready,
+        exploration,
+        files: &files,
+    };
+    match search.report(alloc, None, roles, errors) {
         Ok((text, status)) => print_report(text.as_str(), status, writer, errors),
         Err(fault) => report(first.file.as_str(), fault, errors),
     }
 }
 
-// Prints what was found, whose exit status is given.
-fn print_report<W: Output, E: Write>(text: &str, status: u8, writer: &mut W, errors: &mut E) -> u8
+/// The match of this number, and the first module of its agents and the others. Why they do not go together goes to
+/// `errors`; the answer is then its exit status.
+pub(crate) fn wanted<'l, E: Write>(
+    lineup: &'l Lineup,
+    name: &str,
+    modules: &'l AgentModules,
+    game: u16,
+    errors: &mut E,
+) -> Result<(&'l Ready, &'l AgentModule, &'l [AgentModule]), u8>
+    ensures wanted { IfOk result (λ found. IsWanted lineup.now game modules.now found.0.now) }
+    ensures modules { IfOk result (λ found. found.1.now ∷ found.2.now ≡ modules.now) }
+    ensures fault { IfErr result IsOfFault }
+{
+    let Some(ready) = lineup.ready.get(usize::from(game)) else {
+        return Err(report(name, Fault::NoMatch { game }, errors));
+    };
+    let agents = ready.game.setup().agents;
+    match modules_for(agents, modules.all()) {
+        Some((first, others)) => Ok((ready, first, others)),
+        None => Err(report_count(name, modules.all().len(), agents, errors)),
+    }
+}
+
+/// Prints what was found, whose exit status is given.
+pub(crate) fn print_report<W: Output, E: Write>(
+    text: &str,
+    status: u8,
+    writer: &mut W,
+    errors: &mut E,
+) -> u8
     ensures { PrintsReport W.takes W.flushes text.now status writer.old writer.new result }
 {
     let printed = show_text(text, writer, errors);
@@ -139,9 +175,9 @@ fn report_count<E: Write>(name: &str, modules: usize, agents: u16, errors: &mut 
     status
 }
 
-// The roles of agents that run the modules of files: the first one and others. Why they cannot be goes to `errors`; the
-// answer is then its exit status.
-fn team_of<F: Files, E: Write>(
+/// The roles of agents that run the modules of files: the first one and others. Why they cannot be goes to `errors`;
+/// the answer is then its exit status.
+pub(crate) fn team_of<F: Files, E: Write>(
     alloc: Global,
     files: &F,
     first: &AgentModule,
@@ -336,24 +372,69 @@ fn report_module<E: Write>(name: &str, fault: &ModuleFault, errors: &mut E) -> u
     Fault::Text.status()
 }
 
-// What is found of a match, as it is printed, and its exit status.
-fn explored<E: Write>(
-    alloc: Global,
-    ready: &Ready,
-    exploration: Exploration,
-    team: FileRoles,
-    errors: &mut E,
-) -> Result<(String, u8), Fault>
-    requires { map (λ file. module_in file.bytes.items) team.files.items ≡ programs_of team.roles }
-    ensures { IfOk result (λ told. IsModuleReport ready.now exploration team.roles
-        (map (λ file. file.arguments.items) team.files.items) (string_bytes told.0) told.1) }
-{
-    let FileRoles { roles, files } = team;
-    let mut agents = agents_in(alloc, roles)?;
-    let found = discovered(alloc, ready, exploration, &mut agents, errors)?;
-    let mut text = text_of(alloc, &found)?;
-    push_lines(alloc, &files, &agents, &mut text)?;
-    Ok((text, status_of(found_of(&found))))
+/// A match that is searched, and the files of the modules that its agents run. Threads may share it.
+#[derive(Drop)]
+pub(crate) struct ModuleSearch<'m> {
+    pub(crate) ready: &'m Ready,
+    pub(crate) exploration: Exploration,
+    pub(crate) files: &'m [ModuleFile],
+}
+
+impl ModuleSearch<'_> {
+    /// What is found of the match, or of the match with this node as its only black hole, by agents in these roles: as
+    /// it is printed, and its exit status.
+    pub(crate) fn report<E: Write>(
+        &self,
+        alloc: Global,
+        hole: Option<u16>,
+        roles: Roles,
+        errors: &mut E,
+    ) -> Result<(String, u8), Fault>
+        requires hole { IfSome hole (λ hole. hole < nodes_of self.now.ready.now.game.net) }
+        requires roles { map (λ file. module_in file.bytes.items) self.now.files.now ≡ programs_of roles }
+        ensures { IfOk result (λ told. IsModuleReport (match_with self.now.ready.now hole) self.now.exploration roles
+            (map (λ file. file.arguments.items) self.now.files.now) (string_bytes told.0) told.1) }
+    {
+        let mut agents = agents_in(alloc, roles)?;
+        let found = self.discovered(alloc, hole, &mut agents, errors)?;
+        let mut text = text_of(alloc, &found)?;
+        push_lines(alloc, self.files, &agents, &mut text)?;
+        Ok((text, status_of(found_of(&found))))
+    }
+
+    // What is found of the match, or of the match with this node as its only black hole.
+    fn discovered<E: Write>(
+        &self,
+        alloc: Global,
+        hole: Option<u16>,
+        agents: &mut Agents,
+        errors: &mut E,
+    ) -> Result<Discovery, Fault>
+        requires { IfSome hole (λ hole. hole < nodes_of self.now.ready.now.game.net) }
+        ensures { IfOk result (IsFoundOfModules (match_with self.now.ready.now hole) self.now.exploration
+            agents.old.roles agents.old.fuel) }
+    {
+        let held = held_links(alloc, self.ready)?;
+        let world = world_of(alloc, self.ready, hole)?;
+        let Exploration {
+            wakeups,
+            states,
+            ..
+        } = self.exploration;
+        match self.exploration.drawing {
+            None => match explore_module(world, held, wakeups, agents, states, errors) {
+                Ok(explored) => tried(explored),
+                Err(fault) => Err(fault_of(fault)),
+            },
+            Some(drawing) => {
+                let draws = draws_of(drawing, states);
+                match draw_module(world, held, wakeups, agents, draws) {
+                    Ok(drawn) => Ok(Discovery::Drawn(drawn)),
+                    Err(fault) => Err(fault_of(fault)),
+                }
+            }
+        }
+    }
 }
 
 // Agents in these roles.
@@ -363,32 +444,21 @@ fn agents_in(alloc: Global, roles: Roles) -> Result<Agents, Memory>
     Ok(Agents::new(alloc, roles, FUEL)?)
 }
 
-// What is found of a match.
-fn discovered<E: Write>(
-    alloc: Global,
-    ready: &Ready,
-    exploration: Exploration,
-    agents: &mut Agents,
-    errors: &mut E,
-) -> Result<Discovery, Fault>
-    ensures { IfOk result (IsFoundOfModules ready.now exploration agents.old.roles agents.old.fuel) }
+// What was found under all schedules. It is nothing that is told of one alone; the check of that is for the contract.
+fn tried(explored: Explored) -> Result<Discovery, Fault>
+    ensures found { IfOk result (λ found. found ≡ Tried explored) }
+    ensures all { IfOk result (λ found. is_of_one explored.found ≡ false) }
 {
-    let held = held_links(alloc, ready)?;
-    let world = world_of(alloc, ready)?;
-    let wakeups = exploration.wakeups;
-    match exploration.drawing {
-        None => match explore_module(world, held, wakeups, agents, exploration.states, errors) {
-            Ok(explored) => Ok(Discovery::Tried(explored)),
-            Err(fault) => Err(fault_of(fault)),
-        },
-        Some(drawing) => {
-            let draws = draws_of(drawing, exploration.states);
-            match draw_module(world, held, wakeups, agents, draws) {
-                Ok(drawn) => Ok(Discovery::Drawn(drawn)),
-                Err(fault) => Err(fault_of(fault)),
-            }
-        }
+    if is_of_one(&explored.found) {
+        return Err(Fault::from(ExploreFault::Check));
     }
+    Ok(Discovery::Tried(explored))
+}
+
+fn is_of_one(found: &Finding) -> bool
+    ensures { result ≡ is_of_one found.now }
+{
+    matches!(found, Finding::Comes { .. })
 }
 
 // Why an exploration ended: a module answers nothing only if memory is lacking.

@@ -24,6 +24,8 @@ use Rattle.bhs_orders_results.specs.Recovery.{recovers_nothing, unsaved_one}
 use Rattle.bhs_orders_results.specs.ContestTables.{AreFound, found_more, nothing_found, IsFound, status_in}
 use Rattle.bhs_orders_explore.specs.Discoveries.{Explores, ExploresMatch, found_in, found_status}
 use Rattle.bhs_orders_explore.specs.Discoveries.{exploration_done, exploration_ends, explores_nothing, explores_on}
+use Rattle.bhs_orders_explore.specs.Holes.{ExploresHoles, TellsHoles, all_told, explores_holes, explores_no_holes}
+use Rattle.bhs_orders_explore.specs.Holes.{other_nodes, tells_fault, tells_last, tells_on}
 use Rattle.bhs_orders_explore.specs.ModuleExploration.{ExploresModules, explores_modules, explores_no_modules}
 use Rattle.bhs_orders_rehearse.specs.Rehearsal.{Rehearses, done, unfiled, ends}
 use Rattle.bhs_orders_rehearse.specs.RehearsedTournaments.{RehearsesNamed, rehearses_on, refuses_file}
@@ -189,6 +191,23 @@ module _ {P I O : Type 0} (files : P → List ℕ → WriteAnswer → P → Type
       (of_found (found_in said.found) ended said.told))
   of_modules arguments exploration (explores_no_modules fault is kept) = inr (inr (fault, is))
 
+  of_holes : {IsReport : ℕ → List ℕ → ℕ → Type 0} → ((hole : ℕ) (text : List ℕ) (ended : ℕ)
+      → IsReport hole text ended → IsStatus ended)
+      → (holes : List ℕ) (from : O) → TellsHoles takes flushes IsReport output' code holes from → IsStatus code
+  of_holes each holes from (all_told is) = inl is
+  of_holes each holes from (tells_on hole rest text out there said shown told) = of_holes each rest there told
+  of_holes each holes from (tells_last hole rest text ended out said report not_done) =
+      rw report.coded (of_either (report.printed == DONE) report.printed ended
+      (of_print takes flushes out output' report.printed text report.prints) (each hole text ended said))
+  of_holes each holes from (tells_fault hole rest fault is) = inr (inr (fault, is))
+
+  of_all_holes : (arguments : List (List ℕ)) (exploration : Exploration) → ExploresHoles takes flushes arguments
+      exploration output output' code → IsStatus code
+  of_all_holes arguments exploration (explores_holes lineup assembled ready at some programs told) =
+      of_holes (λ hole text ended said. of_found (found_in said.is_report.found) ended said.is_report.told)
+      (other_nodes ready) output told
+  of_all_holes arguments exploration (explores_no_holes fault is kept) = inr (inr (fault, is))
+
   of_served : (port : ℕ) → Serves files takes flushes port output output' code → IsStatus code
   of_served port (serves_on lineup assembled heard shows hosts) =
       of_host files takes flushes _ _ _ heard output' code hosts
@@ -215,6 +234,7 @@ module _ {P I O : Type 0} (files : P → List ℕ → WriteAnswer → P → Type
       of_recovery files takes flushes output output' code recovered.1
   of_deed (order.Explore name exploration) explored = of_exploration exploration explored
   of_deed (order.ExploreModules name modules exploration) explored = of_modules _ exploration explored.1
+  of_deed (order.ExploreAllHoles name modules exploration) explored = of_all_holes _ exploration explored.1
   of_deed (order.Serve name hosting) served = of_served hosting.port served.1
 
   of_order : (order : Order) → Obeys files gives takes flushes order input input' output output' code → IsStatus code

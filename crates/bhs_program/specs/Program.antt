@@ -8,6 +8,7 @@ use Rattle.bhs_command_line.specs.declared.orders.Order.TheVariants as order
 use Rattle.bhs_orders_results.specs.Appeals.{Appeals}
 use Rattle.bhs_orders_results.specs.ContestTables.{TablesContest}
 use Rattle.bhs_orders_explore.specs.Discoveries.{Explores}
+use Rattle.bhs_orders_explore.specs.Holes.{ExploresHoles}
 use Rattle.bhs_orders.specs.Fault.{IsOfFault}
 use Rattle.bhs_orders_explore.specs.ModuleExploration.{ExploresModules}
 use Rattle.bhs_orders.specs.Showing.{Rests}
@@ -69,6 +70,9 @@ module _ {P I O : Type 0} (files : P → List ℕ → WriteAnswer → P → Type
   Does (order.ExploreModules name modules exploration) input input' output output' code =
       (input' ≡ input)
       × ExploresModules takes flushes (map (λ it. it.arguments) modules) exploration output output' code
+  Does (order.ExploreAllHoles name modules exploration) input input' output output' code =
+      (input' ≡ input)
+      × ExploresHoles takes flushes (map (λ it. it.arguments) modules) exploration output output' code
   Does (order.Serve name hosting) input input' output output' code =
       (input' ≡ input) × Serves files takes flushes hosting.port output output' code
 

@@ -7,7 +7,7 @@ ghost use Rattle.bhs_program.specs.Program.{IsStatus, Obeys, Runs};
 
 use bhs_command_line::{Order, Parsed, order_of};
 use bhs_orders::{Fault, REFUSED_WORDS, check, print_recovered, report, show_text};
-use bhs_orders_explore::{explore_modules_named, explore_named};
+use bhs_orders_explore::{explore_holes_named, explore_modules_named, explore_named};
 use bhs_orders_rehearse::{rehearse_interactively_named, rehearse_named};
 use bhs_orders_results::{
     print_appealed_verdict, print_contest_table, print_past, print_table, print_twin, print_verdict,
@@ -21,7 +21,8 @@ use std::io::Write;
 use std::net::{Net, TcpListener, TcpStream};
 
 /// Does what the words after the program's name order, and answers the exit status. Files are opened, threads started
-/// and sockets listened on through `rt`; of the orders only `serve` does more with it than open files.
+/// and sockets listened on through `rt`; of the orders only `serve` and a search with all black holes, which runs on
+/// threads, do more with it than open files.
 /// What is asked for goes to `writer`; why it could not be done goes to `errors`, as a line `WHERE: WHAT`.
 ///
 /// `Runs` goes by the cases of the words: what was read and written, call by call, and with which status. Of the files
@@ -112,6 +113,11 @@ fn obey<
             modules,
             exploration,
         } => explore_modules_named(alloc, rt, tournament, modules, exploration, writer, errors),
+        Order::ExploreAllHoles {
+            tournament,
+            modules,
+            exploration,
+        } => explore_holes_named(alloc, rt, tournament, modules, exploration, writer, errors),
         Order::Serve {
             tournament,
             hosting,

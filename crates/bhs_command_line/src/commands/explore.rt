@@ -7,7 +7,7 @@ pub(crate) const COMMAND: Subcommand = Subcommand {
     name: "explore",
     help: HELP,
     arguments: &[
-        TOURNAMENT, GAME, MODULE, STATES, WAKEUPS, DRAWS, SEED, SCHEDULER, OBJECTIVE,
+        TOURNAMENT, GAME, MODULE, ALL_HOLES, STATES, WAKEUPS, DRAWS, SEED, SCHEDULER, OBJECTIVE,
     ],
 };
 
@@ -31,6 +31,15 @@ pub(crate) const MODULE: Argument = Argument {
     takes: Takes::Module,
     help: "All agents run this WebAssembly module, with these numbers as its arguments; no host is asked. Given \
         once for each agent, each runs its own",
+};
+
+pub(crate) const ALL_HOLES: Argument = Argument {
+    id: "all-holes",
+    option: Some("all-holes"),
+    name: "",
+    need: Need::Switch,
+    takes: Takes::Text,
+    help: "With --module each node but the home base is the only black hole in turn, on all processors",
 };
 
 pub(crate) const STATES: Argument = Argument {
@@ -103,6 +112,9 @@ pub(crate) const OBJECTIVE: Argument = Argument {
 /// What is told where schedules are not drawn.
 pub(crate) const NEED_DRAWS: &str =
     "--seed <S>, --scheduler <NAME> and --objective <WHAT> need --draws <N>";
+
+/// What is told where a host plays the agents and all black holes are wanted.
+pub(crate) const NEED_MODULE: &str = "--all-holes needs --module <FILE[:N,..]>";
 
 /// The names of schedulers.
 pub(crate) const SCHEDULERS: &str = "fair, last-departed, starved, slow-agents, slow-links";

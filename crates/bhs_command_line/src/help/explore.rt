@@ -47,6 +47,12 @@ no such module is told as `FILE: FAULT at byte N`:
 A tournament without this match is told as `no match M`, and one of A agents with
 N modules, neither one nor A, as `N modules, A agents`.
 
+With --all-holes each node but the home base is the only black hole in turn, in
+the order of the nodes, on the network of the match and with the agents, the quota
+and the whiteboards of the match; no link is dark. As many searches run at a time
+as there are processors, each within --max-states. What was found is printed in
+the order of the nodes, up to the first black hole with which a schedule fails.
+
 Without it the agents are played by a host at the other end of standard input and
 output, as `arena-lab explore` is one. An agent must be deterministic: what
 it does next is a function of what its program holds. The host gives each thing
@@ -118,6 +124,10 @@ At the end comes a line of what was found, and one of how much was visited:
       and again, so nothing is said
   {\"states\":S,\"memories\":M,\"stances\":T,\"boards\":B}
 
+With --all-holes these lines come for each black hole, behind one that names it:
+
+  {\"hole\":NODE}
+
 With --draws these are `fails`, `breaks` or `exceeds`, or
 
   {\"found\":\"comes\",\"moves\":M,\"lost\":L,\"schedule\":[A,..]}
@@ -154,7 +164,8 @@ prints
 
 Exit status:
 
-  0  Every schedule solves the match, or each that was drawn
+  0  Every schedule solves the match, or each that was drawn; with --all-holes that
+     holds for each black hole
   1  A schedule fails, or may go on for ever
   2  The command line was refused
   3  A file or an answer was refused, or nothing can be said

@@ -1,0 +1,75 @@
+use Rattle.std.proofs.Common.{◌≡◌, ◌∙◌, ◌<◌, ◌==◌, ap, refl, not, subst, sym, ℕ, List, map}
+use Rattle.std.specs.List.{AllByRecursion}
+use Rattle.bhs_net.specs.Network.{nodes_of}
+use Rattle.bhs_command_line.specs.declared.orders.AgentModule.{AgentModule}
+use Rattle.bhs_wasm_read.specs.Modules.{module_in}
+use Rattle.bhs_orders.specs.declared.reporting.faults.Fault.TheVariants.{Memory}
+use Rattle.bhs_orders_explore.specs.declared.modules.ModuleFile.{ModuleFile}
+use Rattle.bhs_orders_explore.specs.Holes.{IsHoleReport, TellsHoles, explores_holes, explores_no_holes, other_nodes}
+use Rattle.bhs_orders_explore.proofs.HoleLemmas.{all_nodes}
+use Rattle.bhs_orders_explore.proofs.TellLemmas.{all_solved}
+use Rattle.bhs_orders_explore.proofs.holes.explore_holes_named.Goals as goal
+
+pub returns-in-Err-clause-explores : goal.returns-in-Err-clause-explores
+returns-in-Err-clause-explores g c =
+    let (fault, is) = c.in-Err.ensures.fault in
+    explores_no_holes fault is refl
+
+pub returns-in-Err-wanted-clause-explores : goal.returns-in-Err-wanted-clause-explores
+returns-in-Err-wanted-clause-explores g c =
+    let (fault, is) = c.in-Err-wanted.ensures.fault in
+    explores_no_holes fault is refl
+
+pub returns-in-Err-team_of-clause-explores : goal.returns-in-Err-team_of-clause-explores
+returns-in-Err-team_of-clause-explores g c =
+    let (fault, is) = c.in-Err-team_of.ensures.fault in
+    explores_no_holes fault is refl
+
+pub returns-in_default-clause-explores : goal.returns-in_default-clause-explores
+returns-in_default-clause-explores g c = explores_no_holes Memory c.report.ensures refl
+
+pub print_all-requires-after_bounds : goal.print_all-requires-after_bounds
+print_all-requires-after_bounds g c κs within =
+    let game = c.in-Ok-wanted.wanted.0.now.game in
+    subst (AllByRecursion (λ (hole : ℕ). hole < nodes_of game.net))
+    (sym (c.deref-2.ensures.value ∙ c.in-Ok-other_nodes.ensures))
+    (all_nodes game.net (λ (node : ℕ). not (node == game.setup.home)))
+
+pub returns-clause-explores : goal.returns-clause-explores
+returns-clause-explores g c =
+    let ready = c.in-Ok-wanted.wanted.0.now in
+    let team = c.in-Ok-team_of.ensures.team in
+    let given : List AgentModule → List (List ℕ) = map (λ (it : AgentModule). it.arguments) in
+    let are : map (λ (it : ModuleFile). it.arguments.items) c.deref.result.now ≡ given c.args.modules =
+    ap (map (λ (it : ModuleFile). it.arguments.items)) c.deref.ensures.value
+    ∙ (team.files ∙ ap given c.in-Ok-wanted.ensures.modules) in
+    let programs = map (λ (it : ModuleFile). module_in it.bytes.items) c.deref.result.now in
+    let told = subst (λ (holes : List ℕ). TellsHoles g.W.Output.takes g.W.Output.flushes
+    (IsHoleReport ready c.args.exploration programs (map (λ (it : ModuleFile). it.arguments.items) c.deref.result.now))
+    c.print_all.new.writer c.print_all.result holes c.args.writer.now)
+    (c.deref-2.ensures.value ∙ c.in-Ok-other_nodes.ensures) c.print_all.ensures in
+    explores_holes c.in-Ok.lineup c.in-Ok.ensures.made ready c.in-Ok-wanted.ensures.wanted.is_match
+    c.in-Ok-wanted.ensures.wanted.enough programs
+    (subst (λ (arguments : List (List ℕ)). TellsHoles g.W.Output.takes g.W.Output.flushes
+    (IsHoleReport ready c.args.exploration programs arguments) c.print_all.new.writer c.print_all.result
+    (other_nodes ready) c.args.writer.now) are told)
+
+pub returns-in-Err-clause-solved : goal.returns-in-Err-clause-solved
+returns-in-Err-clause-solved g c = all_solved g.W.Output.takes g.W.Output.flushes _ c.args.exploration _ _ _
+    (returns-in-Err-clause-explores g c)
+
+pub returns-in-Err-wanted-clause-solved : goal.returns-in-Err-wanted-clause-solved
+returns-in-Err-wanted-clause-solved g c = all_solved g.W.Output.takes g.W.Output.flushes _ c.args.exploration _ _ _
+    (returns-in-Err-wanted-clause-explores g c)
+
+pub returns-in-Err-team_of-clause-solved : goal.returns-in-Err-team_of-clause-solved
+returns-in-Err-team_of-clause-solved g c = all_solved g.W.Output.takes g.W.Output.flushes _ c.args.exploration _ _ _
+    (returns-in-Err-team_of-clause-explores g c)
+
+pub returns-in_default-clause-solved : goal.returns-in_default-clause-solved
+returns-in_default-clause-solved g c = all_solved g.W.Output.takes g.W.Output.flushes _ c.args.exploration _ _ _
+    (returns-in_default-clause-explores g c)
+
+pub returns-clause-solved : goal.returns-clause-solved
+returns-clause-solved g c = all_solved g.W.Output.takes g.W.Output.flushes _ c.args.exploration _ _ _
+    (returns-clause-explores g c)
