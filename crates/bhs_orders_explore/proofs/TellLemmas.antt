@@ -11,8 +11,7 @@ use Rattle.bhs_orders.specs.declared.reporting.faults.Fault.{Fault}
 use Rattle.bhs_orders.specs.declared.reporting.statuses.TheConstants.{DONE}
 use Rattle.bhs_orders.specs.Fault.{status}
 use Rattle.bhs_orders_explore.specs.Holes.{IsHoleReport, IsSolvedWith, TellsHoles, all_told, tells_fault, tells_last}
-use Rattle.bhs_orders_explore.specs.Holes.{AreAllSolved, ExploresHoles, explores_holes, explores_no_holes, other_nodes}
-use Rattle.bhs_orders_explore.specs.Holes.{tells_on}
+use Rattle.bhs_orders_explore.specs.Holes.{AreAllSolved, other_nodes, tells_on}
 use Rattle.bhs_orders.specs.Showing.{Prints}
 use Rattle.bhs_lineup.specs.declared.lineups.Ready.{Ready}
 use Rattle.bhs_command_line.specs.declared.orders.Exploration.{Exploration}
@@ -186,27 +185,17 @@ solved_with ready exploration programs arguments hole text all said =
       solved = found.is_found.solved solves.0 solves.1;
     }
 
--- if all was done, and no schedules were drawn, each match is solved
+-- if all was done, and no schedules were drawn, the match is solved with each black hole
 pub all_solved : {O : Type 0} (takes : O → List ℕ → WriteAnswer → O → Type 0) (flushes : O → Bool → O → Type 0)
-    (arguments : List (List ℕ)) (exploration : Exploration) (output output' : O) (code : ℕ)
-    → ExploresHoles takes flushes arguments exploration output output' code → code ≡ DONE
-    → exploration.drawing ≡ None → AreAllSolved arguments exploration
-all_solved takes flushes arguments exploration output output' code
-    (explores_holes lineup assembled ready wanted enough programs told) is all = record {
-      lineup = lineup;
-      assembled = assembled;
-      ready = ready;
-      wanted = wanted;
-      enough = enough;
-      programs = programs;
-      solved = λ hole below other.
-          let done = all_done takes flushes (IsHoleReport ready exploration programs arguments) output' code
-          (other_nodes ready) output is told in
-          let said = holds_of
-          (λ (node : ℕ). (text : List ℕ) × IsHoleReport ready exploration programs arguments node text DONE)
-          (λ (node : ℕ). not (node == ready.game.setup.home)) 0 (nodes_of ready.game.net) hole done (omega arith)
-          (omega arith) (not_from_false _ (ne_eqb hole ready.game.setup.home other)) in
-          solved_with ready exploration programs arguments hole said.0 all said.1;
-    }
-all_solved takes flushes arguments exploration output output' code (explores_no_holes fault coded kept) is all =
-    absurd (not_done fault (sym coded ∙ is))
+    (ready : Ready) (exploration : Exploration) (programs : List (Option Contents)) (arguments : List (List ℕ))
+    (output output' : O) (code : ℕ)
+    → TellsHoles takes flushes (IsHoleReport ready exploration programs arguments) output' code (other_nodes ready)
+    output → code ≡ DONE → exploration.drawing ≡ None → AreAllSolved ready exploration programs arguments
+all_solved takes flushes ready exploration programs arguments output output' code told is all hole below other =
+    let done = all_done takes flushes (IsHoleReport ready exploration programs arguments) output' code
+    (other_nodes ready) output is told in
+    let said = holds_of
+    (λ (node : ℕ). (text : List ℕ) × IsHoleReport ready exploration programs arguments node text DONE)
+    (λ (node : ℕ). not (node == ready.game.setup.home)) 0 (nodes_of ready.game.net) hole done (omega arith)
+    (omega arith) (not_from_false _ (ne_eqb hole ready.game.setup.home other)) in
+    solved_with ready exploration programs arguments hole said.0 all said.1

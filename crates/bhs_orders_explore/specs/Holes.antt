@@ -73,16 +73,11 @@ pub record IsSolvedWith (ready : Ready) (exploration : Exploration) (programs : 
   pub solved : IsSolved (trial_in ready.game.net (with_hole ready.game.setup hole) links exploration.wakeups roles FUEL)
       bounds
 
--- The match of a tournament is so solved with each node other than its home base as the only black hole.
-pub record AreAllSolved (arguments : List (List ℕ)) (exploration : Exploration) : Type 0 where
-  pub lineup : Lineup
-  pub assembled : IsAssembled lineup
-  pub ready : Ready
-  pub wanted : slice_get lineup.ready.items exploration.game ≡ Some ready
-  pub enough : AreFor ready.game.setup.agents (length arguments)
-  pub programs : List (Option Contents)
-  pub solved : (hole : ℕ) → hole < nodes_of ready.game.net → hole ≢ ready.game.setup.home
-      → IsSolvedWith ready exploration programs arguments hole
+-- the match is so solved with each node other than its home base as the only black hole
+abbrev pub AreAllSolved : Ready → Exploration → (programs : List (Option Contents)) → (arguments : List (List ℕ))
+    → Type 0
+AreAllSolved ready exploration programs arguments = (hole : ℕ) → hole < nodes_of ready.game.net
+    → hole ≢ ready.game.setup.home → IsSolvedWith ready exploration programs arguments hole
 
 -- ---- the order
 
@@ -107,16 +102,19 @@ module _ {O : Type 0} (takes : O → List ℕ → WriteAnswer → O → Type 0) 
         → TellsHoles output' code (hole ∷ holes) output'
 
 module _ {O : Type 0} (takes : O → List ℕ → WriteAnswer → O → Type 0) (flushes : O → Bool → O → Type 0) where
-  -- an exploration of a match of the tournament that is named, with each node other than its home base as the only
-  -- black hole in turn, whose agents run modules with these arguments: one for all of them, or one for each agent
+  -- An exploration of a match of the tournament that is named, with each node other than its home base as the only
+  -- black hole in turn, whose agents run modules with these arguments: one for all of them, or one for each agent. If
+  -- all was done, and no schedules were drawn, every schedule solves the match with each of these black holes, by the
+  -- programs that were told.
   pub data ExploresHoles (arguments : List (List ℕ)) (exploration : Exploration) (output output' : O) (code : ℕ) :
       Type 0 where
     explores_holes : (lineup : Lineup) → IsAssembled lineup → (ready : Ready)
         → slice_get lineup.ready.items exploration.game ≡ Some ready
         → AreFor ready.game.setup.agents (length arguments) → (programs : List (Option Contents))
         → TellsHoles takes flushes (IsHoleReport ready exploration programs arguments) output' code (other_nodes ready)
-        output → ExploresHoles arguments exploration output output' code
+        output → (code ≡ DONE → exploration.drawing ≡ None → AreAllSolved ready exploration programs arguments)
+        → ExploresHoles arguments exploration output output' code
     -- a file is refused, or cannot be read, the tournament has no such match, or another number of agents, or memory
     -- ran out
-    explores_no_holes : (fault : Fault) → code ≡ status fault → output' ≡ output
+    explores_no_holes : (fault : Fault) → code ≡ status fault → code ≢ DONE → output' ≡ output
         → ExploresHoles arguments exploration output output' code

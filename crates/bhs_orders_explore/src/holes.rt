@@ -5,7 +5,7 @@ ghost use Rattle.std.specs.Prelude.{length, map, slice_index, string_bytes};
 ghost use Rattle.std.specs.List.{AllByRecursion};
 ghost use Rattle.bhs_net.specs.Network.{nodes_of};
 ghost use Rattle.bhs_orders.specs.declared.reporting.statuses.TheConstants.{DONE};
-ghost use Rattle.bhs_orders_explore.specs.Holes.{AreAllSolved, ExploresHoles, TellsHoles, hole_line};
+ghost use Rattle.bhs_orders_explore.specs.Holes.{ExploresHoles, TellsHoles, hole_line};
 ghost use Rattle.bhs_orders_explore.specs.Holes.{other_nodes};
 ghost use Rattle.bhs_orders_explore.specs.HoleResults.{IsReportOf, IsTold};
 ghost use Rattle.bhs_orders.specs.Fault.{status};
@@ -48,12 +48,8 @@ pub fn explore_holes_named<R: Files + Threads + Sync, W: Output, E: Write>(
     writer: &mut W,
     errors: &mut E,
 ) -> u8
-    ensures explores { ExploresHoles W.takes W.flushes (map (λ it. it.arguments) modules) exploration writer.old
-        writer.new result }
-
-    // If all was done, and no schedules were drawn, every schedule solves the match with each of the black holes.
-    ensures solved { result ≡ DONE → exploration.drawing ≡ None
-        → AreAllSolved (map (λ it. it.arguments) modules) exploration }
+    ensures { ExploresHoles W.takes W.flushes (map (λ it. it.arguments) modules) exploration writer.old writer.new
+        result }
 {
     let name = tournament.as_str();
     let lineup = match lineup_of(alloc, rt, name, errors) {

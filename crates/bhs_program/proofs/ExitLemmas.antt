@@ -203,10 +203,10 @@ module _ {P I O : Type 0} (files : P → List ℕ → WriteAnswer → P → Type
 
   of_all_holes : (arguments : List (List ℕ)) (exploration : Exploration) → ExploresHoles takes flushes arguments
       exploration output output' code → IsStatus code
-  of_all_holes arguments exploration (explores_holes lineup assembled ready at some programs told) =
+  of_all_holes arguments exploration (explores_holes lineup assembled ready at some programs told solved) =
       of_holes (λ hole text ended said. of_found (found_in said.is_report.found) ended said.is_report.told)
       (other_nodes ready) output told
-  of_all_holes arguments exploration (explores_no_holes fault is kept) = inr (inr (fault, is))
+  of_all_holes arguments exploration (explores_no_holes fault is not_done kept) = inr (inr (fault, is))
 
   of_served : (port : ℕ) → Serves files takes flushes port output output' code → IsStatus code
   of_served port (serves_on lineup assembled heard shows hosts) =

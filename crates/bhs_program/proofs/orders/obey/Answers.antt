@@ -49,7 +49,7 @@ pub returns-in-ExploreModules : goal.returns-in-ExploreModules
 returns-in-ExploreModules g c = rw c.in-ExploreModules.is (does (refl, c.explore_modules_named.ensures))
 
 pub returns-in-ExploreAllHoles : goal.returns-in-ExploreAllHoles
-returns-in-ExploreAllHoles g c = rw c.in-ExploreAllHoles.is (does (refl, c.explore_holes_named.ensures.explores))
+returns-in-ExploreAllHoles g c = rw c.in-ExploreAllHoles.is (does (refl, c.explore_holes_named.ensures))
 
 pub returns-in-Serve : goal.returns-in-Serve
 returns-in-Serve g c = rw c.in-Serve.is (does (refl, c.serve_named.ensures))
