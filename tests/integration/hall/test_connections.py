@@ -52,8 +52,13 @@ class Connections(unittest.TestCase):
         thread.start()
         self.addCleanup(self.server.task_dispatcher.shutdown)
         self.addCleanup(thread.join)
-        self.addCleanup(self.server.trigger.pull_trigger, self.end)
+        self.addCleanup(self.stop)
         self.opened = self.enterContext(contextlib.ExitStack())
+
+    def stop(self) -> None:
+        """Has the server end. It may have done so when it is woken for that."""
+        with contextlib.suppress(OSError):
+            self.server.trigger.pull_trigger(self.end)
 
     def end(self) -> None:
         """Ends the server, in its own thread."""
