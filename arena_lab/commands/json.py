@@ -44,11 +44,12 @@ def add_words(parser: argparse.ArgumentParser) -> None:
 
 
 def run(words: argparse.Namespace) -> int:
-    if words.order == "explore" and "--module" not in words.words:
+    options = {word.partition("=")[0] for word in words.words}
+    if words.order == "explore" and "--module" not in options:
         words.refuse(
             "name modules by --module: without them `arena explore` asks its host, in lines of JSON"
         )
-    if words.order == "explore" and "--all-holes" in words.words:
+    if words.order == "explore" and "--all-holes" in options:
         words.refuse(
             "leave out --all-holes: `arena explore --all-holes` prints lines of JSON itself, of several matches"
         )

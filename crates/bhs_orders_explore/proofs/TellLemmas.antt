@@ -156,7 +156,7 @@ all_drop P (suc count) (x ∷ xs) all = all_drop P count xs all.1
 
 -- ---- what a report says
 
--- all was done, and it is told of all schedules: they solve
+-- A finding with the exit status 0 that speaks of all schedules says that they solve.
 solves_if : (found : Finding) → found_status found ≡ DONE → is_of_one found ≡ false
     → (bounds : Bounds) × (found ≡ Solves bounds)
 solves_if (Solves bounds) is all = (bounds, refl)

@@ -48,7 +48,7 @@ abbrev pub hole_line : (hole : ℕ) → List ℕ
 hole_line hole = codes "{\"hole\":" ++ (decimal hole ++ codes "}\n")
 
 -- The text names the black hole, and then is the report of the match with it, of agents that run these programs with
--- these arguments. The exit status is that of the report.
+-- these arguments. The exit status is the report's.
 pub record IsHoleReport (ready : Ready) (exploration : Exploration) (programs : List (Option Contents))
     (arguments : List (List ℕ)) (hole : ℕ) (text : List ℕ) (code : ℕ) : Type 0 where
   pub roles : Roles
@@ -84,16 +84,16 @@ AreAllSolved ready exploration programs arguments = (hole : ℕ) → hole < node
 -- the calls of the output, and what a text and an exit status are to say of a black hole
 module _ {O : Type 0} (takes : O → List ℕ → WriteAnswer → O → Type 0) (flushes : O → Bool → O → Type 0)
     (IsReport : (hole : ℕ) → (text : List ℕ) → (code : ℕ) → Type 0) where
-  -- The reports of these black holes are printed one after the other, in their order, up to the first whose exit status
-  -- is not that all was done. It is the exit status then. A fault ends it before.
+  -- The reports of these black holes are printed one after the other, in their order. The first whose exit status is
+  -- not 0 is the last one, and gives the exit status. A fault may come before it, and ends the command.
   pub data TellsHoles (output' : O) (code : ℕ) : (holes : List ℕ) → (output : O) → Type 0 where
     -- all are printed
     all_told : code ≡ DONE → TellsHoles output' code [] output'
-    -- the next report is printed, and says that all was done
+    -- the next report is printed, and its exit status is 0
     tells_on : (hole : ℕ) → (holes text : List ℕ) → (output there : O) → IsReport hole text DONE
         → Prints takes flushes text output there DONE → TellsHoles output' code holes there
         → TellsHoles output' code (hole ∷ holes) output
-    -- the next report is printed, or a part of it, and not all was done
+    -- the next report is printed, or a part of it, and the exit status is not 0
     tells_last : (hole : ℕ) → (holes text : List ℕ) → (done : ℕ) → (output : O) → IsReport hole text done
         → PrintsReport takes flushes text done output output' code → code ≢ DONE
         → TellsHoles output' code (hole ∷ holes) output
@@ -104,8 +104,8 @@ module _ {O : Type 0} (takes : O → List ℕ → WriteAnswer → O → Type 0) 
 module _ {O : Type 0} (takes : O → List ℕ → WriteAnswer → O → Type 0) (flushes : O → Bool → O → Type 0) where
   -- An exploration of a match of the tournament that is named, with each node other than its home base as the only
   -- black hole in turn, whose agents run modules with these arguments: one for all of them, or one for each agent. If
-  -- all was done, and no schedules were drawn, every schedule solves the match with each of these black holes, by the
-  -- programs that were told.
+  -- the exit status is 0 and no schedules were drawn, every schedule solves the match with each of these black holes,
+  -- if agents run the modules of the reports.
   pub data ExploresHoles (arguments : List (List ℕ)) (exploration : Exploration) (output output' : O) (code : ℕ) :
       Type 0 where
     explores_holes : (lineup : Lineup) → IsAssembled lineup → (ready : Ready)

@@ -68,13 +68,13 @@ module_discovery found lines = discovery found ++ module_lines lines
 
 -- ---- what it is true of
 
--- whether it is told of one schedule that it solves, and of all others nothing
+-- whether a finding speaks of one schedule alone
 abbrev pub is_of_one : Finding → Bool
 is_of_one (Comes verdict schedule) = true
 is_of_one other = false
 
 -- What was found of this match, with its held links, is true of agents in these roles. Schedules were drawn if the
--- exploration has that. If all were tried, it is not told of one alone that it solves.
+-- exploration has that. If all were tried, what was found speaks of all of them.
 pub record IsFoundOfModules (ready : Ready) (exploration : Exploration) (roles : Roles) (fuel : ℕ) (found : Discovery) :
     Type 0 where
   pub links : List (ℕ × ℕ)

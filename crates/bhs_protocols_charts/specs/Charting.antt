@@ -14,8 +14,8 @@ use Rattle.bhs_protocols_charts.specs.Charts.{Chart, ChartRow, claimed, new_row,
 use Rattle.bhs_protocols_charts.specs.Charts.{is_free, is_open, is_sure, name_of, row_named, text_of, chart_of}
 
 -- What an agent is about, with what it holds for that. At the home base it holds the number of ports and the text on
--- the whiteboard. On a trip it holds the port that it has claimed, the ports ahead, the ports by which it goes back,
--- and what it has found.
+-- the whiteboard. On a trip it holds its claimed port, the ports that lead on, the ports that lead back, and what it
+-- has found.
 pub data Charting : Type 0 where
   Begins : Charting
   Waits : (ports : ℕ) → (text : List ℕ) → Charting

@@ -13,7 +13,7 @@ use Rattle.bhs_protocols_charts.specs.Charting.{charters}
 use Rattle.bhs_protocols_charts.specs.ChartLaws.{CanChart, chart_commands}
 use Rattle.bhs_protocols_charts.specs.Told.{by_links, by_parity, by_degree}
 
--- so many agents, with just the quota and the whiteboards that suffice
+-- The limits of a match with this number of agents. Its quota and its whiteboards are the least that suffice.
 abbrev pub chart_limits : (nodes ports agents wakeups : ℕ) → Limits
 chart_limits nodes ports agents wakeups = record {
   agents = agents;

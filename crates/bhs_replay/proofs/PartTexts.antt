@@ -17,7 +17,8 @@ use Rattle.bhs_replay.specs.Head.{head_line, version_of}
 use Rattle.bhs_replay.specs.Replay.{end_line, event_lines, with_feeds, replay_of_part}
 use Rattle.bhs_replay.proofs.ReplayTexts.{kept_line, feeds-append, drop-next}
 
--- what is written behind the head, from these events of a log on, of those that are chosen, so many in all
+-- The text behind the head, from some event of a log on: the lines of the events that are chosen, and the end line,
+-- which has the number of all chosen events.
 abbrev pub part_left : (log rest : List Kept) (places : List Bool) (count : ℕ) → List ℕ
 part_left log rest places count =
     with_feeds (map (kept_line log) (at_places rest places)) ++ (end_line count ++ 10 ∷ [])
@@ -57,7 +58,7 @@ module _ {O : Type 0} (takes : O → List ℕ → WriteAnswer → O → Type 0) 
   abbrev all : ℕ
   all = length (at_places log places)
 
-  -- the lines before a place went out, and so many were chosen
+  -- The lines of the chosen events before this place went out. Their number is `count`.
   pub record IsSentBefore (old new : O) (count place : ℕ) : Type 0 where
     pub sent : IsSentUpTo takes old new text (part_left log (drop place log) (drop place places) all)
     pub counted : count + length (at_places (drop place log) (drop place places)) ≡ all

@@ -185,7 +185,7 @@ class Players(InFolder):
             with self.subTest(game.runs[0], scheduler=scheduler):
                 played = under(maker(0), game.fixture, [python] * len(game.runs))
                 self.assertFalse(played.has_failed(), played.faults)
-                # each agent alone, told what the agent in Python was told
+                # each agent of the program plays alone, and hears what the one in Python heard
                 again = with_repeats(played, agents(game.runs), game.fixture, 20)
                 self.assertEqual(again.faults, [])
         self.assertEqual(told, {False, True})

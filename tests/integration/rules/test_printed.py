@@ -154,10 +154,11 @@ class Runs(InFolder):
         self.assertEqual(len(found["notes"]), 2)
         leaver = self.folder / "leaver.wasm"
         leaver.write_bytes(LEAVER)
-        found = self.compared("explore", "examples/first.toml", 0, "--module", leaver)
-        self.assertEqual(
-            (found["status"], found["result"]["found"]["found"]), (1, "fails")
-        )
+        for given in (("--module", leaver), (f"--module={leaver}",)):
+            found = self.compared("explore", "examples/first.toml", 0, *given)
+            self.assertEqual(
+                (found["status"], found["result"]["found"]["found"]), (1, "fails")
+            )
 
     def test_what_is_left_out_of_a_table_is_a_fault(self) -> None:
         found = self.compared(
@@ -208,8 +209,14 @@ class Runs(InFolder):
             )
 
     def test_words_that_are_refused_have_no_json(self) -> None:
-        for words in (("judge",), ("table", "red"), ("explore", "cup.toml", 0)):
+        given = ("--module=a.wasm", "--all-holes")
+        for words, told in (
+            (("judge",), ""),
+            (("table", "red"), ""),
+            (("explore", "cup.toml", 0), "name modules"),
+            (("explore", "cup.toml", 0, *given), "leave out --all-holes"),
+        ):
             with self.subTest(words):
                 status, said, errors = self.json(*words)
                 self.assertEqual((status, said), (2, ""))
-                self.assertIn("error: ", errors)
+                self.assertIn(f"error: {told}", errors)
