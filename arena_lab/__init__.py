@@ -7,15 +7,20 @@ import sys
 
 VERSION = "1"
 
-# how one calls the lab, in a clone or an archive and where it was installed
+# the command line that starts the lab: in a clone or an archive, and where it is
+# installed
 IN_CLONE = "./arena-lab"
-INSTALLED = "arena-lab"
+INSTALLED_COMMAND = "arena-lab"
 
 
-def called() -> str:
+def command_name() -> str:
     """How one calls this lab: by the command that pip or Debian has installed, or else
     by the script of a clone."""
-    return INSTALLED if pathlib.PurePath(sys.argv[0]).name == INSTALLED else IN_CLONE
+    return (
+        INSTALLED_COMMAND
+        if pathlib.PurePath(sys.argv[0]).name == INSTALLED_COMMAND
+        else IN_CLONE
+    )
 
 
 def with_one_order() -> None:

@@ -11,10 +11,10 @@ import arena_lab
 from arena_lab import IN_CLONE
 from arena_lab.commands import spellings, statuses
 from arena_lab.rules import refusals
-from arena_lab.rules.engines import EngineRefused
-from arena_lab.support.faults import Fault
-from arena_lab.support.missing import Missing, missing_of
-from arena_lab.support.signals import Terminated, come_again, end
+from arena_lab.rules.engines import EngineRefusedError
+from arena_lab.support.faults import ArenaError
+from arena_lab.support.missing import MissingPackageError, missing_of
+from arena_lab.support.signals import TerminatedError, come_again, end
 
 # modules of Debian's packages: to play agents inside the lab, to lay out pages
 PLAYS = ("greenlet", "tqdm")
@@ -29,7 +29,8 @@ class Command(NamedTuple):
     needs: Tuple[str, ...] = PLAYS
 
 
-# by their names, which are those of the modules that have their words and run them
+# command name -> Command; the module `arena_lab.commands.NAME` has `add_arguments` and
+# `run`
 COMMANDS = {
     "new": Command("begin an agent in one of seven languages or as a module", ()),
     "try": Command(
@@ -96,19 +97,21 @@ command, and arena_lab/README.md is a tutorial."""
 
 
 def parser(
-    name_of_lab: str = IN_CLONE, called: Collection[str] = tuple(COMMANDS)
+    name_of_lab: str = IN_CLONE, names: Collection[str] = tuple(COMMANDS)
 ) -> argparse.ArgumentParser:
     """Reads the command line of the lab under this name. Only the commands that are
     called have their words: each imports its own part of the lab."""
-    made = argparse.ArgumentParser(
+    lab_parser = argparse.ArgumentParser(
         name_of_lab,
         description=ABOUT.replace(IN_CLONE, name_of_lab),
-        epilog=statuses.told(),
+        epilog=statuses.exit_statuses(),
         formatter_class=argparse.RawDescriptionHelpFormatter,
     )
-    commands = made.add_subparsers(required=True, metavar="COMMAND", dest="command")
+    commands = lab_parser.add_subparsers(
+        required=True, metavar="COMMAND", dest="command"
+    )
     for name, command in COMMANDS.items():
-        if name not in called:
+        if name not in names:
             commands.add_parser(name, help=command.about)
             continue
         module = importlib.import_module(f"arena_lab.commands.{name}")
@@ -117,14 +120,14 @@ def parser(
             name,
             help=command.about,
             description=about,
-            epilog=statuses.told(name),
+            epilog=statuses.exit_statuses(name),
             formatter_class=argparse.RawDescriptionHelpFormatter,
         )
-        module.add_words(words)
+        module.add_arguments(words)
         spellings.take_old_spellings(words)
         call_by(name_of_lab, words)
         words.set_defaults(run=module.run, refuse=words.error, needs=command.needs)
-    return made
+    return lab_parser
 
 
 def call_by(name: str, words: argparse.ArgumentParser) -> None:
@@ -137,12 +140,13 @@ def call_by(name: str, words: argparse.ArgumentParser) -> None:
         )
 
 
-def main(given: Optional[List[str]] = None) -> int:
-    name = arena_lab.called()
-    line = spellings.command_of_today(name, sys.argv[1:] if given is None else given)
+def main(argv: Optional[List[str]] = None) -> int:
+    name = arena_lab.command_name()
+    line = spellings.command_of_today(name, sys.argv[1:] if argv is None else argv)
     words, strange = parser(name, line[:1]).parse_known_args(line)
     if strange:
-        # with the usage of the command, where argparse has that of the lab
+        # argparse would print the usage of the lab here, and this prints that of the
+        # command
         words.refuse(f"unrecognized arguments: {' '.join(strange)}")
     # whoever ends the lab ends what it started
     sys.unraisablehook = come_again
@@ -151,7 +155,7 @@ def main(given: Optional[List[str]] = None) -> int:
         signal.signal(signal.SIGINT, functools.partial(end, os.getpid()))
     try:
         return int(words.run(words))
-    except Terminated:
+    except TerminatedError:
         return 143
     except KeyboardInterrupt:
         print("arena-lab: interrupted", file=sys.stderr)
@@ -160,29 +164,29 @@ def main(given: Optional[List[str]] = None) -> int:
         # the reader of our output has closed it
         os.dup2(os.open(os.devnull, os.O_WRONLY), sys.stdout.fileno())
         return 2
-    except (Fault, OSError) as fault:
-        said = told_of(fault, COMMANDS[words.command])
+    except (ArenaError, OSError) as fault:
+        text = fault_text(fault, COMMANDS[words.command])
         print(
-            said if isinstance(fault, EngineRefused) else f"arena-lab: {said}",
+            text if isinstance(fault, EngineRefusedError) else f"arena-lab: {text}",
             file=sys.stderr,
         )
-        return fault.status if isinstance(fault, Fault) else 2
+        return fault.status if isinstance(fault, ArenaError) else 2
 
 
-def told_of(fault: Exception, command: Command) -> str:
-    """What is said of a fault that ends a command."""
-    if isinstance(fault, EngineRefused):
+def fault_text(fault: Exception, command: Command) -> str:
+    """Returns the text for an exception that ends a command."""
+    if isinstance(fault, EngineRefusedError):
         return refusals.in_words(str(fault))
-    if isinstance(fault, Missing):
+    if isinstance(fault, MissingPackageError):
         # all that the command will ask for: who installs them once is not sent back
-        return str(Missing([*fault.modules, *missing_of(command.needs)]))
+        return str(MissingPackageError([*fault.modules, *missing_of(command.needs)]))
     if isinstance(fault, OSError) and fault.filename is not None and fault.strerror:
-        said = (
+        text = (
             "there is no such file or folder"
             if isinstance(fault, FileNotFoundError)
             else fault.strerror.lower()
         )
-        return f"{os.fsdecode(fault.filename)}: {said}"
+        return f"{os.fsdecode(fault.filename)}: {text}"
     return str(fault)
 
 

@@ -21,29 +21,36 @@ gives a function of (choices, state). `engine` is "model" for the Python model, 
 not verified, "program" for the program that `./arena-lab` takes, or the path of a
 program.
 
-    found = lab.explore("ring:3..6", "examples/agents/ring_step.py {nodes}", engine="program")
-    found.solves, found.most_moves          # under every schedule that the lab tried
-    found.frame()                           # a frame of pandas, or a list: a row for each network and black hole
+    result = lab.explore("ring:3..6", "examples/agents/ring_step.py {nodes}", engine="program")
+    result.solves, result.most_moves        # under every schedule that the lab tried
+    result.frame()                          # a frame of pandas, or a list: a row for each network and black hole
 """
 import contextlib
 import pathlib
 from typing import Any, Callable, Dict, Iterable, List, Optional, Sequence, Union
 
-from arena_lab.play.agent_files import NoAgent, client_module
+from arena_lab.play.agent_files import AgentError, client_module
 from arena_lab.play.bounds import LIMIT
-from arena_lab.play.games import Asked, Record, Row, SchedulerName, play_again, rows_of
-from arena_lab.play.schedulers import NAMED as SCHEDULERS
+from arena_lab.play.games import (
+    MatchRequest,
+    Record,
+    Row,
+    SchedulerName,
+    play_again,
+    rows_of,
+)
+from arena_lab.play.schedulers import SCHEDULER_MAKERS as SCHEDULERS
 from arena_lab.play.schedules import Schedule
 from arena_lab.play.teams import (
     BOARD,
     INSIDE,
-    NAPS,
+    SPURIOUS_WAKEUPS,
     OUTSIDE,
     QUOTA,
     AgentWords,
     Game,
     agent_named,
-    filled,
+    fill_team,
 )
 from arena_lab.rules import draws, networks
 from arena_lab.rules.engines import MODEL, PROGRAM, name_of, program_at
@@ -51,14 +58,19 @@ from arena_lab.rules.model import Place
 from arena_lab.rules.networks import Network
 from arena_lab.search import explore as exploring, hunt as hunting
 from arena_lab.search.capacity import OF_MODEL, OF_PROGRAM, fitting
-from arena_lab.search.checking import Counted
-from arena_lab.search.driver import CHECKED, ExploreJob, Search
+from arena_lab.search.checking import CheckCounts
+from arena_lab.search.driver import CHECKED_SAMPLES, ExploreJob, Search
 from arena_lab.search.findings import name_of as kind_of, turns_of
-from arena_lab.search.history_tree import NoFunction
-from arena_lab.search.match_results import MatchResult, told_in, told_schedule, unkept
+from arena_lab.search.history_tree import NoFunctionError
+from arena_lab.search.match_results import (
+    MatchResult,
+    finding_with_schedule,
+    program_schedule,
+    unkept,
+)
 from arena_lab.search.program_search import SampleRequest
 from arena_lab.search.search_results import Exploration, HuntResult, SearchResult
-from arena_lab.support.built import NoProgram
+from arena_lab.support.built import ProgramError
 from arena_lab.support.progress import bar
 
 __all__ = [
@@ -103,7 +115,7 @@ def agent_of(agent: AgentLike) -> AgentWords:
     if isinstance(agent, str):
         return agent_named(INSIDE, agent)
     if not callable(agent):
-        raise NoAgent(
+        raise AgentError(
             f"{agent!r} is no agent: name a file, or give a function of an agent and its key"
         )
     return AgentWords(INSIDE, f"function:{getattr(agent, '__name__', 'agent')}", agent)
@@ -114,8 +126,11 @@ def team_of(
 ) -> List[AgentWords]:
     """The agents of a team."""
     is_list = isinstance(agents, (list, tuple)) and not isinstance(agents, AgentWords)
-    named = [agent_of(it) for it in agents] if is_list else [agent_of(agents)]  # type: ignore[union-attr, arg-type]
-    return filled(named, count)
+    members: Any = agents
+    if not is_list:
+        members = [agents]
+    team = [agent_of(agent) for agent in members]
+    return fill_team(team, count)
 
 
 def game(
@@ -128,13 +143,13 @@ def game(
     dark: Iterable[Place] = (),
     quota: int = QUOTA,
     board: int = BOARD,
-    naps: int = NAPS,
+    naps: int = SPURIOUS_WAKEUPS,
     limit: float = LIMIT,
     ports: str = draws.GIVEN,
 ) -> Game:
-    """What is played. If neither `holes` nor `dark` destroys, each seed has a black
-    hole of its own, and a home base if `home` is "drawn" or None. A dark link is (node,
-    port). `ports` are as `--ports` takes them.
+    """Returns a game. If neither `holes` nor `dark` destroys, each seed draws a black
+    hole, and a home base if `home` is "drawn" or None. A dark link is (node, port).
+    `ports` are as `--ports` takes them.
 
     `quota` counts commands of each agent, `board` bytes of a whiteboard, `naps` spurious
     wake-ups of a sleeper, and `limit` seconds that an agent may compute at a time.
@@ -146,20 +161,20 @@ def game(
     >>> game("ring:2", "examples/agents/ring.py")
     Traceback (most recent call last):
     ...
-    arena_lab.rules.networks.NoNetwork: ring:2: a network has 3 to 4096 nodes, and this one has 2
+    arena_lab.rules.networks.NetworkError: ring:2: a network has 3 to 4096 nodes, and this one has 2
     """
     if isinstance(network, str):
         name = network
-        found = networks.named(network)
+        base = networks.network_named(network)
     elif isinstance(network, Network):
         name = f"{network.nodes} nodes"
-        found = network
+        base = network
     else:
         name = str(getattr(network, "name", "")) or f"graph of {len(network)} nodes"
-        found = networks.of_graph(network)
+        base = networks.of_graph(network)
     return Game(
         name,
-        networks.checked(found, name),
+        networks.check_network(base, name),
         team_of(agents, count),
         home if isinstance(home, int) else None,
         sorted(holes),
@@ -178,16 +193,17 @@ def path_of(engine: str) -> Optional[str]:
         return None
     try:
         return program_at(None if engine == PROGRAM else engine)
-    except NoProgram as fault:
-        raise NoProgram(
+    except ProgramError as fault:
+        raise ProgramError(
             f"{fault}; or give engine={MODEL!r}: the Python model needs none, and nothing of it is "
             "proved"
         ) from None
 
 
 def engine_name(engine: str) -> str:
-    """How the lab calls an engine: "the proved program" is said of a program alone
-    whose build recorded its proof. Raises NoProgram if there is none.
+    """Returns the name of an engine, such as "the proved program". A program is called
+    proved only if its build recorded the proof. Raises ProgramError if there is no
+    program.
 
     >>> engine_name("model")
     'the Python model, of which nothing is proved'
@@ -203,7 +219,7 @@ def play(
     *,
     engine: str = MODEL,
     workers: int = 1,
-    **more: Any,
+    **extra: Any,
 ) -> List[Row]:
     """Plays a match for each seed, and gives their rows: dicts with the `seed`, the
     `outcome`, `moves` and agents `lost`, and more that names the match. `seeds` is how
@@ -214,15 +230,15 @@ def play(
     >>> [(row["seed"], row["outcome"], row["lost"]) for row in rows]
     [(0, 'solved', 1), (1, 'solved', 1)]
     """
-    asked_game = game(network, agents, **more)
+    asked_game = game(network, agents, **extra)
     path = path_of(engine)
     if isinstance(seeds, int) and seeds < 0:
         raise ValueError(
             f"seeds is how many there are, or a list of which, and not {seeds}"
         )
     numbers = range(seeds) if isinstance(seeds, int) else seeds
-    asked = [Asked(asked_game, scheduler, seed, path) for seed in numbers]
-    return [row.forget() for row in rows_of(asked, workers)]
+    requests = [MatchRequest(asked_game, scheduler, seed, path) for seed in numbers]
+    return [row.forget() for row in rows_of(requests, workers)]
 
 
 def explore(
@@ -232,8 +248,8 @@ def explore(
     states: Optional[int] = None,
     engine: str = MODEL,
     draws: Optional[SampleRequest] = None,
-    check: int = CHECKED,
-    **more: Any,
+    check: int = CHECKED_SAMPLES,
+    **extra: Any,
 ) -> Union[Exploration, SearchResult]:
     """Tries every schedule on a network, or on several: a list, or a range of sizes
     such as "ring:3..8". Each node but the home base is the black hole unless something
@@ -244,13 +260,15 @@ def explore(
     half of the memory that is left, unless you name a number. Gives a SearchResult by
     the program, and an Exploration by the model. Raises what `game` raises.
 
-    >>> found = explore("ring:3", "examples/agents/ring.py {nodes}", count=2)
-    >>> found.solves, found.most_moves
+    >>> result = explore("ring:3", "examples/agents/ring.py {nodes}", count=2)
+    >>> result.solves, result.most_moves
     (True, 4)
     """
-    asked = [game(one, agents, **more) for one in networks_in(network)]
-    fixed = [it for one in asked for it in one.fixed()]
-    return explore_games(fixed, states, engine, draws, check)
+    games = [
+        game(network_like, agents, **extra) for network_like in networks_in(network)
+    ]
+    drawn_games = [game for game_asked in games for game in game_asked.drawn_games()]
+    return explore_games(drawn_games, states, engine, draws, check)
 
 
 def explore_games(
@@ -258,36 +276,45 @@ def explore_games(
     states: Optional[int] = None,
     engine: str = MODEL,
     draws: Optional[SampleRequest] = None,
-    check: int = CHECKED,
+    check: int = CHECKED_SAMPLES,
 ) -> Union[Exploration, SearchResult]:
     """Tries every schedule of games, as `explore` does."""
     path = path_of(engine)
     if path is not None:
-        most = exploring.MOST_STATES if draws is not None else fitting(OF_PROGRAM)
+        limit = exploring.MAX_STATES if draws is not None else fitting(OF_PROGRAM)
         return by_program(
             all_asked,
-            ExploreJob(all_asked[0].matches(), path, states or most, check, draws),
+            ExploreJob(all_asked[0].matches(), path, states or limit, check, draws),
         )
     if draws is not None:
         raise ValueError("draws need a program: name it by engine, or hunt")
-    with bar(None, "state") as shown:
+    with bar(None, "state") as progress:
         by_game = [
-            (one, list(exploring.tried(one, states or fitting(OF_MODEL), shown)))
-            for one in all_asked
+            (
+                game_asked,
+                list(
+                    exploring.explore_matches(
+                        game_asked, states or fitting(OF_MODEL), progress
+                    )
+                ),
+            )
+            for game_asked in all_asked
         ]
-    found = [it for _, of_one in by_game for it in of_one]
-    worst = max(found, key=exploring.Explored.rank)
+    explored = [match for _, of_one in by_game for match in of_one]
+    worst = max(explored, key=exploring.ExploredMatch.rank)
     record = None
     if worst.explorer.worst:
         record = play_again(
-            worst.schedule(next(one for one, of_one in by_game if worst in of_one)),
+            worst.schedule(
+                next(game_of for game_of, of_one in by_game if worst in of_one)
+            ),
             path,
         )
     return Exploration(
-        sum(one.explorer.states() for one in found),
-        all(one.is_whole for one in found),
+        sum(match.explorer.states() for match in explored),
+        all(match.is_whole for match in explored),
         worst.rank()[0],
-        sum(one.seconds for one in found),
+        sum(match.seconds for match in explored),
         record,
     )
 
@@ -297,59 +324,63 @@ def networks_in(
 ) -> List[NetworkLike]:
     """The networks that are named, each by itself."""
     if isinstance(network, (list, tuple)) and not isinstance(network, Network):
-        return [found for one in network for found in networks_in(one)]
+        return [
+            network_found
+            for network_like in network
+            for network_found in networks_in(network_like)
+        ]
     return list(networks.in_range(network)) if isinstance(network, str) else [network]
 
 
 def by_program(games: Sequence[Game], job: ExploreJob) -> SearchResult:
-    """What the program finds of the schedules of games, up to the first match that
-    fails or is not tried as a whole. All are tried as the job says of one."""
+    """Lets the program explore games up to the first match that fails or is not
+    explored completely. The job has the limits for each match."""
     rows = []
-    counted = Counted()
+    counts = CheckCounts()
     worst = None
-    for one in games:
-        search = Search(job._replace(matches=one.matches()))
-        with bar(None, "answer") as shown:
-            rows += [row_of(one, tried) for tried in search.tried(shown)]
-        counted = counted.more(search.checks)
+    for game in games:
+        search = Search(job._replace(matches=game.matches()))
+        with bar(None, "answer") as progress:
+            rows += [row_of(game, result) for result in search.results(progress)]
+        counts = counts.plus(search.checks)
         last = search.tries[-1]
         if last.has_failed():
-            worst = play_again(failing(one, last), job.program)
+            worst = play_again(failing(game, last), job.program)
         if last.has_failed() or not last.is_whole():
             break
-    return SearchResult(rows, str(counted), worst, job.draws is not None)
+    return SearchResult(rows, str(counts), worst, job.draws is not None)
 
 
-def failing(given: Game, tried: MatchResult) -> Schedule:
+def failing(game: Game, result: MatchResult) -> Schedule:
     """The schedule that fails, as the agents play it."""
     try:
-        return told_schedule(given, tried)
-    except NoFunction:
-        if not tried.answered.modules:
+        return program_schedule(game, result)
+    except NoFunctionError:
+        if not result.answer.modules:
             raise
-        raise NoFunction(
-            f"a schedule fails; {unkept(turns_of(told_in(tried)))}"
+        raise NoFunctionError(
+            f"a schedule fails; {unkept(turns_of(finding_with_schedule(result)))}"
         ) from None
 
 
-def row_of(given: Game, tried: MatchResult) -> Dict[str, Any]:
-    """A match that was tried, as a row: what was found, in how many states, and the
-    most moves and lost agents. What the program does not say is None."""
-    setup = tried.fixture.setup
-    answered = tried.answered
-    found = tried.answered.found
-    drawn = tried.answered.drawn
+def row_of(game: Game, result: MatchResult) -> Dict[str, Any]:
+    """Returns the row of an explored match: finding, number of states, most moves and
+    most lost agents. A column is None if the program printed no value for it."""
+    setup = result.fixture.setup
+    answer = result.answer
+    finding = result.answer.finding
+    samples = result.answer.samples
     return {
-        "network": given.name,
+        "network": game.name,
         "nodes": setup.nodes,
         "home": setup.home,
         "holes": setup.holes,
-        "found": found and kind_of(type(found)),
-        "states": answered.states,
-        **{name: getattr(found, name, None) for name in ("moves", "lost", "turns")},
-        "drawn": drawn and drawn.solved + drawn.failed,
-        "seconds": answered.seconds,
-        "why": answered.why,
+        "found": finding and kind_of(type(finding)),
+        "states": answer.states,
+        **{name: getattr(finding, name, None) for name in ("moves", "lost", "turns")},
+        "drawn": samples and samples.solved + samples.failed,
+        "seconds": answer.seconds,
+        "why": answer.why,
     }
 
 
@@ -363,15 +394,15 @@ def hunt(
     any_home: bool = False,
     database: Union[None, str, pathlib.Path] = None,
     engine: str = MODEL,
-    **more: Any,
+    **extra: Any,
 ) -> HuntResult:
-    """Looks for a schedule after which the team fails, or with the most "moves" or
-    "lost" agents. The Python model searches, and the engine plays what is found.
-    Earlier finds are tried first if a `database`, a folder, is named. Raises what `game`
-    raises, and a ValueError for another word of what to look for.
+    """Searches for a schedule under which the team fails, or one with the most "moves"
+    or "lost" agents. The Python model searches, and the engine replays the result. A
+    `database` (a folder) provides earlier results, which are tried first. Raises what
+    `game` raises, and a ValueError for another objective.
 
-    >>> found = hunt("ring:3", "examples/agents/ring.py {nodes}", runs=5, count=2)
-    >>> found.fails, found.verdict.outcome
+    >>> result = hunt("ring:3", "examples/agents/ring.py {nodes}", runs=5, count=2)
+    >>> result.fails, result.verdict.outcome
     (False, 'solved')
     """
     if looking_for not in (hunting.FAILURE, hunting.MOVES, hunting.LOST):
@@ -379,17 +410,17 @@ def hunt(
             f"{looking_for}: look for {hunting.FAILURE}, {hunting.MOVES} or {hunting.LOST}"
         )
     path = path_of(engine)
-    asked = hunting.Hunt(
-        game(network, agents, **more),
+    hunt = hunting.Hunt(
+        game(network, agents, **extra),
         looking_for,
         any_home,
         runs,
         seed,
         pathlib.Path(database) if database else None,
     )
-    with bar(runs, "schedule") as shown, contextlib.suppress(KeyboardInterrupt):
-        hunter = hunting.Hunter(asked, shown)
-        hunting.hunted(hunter)
+    with bar(runs, "schedule") as progress, contextlib.suppress(KeyboardInterrupt):
+        hunter = hunting.Hunter(hunt, progress)
+        hunting.run_hunter(hunter)
     if hunter.best is None:
         raise KeyboardInterrupt
     record = play_again(hunter.schedule(), path)

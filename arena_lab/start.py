@@ -22,8 +22,8 @@ def arena() -> int:
         print(build.read_text(encoding="utf-8"), end="")
         return 0
     if sys.argv[1:2] == ["serve"] and "--help" not in sys.argv and build.is_file():
-        told = "; ".join(build.read_text(encoding="utf-8").splitlines()[:3])
-        print(told.replace("arena ", "arena: ", 1), file=sys.stderr, flush=True)
+        build_text = "; ".join(build.read_text(encoding="utf-8").splitlines()[:3])
+        print(build_text.replace("arena ", "arena: ", 1), file=sys.stderr, flush=True)
     os.execv(program, ["arena", *sys.argv[1:]])
 
 

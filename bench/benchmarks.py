@@ -3,7 +3,7 @@ import pathlib
 import sys
 from typing import Callable, Dict, List, NamedTuple, Optional
 
-from arena_lab.rules.limits import MOST_QUOTA, SMALL_QUOTA
+from arena_lab.rules.limits import MAX_QUOTA, SMALL_QUOTA
 from arena_lab.support import built
 from bench import instructions, promela
 from bench.figure_texts import (
@@ -31,9 +31,9 @@ class Setting(NamedTuple):
     """What the benchmarks run on."""
 
     program: pathlib.Path
-    other: Optional[pathlib.Path]
+    baseline: Optional[pathlib.Path]
     benchmark: pathlib.Path
-    place: str  # commit and day
+    commit_and_day: str  # commit and day
     machine: str
     peer: Optional[pathlib.Path] = None
 
@@ -103,7 +103,7 @@ half a line, and a third a wrong key. Without strangers the first enters are slo
 the server.
 """
 REPLAYS_NOTE = f"""\
-A replay may have {events_at_most(MOST_QUOTA):,} events at most, and one of the earlier versions \
+A replay may have {events_at_most(MAX_QUOTA):,} events at most, and one of the earlier versions \
 {events_at_most(SMALL_QUOTA):,}.
 """
 LOOKS_NOTE = """\
@@ -129,7 +129,7 @@ in sandboxes, and looks as the page does whether the trial is over.
 def noted_text(note: str, text: Callable[[str], str] = str) -> Callable[[str], str]:
     """The figures below a note that says what they mean; without `text` the benchmark
     prints a table itself."""
-    return lambda printed: f"{note}\n{text(printed)}"
+    return lambda output: f"{note}\n{text(output)}"
 
 
 def of_python(module: str, *words: str) -> List[str]:
@@ -145,7 +145,7 @@ def without_benchmark(setting: Setting) -> str:
 
 
 def instructions_words(setting: Setting) -> List[str]:
-    programs = [str(path) for path in (setting.program, setting.other) if path]
+    programs = [str(path) for path in (setting.program, setting.baseline) if path]
     return of_python(
         "bench.instructions",
         *programs,
@@ -154,7 +154,7 @@ def instructions_words(setting: Setting) -> List[str]:
 
 
 def without_other(setting: Setting) -> str:
-    return "" if setting.other else "name another build by --other"
+    return "" if setting.baseline else "name another build by --other"
 
 
 EXPLORED = [
@@ -213,7 +213,7 @@ BENCHMARKS: Dict[str, Benchmark] = {
     ),
     "compare": Benchmark(
         "Speed beside another build",
-        lambda at: of_python("bench.compare", str(at.program), str(at.other)),
+        lambda at: of_python("bench.compare", str(at.program), str(at.baseline)),
         compare_text,
         without_other,
     ),

@@ -18,7 +18,7 @@ import sys
 import tempfile
 from typing import Callable, Iterable, Iterator, List, Sequence, Tuple
 
-from arena_lab.rules.limits import MOST_TEXT
+from arena_lab.rules.limits import MAX_TEXT
 from arena_lab.rules.networks import Network, text_of, torus
 from bench import rehearse
 from bench.inputs import Run, key, printed_by, run, tournament
@@ -33,18 +33,18 @@ Input = Tuple[str, List[str], pathlib.Path]
 def by_ports(nodes: int, pairs: Iterable[Pair]) -> str:
     """The links between these pairs of nodes: a node's ports are numbered in the order
     in which its pairs come."""
-    used = [0] * nodes
+    ports_used = [0] * nodes
     links = []
-    for one, two in pairs:
-        links.append((one, used[one], two, used[two]))
-        used[one] += 1
-        used[two] += 1
+    for u, two in pairs:
+        links.append((u, ports_used[u], two, ports_used[two]))
+        ports_used[u] += 1
+        ports_used[two] += 1
     return text_of(Network(nodes, links))
 
 
 def complete(nodes: int) -> str:
     return by_ports(
-        nodes, [(one, two) for one in range(nodes) for two in range(one + 1, nodes)]
+        nodes, [(u, two) for u in range(nodes) for two in range(u + 1, nodes)]
     )
 
 
@@ -68,18 +68,18 @@ def worst_dense(nodes: int) -> str:
         (one, two) for one in range(nodes - 2) for two in range(one + 1, nodes - 2)
     ]
     last = nodes - 4
-    other = nodes - 3
-    pairs += [(last, nodes - 2), (other, nodes - 1), (nodes - 2, nodes - 1)]
+    anchor = nodes - 3
+    pairs += [(last, nodes - 2), (anchor, nodes - 1), (nodes - 2, nodes - 1)]
     return by_ports(nodes, pairs)
 
 
-def filled(lines: Iterable[str]) -> str:
-    """These lines, as long as a script may be."""
+def filled_script(lines: Iterable[str]) -> str:
+    """Repeats the lines up to the maximal length of a script."""
     text = []
     size = 0
     for line in lines:
         size += len(line) + 1
-        if size > MOST_TEXT:
+        if size > MAX_TEXT:
             break
         text.append(line)
     return "\n".join(text) + "\n"
@@ -107,36 +107,36 @@ def moves() -> Iterator[str]:
 def texts() -> Iterator[str]:
     """Agents that write the longest texts and look at them, in one match of 16."""
     yield from entries(1, 16)
-    put = "x" * BOARD
+    text_written = "x" * BOARD
     before = ""
     while True:
-        yield '0 {"do":"write","expect":"%s","put":"%s"}' % (before, put)
+        yield '0 {"do":"write","expect":"%s","put":"%s"}' % (before, text_written)
         for conn in range(1, 16):
             yield '%d {"do":"look"}' % conn
-        before = put
-        put = ("y" if put[0] == "x" else "x") * BOARD
+        before = text_written
+        text_written = ("y" if text_written[0] == "x" else "x") * BOARD
 
 
-def made(folder: pathlib.Path) -> List[Input]:
+def make_inputs(folder: pathlib.Path) -> List[Input]:
     """Writes the inputs, and answers for each its title, words and what stands on
     standard input."""
     inputs = []
     (folder / "torus.toml").write_text(text_of(torus(rehearse.SIDE, rehearse.SIDE)))
     scripts = [
-        ("lines by chance", 64, 4, 64, rehearse.script(MOST_TEXT)[0]),
-        ("moves", 64, 4, 64, filled(moves())),
-        ("longest texts", 1, 16, BOARD, filled(texts())),
+        ("lines by chance", 64, 4, 64, rehearse.script(MAX_TEXT)[0]),
+        ("moves", 64, 4, 64, filled_script(moves())),
+        ("longest texts", 1, 16, BOARD, filled_script(texts())),
     ]
-    for place, (title, matches, agents, board, text) in enumerate(scripts):
-        (folder / f"t{place}.toml").write_text(
+    for index, (title, matches, agents, board, text) in enumerate(scripts):
+        (folder / f"t{index}.toml").write_text(
             tournament("torus.toml", matches, agents, board, 1)
         )
-        source = folder / f"script{place}"
+        source = folder / f"script{index}"
         source.write_text(text)
         inputs.append(
             (
                 f"rehearse: {title}, {text.count(chr(10))} lines",
-                ["rehearse", f"t{place}.toml"],
+                ["rehearse", f"t{index}.toml"],
                 source,
             )
         )
@@ -155,33 +155,39 @@ def made(folder: pathlib.Path) -> List[Input]:
     return inputs
 
 
-def compared(
+def compare_times(
     chosen: Callable[[Sequence[float]], float], seconds: List[List[float]]
 ) -> str:
     """What is chosen of the times of each of two programs, and the ratio."""
-    one, two = map(chosen, zip(*seconds))
-    return f"{one * 1000:.2f} ms, {two * 1000:.2f} ms, ratio {one / two:.2f}"
+    first, two = map(chosen, zip(*seconds))
+    return f"{first * 1000:.2f} ms, {two * 1000:.2f} ms, ratio {first / two:.2f}"
 
 
 def line_of(title: str, runs: List[List[Run]]) -> str:
-    """What is printed of an input, by the runs of both programs.
-    bench/figure_texts.py reads it."""
-    times = compared(statistics.median, [[it.seconds for it in both] for both in runs])
-    processors = compared(min, [[it.processor for it in both] for both in runs])
-    one, two = (statistics.median(it.peak for it in each) for each in zip(*runs))
-    return f"{title}: {times}; processor {processors}; peak {one} KiB, {two} KiB"
+    """Returns the line of an input with the figures of both programs;
+    bench/figure_texts.py parses it."""
+    times = compare_times(
+        statistics.median, [[timing.seconds for timing in both] for both in runs]
+    )
+    processors = compare_times(
+        min, [[timing.processor for timing in both] for both in runs]
+    )
+    first, two = (
+        statistics.median(timing.peak for timing in each) for each in zip(*runs)
+    )
+    return f"{title}: {times}; processor {processors}; peak {first} KiB, {two} KiB"
 
 
 def main() -> int:
     keeps = sys.argv[1:2] == ["--keep"]
-    named = sys.argv[2 if keeps else 1 :]
-    if len(named) != 2 or any(word.startswith("-") for word in named):
+    named_programs = sys.argv[2 if keeps else 1 :]
+    if len(named_programs) != 2 or any(word.startswith("-") for word in named_programs):
         sys.exit(__doc__.strip())
-    programs = [str(pathlib.Path(word).resolve()) for word in named]
+    programs = [str(pathlib.Path(word).resolve()) for word in named_programs]
     differs = False
     with tempfile.TemporaryDirectory() as name:
         folder = pathlib.Path(name)
-        for title, words, source in made(folder):
+        for title, words, source in make_inputs(folder):
             runs = [
                 [run(program, words, source, folder, keeps) for program in programs]
                 for _ in range(ROUNDS)

@@ -29,8 +29,8 @@ from arena_lab.commands.words import games_of
 from arena_lab.rules.fixtures import Fixture, write_tournament
 from arena_lab.search.findings import Finding, Solves, finding_of
 from arena_lab.search.machines import Machines
-from arena_lab.search.program_search import ProgramRun, asked, program_words
-from arena_lab.support.faults import Fault
+from arena_lab.search.program_search import ProgramRun, run_search, program_words
+from arena_lab.support.faults import ArenaError
 from bench.inputs import peak_so_far
 
 TOP = pathlib.Path(__file__).resolve().parents[1]
@@ -46,7 +46,7 @@ OWN = resource.RUSAGE_SELF
 CHILDREN = resource.RUSAGE_CHILDREN
 
 
-class Taken(NamedTuple):
+class MatchCost(NamedTuple):
     """What one match took: the whole in seconds, and in those of a processor, of which
     the program took its own."""
 
@@ -65,7 +65,7 @@ class Answers:
     def __init__(self) -> None:
         self.lines: List[bytes] = []
 
-    def noted(self, answer: bytes) -> bytes:
+    def note_answer(self, answer: bytes) -> bytes:
         self.lines.append(answer)
         return answer
 
@@ -78,7 +78,7 @@ def alone(fixture: Fixture, answers: Answers, states: int) -> Tuple[float, float
         write_tournament(fixture, folder)
         (folder / "answers").write_bytes(b"".join(answers.lines))
         with (folder / "answers").open("rb") as lines:
-            return watched(
+            return watch_program(
                 subprocess.Popen(
                     program_words(PROGRAM, fixture, states),
                     cwd=name,
@@ -88,45 +88,49 @@ def alone(fixture: Fixture, answers: Answers, states: int) -> Tuple[float, float
             )
 
 
-def by_module(fixture: Fixture, module: str, states: int) -> Taken:
+def by_module(fixture: Fixture, module: str, states: int) -> MatchCost:
     """What one match takes whose agents run a module (a word of `--module`), all
     schedules of which solve it."""
-    started = time.monotonic()
+    start = time.monotonic()
     with tempfile.TemporaryDirectory(
         prefix="bench-"
-    ) as name, tempfile.TemporaryFile() as printed:
+    ) as name, tempfile.TemporaryFile() as output_file:
         write_tournament(fixture, pathlib.Path(name))
         words = [*program_words(PROGRAM, fixture, states), "--module", module]
-        program, memory = watched(
-            subprocess.Popen(words, cwd=name, stdin=subprocess.DEVNULL, stdout=printed)
+        program, memory = watch_program(
+            subprocess.Popen(
+                words, cwd=name, stdin=subprocess.DEVNULL, stdout=output_file
+            )
         )
-        printed.seek(0)
-        told, counts = (json.loads(line) for line in printed.read().splitlines()[:2])
-    found = solved(finding_of(told))
-    whole = time.monotonic() - started
-    return Taken(
-        counts["states"], found.moves, found.lost, whole, program, program, memory
+        output_file.seek(0)
+        finding, counts = (
+            json.loads(line) for line in output_file.read().splitlines()[:2]
+        )
+    solves = as_solved(finding_of(finding))
+    whole = time.monotonic() - start
+    return MatchCost(
+        counts["states"], solves.moves, solves.lost, whole, program, program, memory
     )
 
 
-def solved(found: Optional[Finding]) -> Solves:
+def as_solved(finding: Optional[Finding]) -> Solves:
     """What is found of a match, if it is that every schedule solves it."""
-    if not isinstance(found, Solves):
+    if not isinstance(finding, Solves):
         raise SystemExit(
-            f"{PROGRAM} does not say that every schedule solves it: {found}"
+            f"{PROGRAM} does not say that every schedule solves it: {finding}"
         )
-    return found
+    return finding
 
 
-def watched(child: "subprocess.Popen[bytes]") -> Tuple[float, float]:
+def watch_program(child: "subprocess.Popen[bytes]") -> Tuple[float, float]:
     """The seconds of a processor that a program takes to its end, and the most
     megabytes that it was seen to take."""
     peak = 0.0
     while True:
-        ended, status, used = os.wait4(child.pid, os.WNOHANG)
-        if ended:
+        process, status, usage = os.wait4(child.pid, os.WNOHANG)
+        if process:
             child.returncode = os.waitstatus_to_exitcode(status)
-            return used.ru_utime + used.ru_stime, peak
+            return usage.ru_utime + usage.ru_stime, peak
         peak = max(peak, peak_so_far(child) / 1024)
         time.sleep(PAUSE)
 
@@ -135,98 +139,100 @@ def processor_seconds() -> float:
     """The seconds of a processor that the lab and the programs that it waited for have
     taken so far."""
     return sum(
-        used.ru_utime + used.ru_stime
-        for used in map(resource.getrusage, (OWN, CHILDREN))
+        usage.ru_utime + usage.ru_stime
+        for usage in map(resource.getrusage, (OWN, CHILDREN))
     )
 
 
-def tried(fixture: Fixture, machines: Machines, states: int) -> Taken:
+def explore_cost(fixture: Fixture, machines: Machines, states: int) -> MatchCost:
     """What one match takes, all schedules of which solve it."""
     answers = Answers()
-    started = time.monotonic()
+    start = time.monotonic()
     before = processor_seconds()
     plain = ProgramRun.answer
     with mock.patch.object(
-        ProgramRun, "answer", lambda run, question: answers.noted(plain(run, question))
+        ProgramRun,
+        "answer",
+        lambda run, question: answers.note_answer(plain(run, question)),
     ):
-        answered = asked(PROGRAM, fixture, machines, states)
-    whole = time.monotonic() - started
+        answer = run_search(PROGRAM, fixture, machines, states)
+    whole = time.monotonic() - start
     processor = processor_seconds() - before
-    found = solved(answered.found)
-    return Taken(
-        answered.states or 0,
-        found.moves,
-        found.lost,
+    solves = as_solved(answer.finding)
+    return MatchCost(
+        answer.states or 0,
+        solves.moves,
+        solves.lost,
         whole,
         processor,
         *alone(fixture, answers, states),
     )
 
 
-def words_of(agent: str) -> str:
+def agent_command(agent: str) -> str:
     """What plays an agent of this name: its file, and the numbers that it wants."""
     return f"{AGENTS / agent}.py{NUMBERS.get(agent, ' {nodes}')}"
 
 
 def measured_by_module(
     network: str, module: str, states: int, at_a_time: int = 1
-) -> List[Taken]:
+) -> List[MatchCost]:
     """What the matches of a network take whose agents run a module with the number of
     nodes as its argument, so many at a time."""
-    given = parser().parse_args(
-        ["explore", "--network", network, "--agent", words_of("ring_step")]
+    args = parser().parse_args(
+        ["explore", "--network", network, "--agent", agent_command("ring_step")]
     )
-    [game] = games_of(given)
+    [game] = games_of(args)
 
-    def taken(fixture: Fixture) -> Taken:
+    def cost_of(fixture: Fixture) -> MatchCost:
         return by_module(fixture, f"{AGENTS / module}:{fixture.setup.nodes}", states)
 
     with concurrent.futures.ThreadPoolExecutor(at_a_time) as pool:
-        return [*pool.map(taken, game.fixtures())]
+        return [*pool.map(cost_of, game.fixtures())]
 
 
-def measured(network: str, agent: str, states: int) -> List[Taken]:
+def measure(network: str, agent: str, states: int) -> List[MatchCost]:
     """What the matches of a network take."""
-    given = parser().parse_args(
-        ["explore", "--network", network, "--agent", words_of(agent)]
+    args = parser().parse_args(
+        ["explore", "--network", network, "--agent", agent_command(agent)]
     )
-    [game] = games_of(given)
+    [game] = games_of(args)
     fixtures = game.fixtures()
     machines = Machines(fixtures[0], game.agents, game.limit)
-    found = []
+    costs = []
     machines.start()
     try:
         for fixture in fixtures:
-            found.append(tried(fixture, machines, states))
+            costs.append(explore_cost(fixture, machines, states))
     finally:
         machines.stop()
-    return found
+    return costs
 
 
 def main() -> None:
-    given = argparse.ArgumentParser(description=(__doc__ or "").partition("\n")[0])
-    given.add_argument(
+    parser = argparse.ArgumentParser(description=(__doc__ or "").partition("\n")[0])
+    parser.add_argument(
         "--max-states",
         type=int,
         default=STATES,
         help="the most states of a match (1000000000)",
     )
-    given.add_argument("matches", nargs="+", metavar="NETWORK=AGENT")
-    words = given.parse_args()
+    parser.add_argument("matches", nargs="+", metavar="NETWORK=AGENT")
+    words = parser.parse_args()
     print(
         "| network | agent | most moves | states | whole, s | program, s | states a second | memory, MB |"
     )
     print("|---|---|---|---|---|---|---|---|")
     for match in words.matches:
         network, _, agent = match.partition("=")
-        found = measured(network, agent, words.max_states)
-        states = sum(it.states for it in found)
-        program = sum(it.program for it in found)
-        moves = max(it.moves for it in found)
-        whole = sum(it.whole for it in found)
+        costs = measure(network, agent, words.max_states)
+        states = sum(cost.states for cost in costs)
+        program = sum(cost.program for cost in costs)
+        moves = max(cost.moves for cost in costs)
+        whole = sum(cost.whole for cost in costs)
         print(
             f"| {network} | {agent} | {moves} | {states:,} | {whole:.1f} | {program:.1f} | {states / program:,.0f} | "
-            f"{max(it.memory for it in found):.0f} |",
+            f"{max(cost.memory for cost in costs):.0f} |",
             flush=True,
         )
 
@@ -234,5 +240,5 @@ def main() -> None:
 if __name__ == "__main__":
     try:
         main()
-    except Fault as fault:
+    except ArenaError as fault:
         raise SystemExit(str(fault)) from None

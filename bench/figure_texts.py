@@ -11,49 +11,50 @@ def table(head: Cells, rows: Iterable[Cells]) -> str:
     return "".join(f"| {' | '.join(cells)} |\n" for cells in lines)
 
 
-def found_in(pattern: str, printed: str) -> List[Cells]:
-    """The groups of each line that has this form."""
-    found = re.findall(f"^{pattern}$", printed, re.MULTILINE)
-    if not found:
+def found_in(pattern: str, output: str) -> List[Cells]:
+    """Returns the groups of all lines that match a pattern. Raises ValueError if no
+    line does."""
+    groups = re.findall(f"^{pattern}$", output, re.MULTILINE)
+    if not groups:
         raise ValueError(f"no line reads {pattern}")
-    return [list(cells) for cells in found]
+    return [list(cells) for cells in groups]
 
 
-def gate_text(printed: str) -> str:
+def gate_text(output: str) -> str:
     """The table of tools/prove/gate_times, which stands behind the lines of the
     gate."""
-    _, _, last = printed.partition("\nProcessor seconds by crate and stage; ")
-    said, _, rows = last.partition(":\n\n")
+    _, _, last = output.partition("\nProcessor seconds by crate and stage; ")
+    summary, _, rows = last.partition(":\n\n")
     if not rows:
         raise ValueError("there is no table of the gate")
-    return f"Processor seconds of the prover; {said}.\n\n{rows.strip()}\n"
+    return f"Processor seconds of the prover; {summary}.\n\n{rows.strip()}\n"
 
 
-def steps_text(printed: str) -> str:
-    figures = dict(found_in(r"([a-z ]+) ([\d.]+)", printed))
+def steps_text(output: str) -> str:
+    figures = dict(found_in(r"([a-z ]+) ([\d.]+)", output))
     names = ("events", "seconds", "events in a second")
     return table(names, [[figures[name] for name in names]])
 
 
-def submit_text(printed: str) -> str:
+def submit_text(output: str) -> str:
     rows = found_in(
         r"lock (\w+) threads (\d+) matches (\d+) commands (\d+) kept \d+ in a second (\d+)",
-        printed,
+        output,
     )
     return table(("lock", "threads", "matches", "commands", "commands a second"), rows)
 
 
-def stages_text(printed: str) -> str:
-    rows = found_in(r"(\w+ \w+) (\d+) nanoseconds (\d+)", printed)
+def stages_text(output: str) -> str:
+    rows = found_in(r"(\w+ \w+) (\d+) nanoseconds (\d+)", output)
     return table(("stage", "how many", "nanoseconds each"), rows)
 
 
-def rehearse_text(printed: str) -> str:
+def rehearse_text(output: str) -> str:
     scripts = found_in(
         r"(\d+) lines, (\d+) bytes: ([\d.]+) s, (\d+) lines per second, peak (\d+) KiB",
-        printed,
+        output,
     )
-    starts = found_in(r"start, (.+): ([\d.]+) ms", printed)
+    starts = found_in(r"start, (.+): ([\d.]+) ms", output)
     return (
         table(("lines", "bytes", "seconds", "lines a second", "peak, KiB"), scripts)
         + "\n"
@@ -64,10 +65,10 @@ def rehearse_text(printed: str) -> str:
     )
 
 
-def compare_text(printed: str) -> str:
+def compare_text(output: str) -> str:
     pair = r"([\d.]+) ms, ([\d.]+) ms, ratio ([\d.]+)"
     rows = found_in(
-        rf"(.+): {pair}; processor {pair}; peak ([\d.]+) KiB, ([\d.]+) KiB", printed
+        rf"(.+): {pair}; processor {pair}; peak ([\d.]+) KiB, ([\d.]+) KiB", output
     )
     return table(
         (
@@ -85,15 +86,15 @@ def compare_text(printed: str) -> str:
     )
 
 
-def replays_text(printed: str) -> str:
+def replays_text(output: str) -> str:
     """A row for each command on each whole replay, with how many times longer it takes
     than on a tenth of it."""
     rows: List[List[str]] = []
-    for part in re.split(r"^(?=\S)", printed, flags=re.MULTILINE):
+    for part in re.split(r"^(?=\S)", output, flags=re.MULTILINE):
         kind = re.match(r"(.+): (\d+) events, (\d+) bytes\n", part)
         if not kind:
             continue
-        timed = re.findall(
+        timings = re.findall(
             r"^  (\w+): ([\d.]+) s, [\d.]+ us an event, peak (\d+) KiB$",
             part,
             re.MULTILINE,
@@ -104,7 +105,7 @@ def replays_text(printed: str) -> str:
         if not tenth:
             rows += (
                 [*kind.groups(), f"`{word}`", seconds, peak]
-                for word, seconds, peak in timed
+                for word, seconds, peak in timings
             )
         else:
             for row, times in zip(rows[-len(tenth) :], tenth):
@@ -125,20 +126,20 @@ def replays_text(printed: str) -> str:
     )
 
 
-def serve_text(printed: str) -> str:
+def serve_text(output: str) -> str:
     """Two tables, of commands one at a time and of many at once, and the lines below
     them."""
     lines = [
         line.split()
-        for line in printed.splitlines()
+        for line in output.splitlines()
         if re.match(r"(looks|moves|writes) ", line)
     ]
-    one = [cells[:1] + cells[2:] for cells in lines if cells[1] == "one"]
+    single_rows = [cells[:1] + cells[2:] for cells in lines if cells[1] == "one"]
     many = [cells[:1] + cells[2:] for cells in lines if cells[1] == "many"]
-    if not one or not many:
+    if not single_rows or not many:
         raise ValueError("the table of loads is missing")
     head = ("commands", "sessions", "sent", "a second", "echo", "ratio")
-    more = re.findall(r"^(?:\w+: peak|.+ wanted: ).*$", printed, re.MULTILINE)
+    lines_below = re.findall(r"^(?:\w+: peak|.+ wanted: ).*$", output, re.MULTILINE)
     return (
         "One command at a time; answer times in microseconds:\n\n"
         + table(
@@ -149,29 +150,29 @@ def serve_text(printed: str) -> str:
                 "median, echo",
                 "99th percentile, echo",
             ),
-            one,
+            single_rows,
         )
         + "\nMany commands at once, beside an echo that answers many by one write, and one that writes each:\n\n"
         + table((*head, "echo that writes each", "ratio"), many)
         + "\n"
-        + "".join(f"- {line}\n" for line in more)
+        + "".join(f"- {line}\n" for line in lines_below)
     )
 
 
-def lab_text(printed: str) -> str:
-    rows = found_in(r"(.+), (.+): (\d+) steps a second", printed)
-    states = found_in(r"explore: (\d+) states a second()", printed)[0][0]
+def lab_text(output: str) -> str:
+    rows = found_in(r"(.+), (.+): (\d+) steps a second", output)
+    states = found_in(r"explore: (\d+) states a second()", output)[0][0]
     return (
         table(("engine", "agents", "steps a second"), rows)
         + f"\n`explore` visited {states} states a second.\n"
     )
 
 
-def flood_text(printed: str) -> str:
+def flood_text(output: str) -> str:
     rows = found_in(
         r"(\d+) strangers a second: (\d+ of \d+) teams solved their networks; the slowest enter took "
         r"(\d+) ms, the slowest of (\d+) commands (\d+) ms, 99 of 100 at most ([\d.]+) ms",
-        printed,
+        output,
     )
     return table(
         (
@@ -186,24 +187,24 @@ def flood_text(printed: str) -> str:
     )
 
 
-def looks_text(printed: str) -> str:
+def looks_text(output: str) -> str:
     return table(
         ("after", "peak memory, MB", "seconds"),
-        found_in(r"(.+): ([\d.]+) MB, ([\d.]+) s", printed),
+        found_in(r"(.+): ([\d.]+) MB, ([\d.]+) s", output),
     )
 
 
-def results_text(printed: str) -> str:
+def results_text(output: str) -> str:
     """The lines of a tool that count or say what passed, an item each."""
     return lines_text(
         "\n".join(
             line
-            for line in printed.splitlines()
+            for line in output.splitlines()
             if re.match(r"(ok|FAILED|\d+ passed|\d+ skipped|Ran \d+ tests)", line)
         )
     )
 
 
-def lines_text(printed: str) -> str:
+def lines_text(output: str) -> str:
     """What a benchmark printed, a line an item."""
-    return "".join(f"- {line}\n" for line in printed.splitlines())
+    return "".join(f"- {line}\n" for line in output.splitlines())

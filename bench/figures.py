@@ -43,31 +43,31 @@ depend on the machine and its load, so compare figures within one section only.
 """
 SECTION = re.compile(r"<!-- figures ([\w-]+) -->\n(.*?)<!-- end of \1 -->\n", re.DOTALL)
 TITLE = re.compile(r"## (.+)\n\n")
-MEASURED = re.compile(
+MEASURED_NOTE = re.compile(
     r"^Measured at (`\w+`[\w ]*), (\d{4}-\d\d-\d\d); (.+?); (.+?)\.\n\n",
     re.MULTILINE | re.DOTALL,
 )
 WIDTH = 120
 
 
-def shown(words: Sequence[str]) -> str:
-    """A command as one types it at the top of the repository."""
+def command_line(words: Sequence[str]) -> str:
+    """Returns a command line as typed in the repository's top folder."""
     return shlex.join(
         "python3" if word == sys.executable else word.replace(f"{TOP}/", "")
         for word in words
     )
 
 
-def section(name: str, printed: str, setting: Setting) -> str:
+def section(name: str, output: str, setting: Setting) -> str:
     """The section of a benchmark, made of what the benchmark printed."""
     benchmark = BENCHMARKS[name]
     where = textwrap.fill(
-        f"Measured at {setting.place}; {benchmark.build or setting.build}; {setting.machine}.",
+        f"Measured at {setting.commit_and_day}; {benchmark.build or setting.build}; {setting.machine}.",
         WIDTH,
     )
     return (
         f"<!-- figures {name} -->\n## {benchmark.title}\n\n{where}\n\n"
-        f"    {shown(benchmark.words(setting))}\n\n{benchmark.text(printed)}<!-- end of {name} -->\n"
+        f"    {command_line(benchmark.words(setting))}\n\n{benchmark.text(output)}<!-- end of {name} -->\n"
     )
 
 
@@ -78,10 +78,10 @@ def page(sections: Dict[str, str]) -> str:
     rows = []
     for name in names:
         title = TITLE.search(sections[name])
-        measured = MEASURED.findall(sections[name])
+        notes = MEASURED_NOTE.findall(sections[name])
         rows += [
             [title[1] if title else name, *(cell.replace("\n", " ") for cell in cells)]
-            for cells in measured
+            for cells in notes
         ]
     return (
         HEAD
@@ -92,7 +92,7 @@ def page(sections: Dict[str, str]) -> str:
 
 
 def sections_of(text: str) -> Dict[str, str]:
-    return {found[1]: found[0] for found in SECTION.finditer(text)}
+    return {match[1]: match[0] for match in SECTION.finditer(text)}
 
 
 def say(text: str) -> None:
@@ -102,42 +102,42 @@ def say(text: str) -> None:
 def run(words: Sequence[str], setting: Setting) -> Tuple[int, str]:
     """Runs a command, and gives its status and what it printed. Its standard error is
     passed on, except that a build without a proof says so at each start."""
-    with tempfile.TemporaryFile("w+") as printed:
+    with tempfile.TemporaryFile("w+") as output_file:
         with subprocess.Popen(
             words,
             cwd=TOP,
-            stdout=printed,
+            stdout=output_file,
             stderr=subprocess.PIPE,
             text=True,
             env={**os.environ, "ARENA": shlex.quote(str(setting.program))},
         ) as child:
             for line in child.stderr:
                 sys.stderr.write(built.without_warning(line))
-        printed.seek(0)
-        return child.returncode, printed.read()
+        output_file.seek(0)
+        return child.returncode, output_file.read()
 
 
-def measured(name: str, setting: Setting) -> Optional[str]:
+def measure(name: str, setting: Setting) -> Optional[str]:
     """Runs a benchmark, and gives its section, or nothing if it failed."""
     words = BENCHMARKS[name].words(setting)
-    say(f"{name}: {shown(words)}")
-    begun = time.monotonic()
-    status, printed = run(words, setting)
+    say(f"{name}: {command_line(words)}")
+    start = time.monotonic()
+    status, output = run(words, setting)
     if status != 0:
         say(
-            f"{name}: failed with status {status}; its section stays as it was\n{printed.rstrip()}"
+            f"{name}: failed with status {status}; its section stays as it was\n{output.rstrip()}"
         )
         return None
     try:
-        found = section(name, printed, setting)
+        section_text = section(name, output, setting)
     except (ValueError, KeyError) as fault:
         say(f"{name}: its output is not understood: {fault}")
         return None
-    say(f"{name}: done in {time.monotonic() - begun:.0f} s")
-    return found
+    say(f"{name}: done in {time.monotonic() - start:.0f} s")
+    return section_text
 
 
-def place() -> str:
+def commit_and_day() -> str:
     """The commit, whether the tree has changed since, and the day."""
 
     def git(*words: str) -> str:
@@ -145,10 +145,10 @@ def place() -> str:
             ["git", *words], cwd=TOP, capture_output=True, text=True, check=True
         ).stdout.strip()
 
-    changed = (
+    suffix = (
         " with changes" if git("status", "--porcelain", "--untracked-files=no") else ""
     )
-    return f"`{git('rev-parse', '--short', 'HEAD')}`{changed}, {datetime.date.today()}"
+    return f"`{git('rev-parse', '--short', 'HEAD')}`{suffix}, {datetime.date.today()}"
 
 
 def machine() -> str:
@@ -163,7 +163,7 @@ def machine() -> str:
     return f"{processors}{model_name}, load {os.getloadavg()[0]:.1f} at the start"
 
 
-def asked(words: Sequence[str]) -> argparse.Namespace:
+def parse_arguments(words: Sequence[str]) -> argparse.Namespace:
     names = "".join(
         f"    {name:<11} {benchmark.title}\n" for name, benchmark in BENCHMARKS.items()
     )
@@ -215,30 +215,32 @@ def asked(words: Sequence[str]) -> argparse.Namespace:
 
 
 def main(words: Sequence[str]) -> int:
-    given = asked(words)
-    program = (given.program or built.any_program()).resolve()
+    args = parse_arguments(words)
+    program = (args.program or built.any_program()).resolve()
     setting = Setting(
         program,
-        given.other and given.other.resolve(),
-        given.benchmark.resolve(),
-        place(),
+        args.other and args.other.resolve(),
+        args.benchmark.resolve(),
+        commit_and_day(),
         machine(),
-        given.peer and given.peer.resolve(),
+        args.peer and args.peer.resolve(),
     )
     status = 0
-    for name in given.only or BENCHMARKS:
+    for name in args.only or BENCHMARKS:
         missing = BENCHMARKS[name].needs(setting)
         if missing:
             say(f"{name}: not measured: {missing}")
-            status |= bool(given.only)
+            status |= bool(args.only)
             continue
-        found = measured(name, setting)
-        if not found:
+        section_text = measure(name, setting)
+        if not section_text:
             status = 1
             continue
         # after each benchmark, so that an interrupt loses one at most
-        text = given.out.read_text(encoding="utf-8") if given.out.exists() else ""
-        given.out.write_text(page({**sections_of(text), name: found}), encoding="utf-8")
+        text = args.out.read_text(encoding="utf-8") if args.out.exists() else ""
+        args.out.write_text(
+            page({**sections_of(text), name: section_text}), encoding="utf-8"
+        )
     return status
 
 

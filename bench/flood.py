@@ -28,7 +28,7 @@ from typing import Any, Dict, List, NamedTuple, Tuple
 
 from arena_lab.rules.networks import ring
 from bench.servers import MAX_SESSIONS, prepare, serving
-from tests.support.counts import Wrong
+from tests.support.counts import FailedCheckError
 from tests.support.tournaments import match, write_cup
 from arena_lab.play.agent_files import client_module
 
@@ -42,11 +42,11 @@ BOARD = 64
 SHARE = 5
 # seconds that a client of the flood stays at most
 STAYS = 4.0
-SAID = (b"", b'{"do":"enter","key"', b'{"do":"enter","key":"nobody"}\n')
+HALF_LINES = (b"", b'{"do":"enter","key"', b'{"do":"enter","key":"nobody"}\n')
 
 
 class Rules(NamedTuple):
-    """What is the same in both contests."""
+    """Settings shared by both contests."""
 
     teams: int
     nodes: int
@@ -58,14 +58,14 @@ class Waits(NamedTuple):
     """How many seconds agents waited for their enters, and for their other commands."""
 
     enters: List[float]
-    others: List[float]
+    other_waits: List[float]
 
-    def add(self, more: "Waits") -> None:
-        self.enters.extend(more.enters)
-        self.others.extend(more.others)
+    def add(self, added_waits: "Waits") -> None:
+        self.enters.extend(added_waits.enters)
+        self.other_waits.extend(added_waits.other_waits)
 
 
-class Timed(client.Agent):
+class TimedAgent(client.Agent):
     """An agent that notes how long its commands take."""
 
     def __init__(self, lines: Any) -> None:
@@ -73,53 +73,58 @@ class Timed(client.Agent):
         self.waits: List[float] = []
 
     def _ask(self, command: Dict[str, Any]) -> Dict[str, Any]:
-        begun = time.monotonic()
+        start = time.monotonic()
         try:
             return super()._ask(command)
         finally:
-            self.waits.append(time.monotonic() - begun)
+            self.waits.append(time.monotonic() - start)
 
 
-def played(port: int, key: str, nodes: int) -> Waits:
-    """How long an agent waited."""
-    begun = time.monotonic()
-    agent = Timed.connect(HOST, port)
-    connected = time.monotonic() - begun
+def play(port: int, key: str, nodes: int) -> Waits:
+    """Returns how long an agent waited."""
+    start = time.monotonic()
+    agent = TimedAgent.connect(HOST, port)
+    connect_seconds = time.monotonic() - start
     try:
         search(agent, key, nodes)
     except client.Refused:
         pass
     finally:
         agent.close()
-    return Waits([connected + agent.waits[0]], agent.waits[1:])
+    return Waits([connect_seconds + agent.waits[0]], agent.waits[1:])
 
 
 def share(port: int, nodes: int, keys: List[str]) -> Waits:
-    """How long some agents waited, each in a thread of its own."""
-    found = Waits([], [])
+    """Returns how long some agents waited, each in a thread of its own."""
+    all_waits = Waits([], [])
     with concurrent.futures.ThreadPoolExecutor(len(keys)) as pool:
-        for waits in pool.map(lambda key: played(port, key, nodes), keys):
-            found.add(waits)
-    return found
+        for waits in pool.map(lambda key: play(port, key, nodes), keys):
+            all_waits.add(waits)
+    return all_waits
 
 
 def flood(port: int, rate: float, stop: Any, count: Any) -> None:
     """Connects this often a second, and counts how often it did."""
     selector = selectors.DefaultSelector()
     waiting: List[Tuple[float, socket.socket]] = []
-    begun = time.monotonic()
-    sent = 0
+    start = time.monotonic()
+    count_sent = 0
     while not stop.is_set():
         now = time.monotonic()
-        while sent < (now - begun) * rate:
-            waiting.append((now, stranger(port, SAID[sent % len(SAID)], selector)))
-            sent += 1
-        count.value = sent
+        while count_sent < (now - start) * rate:
+            waiting.append(
+                (
+                    now,
+                    stranger(port, HALF_LINES[count_sent % len(HALF_LINES)], selector),
+                )
+            )
+            count_sent += 1
+        count.value = count_sent
         for key, _ in selector.select(0.002):
-            gone = key.fileobj
-            if not heard(gone):
-                selector.unregister(gone)
-                gone.close()
+            connection = key.fileobj
+            if not heard(connection):
+                selector.unregister(connection)
+                connection.close()
         while waiting and waiting[0][0] + STAYS < now:
             _, client = waiting.pop(0)
             if client.fileno() >= 0:
@@ -127,14 +132,14 @@ def flood(port: int, rate: float, stop: Any, count: Any) -> None:
                 client.close()
 
 
-def stranger(port: int, said: bytes, selector: selectors.BaseSelector) -> socket.socket:
+def stranger(port: int, data: bytes, selector: selectors.BaseSelector) -> socket.socket:
     """A client of the flood."""
     client = socket.socket()
     client.setblocking(True)
     client.settimeout(STAYS)
     try:
         client.connect((HOST, port))
-        client.sendall(said)
+        client.sendall(data)
     except OSError:
         pass
     client.setblocking(False)
@@ -143,7 +148,7 @@ def stranger(port: int, said: bytes, selector: selectors.BaseSelector) -> socket
 
 
 def heard(client: Any) -> bool:
-    """Whether a client is still connected."""
+    """Returns whether a client is still connected."""
     try:
         return bool(client.recv(4096))
     except OSError:
@@ -155,7 +160,7 @@ def contest(rules: Rules, rate: float) -> Tuple[str, float, Waits]:
     long the agents waited."""
     keys = [f"t{team}-{agent}" for team in range(rules.teams) for agent in range(2)]
     shares = [
-        keys[place : place + 2 * SHARE] for place in range(0, len(keys), 2 * SHARE)
+        keys[index : index + 2 * SHARE] for index in range(0, len(keys), 2 * SHARE)
     ]
     with tempfile.TemporaryDirectory() as folder_name:
         folder = pathlib.Path(folder_name)
@@ -184,9 +189,9 @@ def contest(rules: Rules, rate: float) -> Tuple[str, float, Waits]:
             )
             flooding.start()
             time.sleep(1.0 if rate else 0.0)
-            begun = time.monotonic()
+            start = time.monotonic()
             before = count.value
-            found = Waits([], [])
+            all_waits = Waits([], [])
             table: List[str] = []
             reading = threading.Thread(
                 target=lambda: table.append(server.child.stdout.read().decode())
@@ -196,24 +201,24 @@ def contest(rules: Rules, rate: float) -> Tuple[str, float, Waits]:
                 for waits in pool.map(
                     share, [port] * len(shares), [rules.nodes] * len(shares), shares
                 ):
-                    found.add(waits)
-            had = (count.value - before) / (time.monotonic() - begun)
+                    all_waits.add(waits)
+            had = (count.value - before) / (time.monotonic() - start)
             stop.set()
             flooding.join()
             reading.join()
-    return table[0], had, found
+    return table[0], had, all_waits
 
 
-def told(rules: Rules, rate: float) -> str:
+def summary_line(rules: Rules, rate: float) -> str:
     """A line on a contest."""
     table, had, waits = contest(rules, rate)
-    solved = sum(row.split()[2] == "solved" for row in table.splitlines()[1:])
-    others = sorted(waits.others)
+    solved_count = sum(row.split()[2] == "solved" for row in table.splitlines()[1:])
+    waits_sorted = sorted(waits.other_waits)
     return (
-        f"{had:.0f} strangers a second: {solved} of {rules.teams} teams solved their networks; the slowest enter "
-        f"took {1000 * max(waits.enters):.0f} ms, the slowest of {len(others)} commands "
-        f"{1000 * others[-1]:.0f} ms, "
-        f"99 of 100 at most {1000 * others[len(others) * 99 // 100]:.1f} ms"
+        f"{had:.0f} strangers a second: {solved_count} of {rules.teams} teams solved their networks; the slowest enter "
+        f"took {1000 * max(waits.enters):.0f} ms, the slowest of {len(waits_sorted)} commands "
+        f"{1000 * waits_sorted[-1]:.0f} ms, "
+        f"99 of 100 at most {1000 * waits_sorted[len(waits_sorted) * 99 // 100]:.1f} ms"
     )
 
 
@@ -239,13 +244,13 @@ def main(arguments: List[str]) -> int:
         default=5,
         help="milliseconds before each turn (default: 5)",
     )
-    given = parser.parse_args(arguments)
+    args = parser.parse_args(arguments)
     prepare(8192)
-    rules = Rules(given.teams, given.nodes, given.turns, given.pause)
+    rules = Rules(args.teams, args.nodes, args.turns, args.pause)
     try:
-        for rate in (given.rate, 0.0):
-            print(told(rules, rate), flush=True)
-    except Wrong as fault:
+        for rate in (args.rate, 0.0):
+            print(summary_line(rules, rate), flush=True)
+    except FailedCheckError as fault:
         sys.exit(str(fault))
     return 0
 

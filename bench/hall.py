@@ -31,18 +31,18 @@ from typing import Any, Callable, Dict, Iterator, List
 
 from arena_lab.rules.engines import program_at
 from arena_lab.sandbox import processes
-from tests.support.halls import Served, play, sample_program
+from tests.support.halls import ServedHall, play, sample_program
 
 # seconds between two looks at a match, and at a program that is to be graded: a team
 # has 120 requests a minute
-SEED = 5
+SECRET_SEED = 5
 FLOODS = 8
 EVERY = 1.0
 # seconds between two trials of a team that writes
 WRITES = 20.0
 SELDOM = 5.0
 # tests of processes that are killed take workers for gone earlier
-USUAL_LEASE = "30"
+DEFAULT_LEASE = "30"
 COURSE = """
 title = "A load"
 ports = [{first}, {last}]
@@ -59,9 +59,9 @@ a_day = 100000
 
 
 class Load:
-    """A hall and its teams, and what they have measured."""
+    """The load on a hall: its teams, and the times measured."""
 
-    def __init__(self, hall: Served, tokens: Dict[str, str]) -> None:
+    def __init__(self, hall: ServedHall, tokens: Dict[str, str]) -> None:
         self._hall = hall
         self._tokens = tokens
         self.asked: List[float] = []
@@ -75,16 +75,16 @@ class Load:
     def request(self, how: str, path: str, name: str, body: object = None) -> Any:
         """A request of a team, whose time is noted."""
         began = time.monotonic()
-        told = self._hall.ask(how, path, self._tokens[name], body)
+        response = self._hall.ask(how, path, self._tokens[name], body)
         self.asked.append(time.monotonic() - began)
         return (
-            told.json()
-            if told.status in (200, 201)
-            else {"state": f"refused {told.status}"}
+            response.json()
+            if response.status in (200, 201)
+            else {"state": f"refused {response.status}"}
         )
 
     def at(self, moment: float, does: Callable[[str], None], name: str) -> None:
-        """What a team does at a time."""
+        """Runs an action of a team at a given moment."""
         time.sleep(max(0.0, moment - time.monotonic()))
         try:
             does(name)
@@ -94,22 +94,22 @@ class Load:
     def hand_in(self, name: str) -> None:
         """Hands in the sample agent, and waits until it is graded."""
         began = time.monotonic()
-        told = self._hall.hand_in(self._tokens[name], sample_program())
-        if told.status != 201:
-            self.outcomes[f"hand-in refused {told.status}"] += 1
+        hand = self._hall.hand_in(self._tokens[name], sample_program())
+        if hand.status != 201:
+            self.outcomes[f"hand-in refused {hand.status}"] += 1
             return
-        path = f"/api/hand-ins/{told.json()['id']}"
-        found = told.json()
-        while found["state"] not in ("over", "lost"):
+        path = f"/api/hand-ins/{hand.json()['id']}"
+        reply = hand.json()
+        while reply["state"] not in ("over", "lost"):
             time.sleep(SELDOM)
-            found = self.request("GET", path, name)
+            reply = self.request("GET", path, name)
         self.graded.append(time.monotonic() - began)
-        result = found["result"] or {}
+        result = reply["result"] or {}
         self.outcomes[f"program {result.get('solved')} of {result.get('matches')}"] += 1
 
     def write(self, name: str, moments: List[float]) -> None:
-        """Has the kit tried at these times, or later if the trial before is not over:
-        as the page does, on which one can press Run only then."""
+        """Requests trials of the kit at these moments; a trial waits for the previous
+        one, as on the page, where Run is disabled meanwhile."""
         for moment in moments:
             self.at(moment, self.try_once, name)
 
@@ -117,40 +117,40 @@ class Load:
         """Has the kit tried, and waits for what is found."""
         began = time.monotonic()
         kit = self.request("GET", "/api/drafts/python", name)
-        asked = {**kit, "kind": "play", "network": "ring of 8"}
-        told = self.request("POST", "/api/trials", name, asked)
-        while told["state"] in ("waiting", "held", "running"):
+        trial_request = {**kit, "kind": "play", "network": "ring of 8"}
+        reply = self.request("POST", "/api/trials", name, trial_request)
+        while reply["state"] in ("waiting", "held", "running"):
             # as arena_lab/hall/static/write.js does
             took = time.monotonic() - began
             time.sleep(0.3 if took < 4 else 1 if took < 15 else 2)
-            told = self.request("GET", f"/api/trials/{told['id']}", name)
-        if told["state"] == "over":
+            reply = self.request("GET", f"/api/trials/{reply['id']}", name)
+        if reply["state"] == "over":
             self.tried.append(time.monotonic() - began)
-        self.outcomes[f"tried: {told.get('verdict') or told['state']}"] += 1
+        self.outcomes[f"tried: {reply.get('verdict') or reply['state']}"] += 1
 
     def ask_and_play(self, name: str) -> None:
         """Asks for an attempt and plays it."""
         began = time.monotonic()
-        told = self.request("POST", "/api/matches", name, {"network": "ring of 8"})
-        while told["state"] in ("waiting", "held", "running") and not told["matches"]:
+        reply = self.request("POST", "/api/matches", name, {"network": "ring of 8"})
+        while reply["state"] in ("waiting", "held", "running") and not reply["matches"]:
             time.sleep(EVERY / 10)
-            told = self.request("GET", f"/api/matches/{told['id']}", name)
-        if "id" not in told:
-            self.outcomes[told["state"]] += 1
+            reply = self.request("GET", f"/api/matches/{reply['id']}", name)
+        if "id" not in reply:
+            self.outcomes[reply["state"]] += 1
             return
         self.waited.append(time.monotonic() - began)
-        agents = play(told)
-        while told["state"] in ("waiting", "held", "running"):
+        agents = play(reply)
+        while reply["state"] in ("waiting", "held", "running"):
             time.sleep(EVERY)
-            told = self.request("GET", f"/api/matches/{told['id']}", name)
+            reply = self.request("GET", f"/api/matches/{reply['id']}", name)
         for agent in agents:
             agent.wait()
-        came = (
-            told["verdicts"][0]["outcome"]
-            if told["verdicts"]
-            else f"{told['state']} {told['fault']}"
+        outcome = (
+            reply["verdicts"][0]["outcome"]
+            if reply["verdicts"]
+            else f"{reply['state']} {reply['fault']}"
         )
-        self.outcomes[came] += 1
+        self.outcomes[outcome] += 1
 
     def flood(self, name: str) -> None:
         """Requests of a team as fast as they are answered."""
@@ -161,7 +161,7 @@ class Load:
                 ] += 1
 
 
-def seconds_of(hall: Served) -> float:
+def seconds_of(hall: ServedHall) -> float:
     """The processor seconds that the hall has taken, with what it has started."""
     total = 0
     for process in processes.below(hall.child.pid) if hall.child else []:
@@ -172,11 +172,11 @@ def seconds_of(hall: Served) -> float:
 
 
 @contextlib.contextmanager
-def served(teams: int) -> Iterator[Served]:
+def serve_hall(teams: int) -> Iterator[ServedHall]:
     """A hall with this number of teams, and one more."""
     with tempfile.TemporaryDirectory(prefix="hall-") as name:
-        hall = Served(pathlib.Path(name), workers=2)
-        hall.lease = USUAL_LEASE
+        hall = ServedHall(pathlib.Path(name), workers=2)
+        hall.lease = DEFAULT_LEASE
         hall.course.write_text(
             COURSE.format(first=21_000, last=21_199, trials=os.cpu_count())
             + "".join(
@@ -190,38 +190,47 @@ def served(teams: int) -> Iterator[Served]:
             hall.stop()
 
 
-def told(values: List[float]) -> str:
+def quantiles(values: List[float]) -> str:
     """The median, the ninety-ninth of a hundred, and the most, in milliseconds."""
-    ordered = sorted(values)
-    most = [statistics.median(ordered), ordered[int(len(ordered) * 0.99)], ordered[-1]]
-    return " | ".join(f"{value * 1000:.0f} ms" for value in most)
+    ascending = sorted(values)
+    figures = [
+        statistics.median(ascending),
+        ascending[int(len(ascending) * 0.99)],
+        ascending[-1],
+    ]
+    return " | ".join(f"{value * 1000:.0f} ms" for value in figures)
 
 
-def run(words: argparse.Namespace) -> None:
-    chance = random.Random(SEED)
-    with served(words.teams) as hall:
+def run(args: argparse.Namespace) -> None:
+    rng = random.Random(SECRET_SEED)
+    with serve_hall(args.teams) as hall:
         load = Load(hall, hall.tokens())
         began = time.monotonic()
-        names = [f"team{number % words.teams}" for number in range(words.attempts)]
-        handed = [f"team{number % words.teams}" for number in range(words.hand_ins)]
+        names = [f"team{number % args.teams}" for number in range(args.attempts)]
+        submitting_teams = [
+            f"team{number % args.teams}" for number in range(args.hand_ins)
+        ]
         teams = [
             threading.Thread(
                 target=load.at,
-                args=(began + chance.uniform(0, words.minutes * 60), does, name),
+                args=(began + rng.uniform(0, args.minutes * 60), does, name),
             )
-            for does, those in ((load.ask_and_play, names), (load.hand_in, handed))
+            for does, those in (
+                (load.ask_and_play, names),
+                (load.hand_in, submitting_teams),
+            )
             for name in those
         ]
-        rounds = int(words.minutes * 60 / WRITES)
-        for number in range(words.writers):
-            first = began + chance.random() * WRITES
+        rounds = int(args.minutes * 60 / WRITES)
+        for number in range(args.writers):
+            first = began + rng.random() * WRITES
             moments = [first + turn * WRITES for turn in range(rounds)]
             teams.append(
                 threading.Thread(target=load.write, args=(f"team{number}", moments))
             )
         floods = [
-            threading.Thread(target=load.flood, args=(f"team{words.teams}",))
-            for _ in range(0 if words.no_flood else FLOODS)
+            threading.Thread(target=load.flood, args=(f"team{args.teams}",))
+            for _ in range(0 if args.no_flood else FLOODS)
         ]
         for thread in [*teams, *floods]:
             thread.start()
@@ -232,7 +241,7 @@ def run(words: argparse.Namespace) -> None:
         for thread in floods:
             thread.join()
         print(
-            f"{words.attempts} attempts and {words.hand_ins} programs of {words.teams} teams in {took / 60:.1f} "
+            f"{args.attempts} attempts and {args.hand_ins} programs of {args.teams} teams in {took / 60:.1f} "
             f"minutes: {dict(load.outcomes)}"
         )
         for what, values in (
@@ -241,9 +250,9 @@ def run(words: argparse.Namespace) -> None:
             ("from a program that is written to its match", load.tried),
         ):
             if values:
-                print(f"{what}, median, 99 of 100, most: {told(values)}")
+                print(f"{what}, median, 99 of 100, most: {quantiles(values)}")
         print(
-            f"{len(load.asked)} requests of these teams, median, 99 of 100, most: {told(load.asked)}"
+            f"{len(load.asked)} requests of these teams, median, 99 of 100, most: {quantiles(load.asked)}"
         )
         print(f"the flood: {dict(load.flooded)}")
         print(

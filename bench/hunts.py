@@ -15,21 +15,21 @@ from statistics import median
 from typing import List, Optional, Sequence
 
 from arena_lab.play.games import play_seed
-from arena_lab.play.teams import INSIDE, AgentWords, Game, filled
+from arena_lab.play.teams import INSIDE, AgentWords, Game, fill_team
 from arena_lab.rules import draws, networks
-from arena_lab.search.hunt import DRAWS, Hunt, Hunter, hunted
+from arena_lab.search.hunt import DRAWS, Hunt, Hunter, run_hunter
 from tests.support.mutants import PLANS, agent_of
 
 SEEDS = 10
-MOST = 400
+MAX_RUNS = 400
 
 
 def game_of(name: str) -> Game:
     """The game on which a wrong agent is hunted."""
-    place = PLANS[name].hunted
-    agents = filled([AgentWords(INSIDE, agent_of(name))], place.agents)
-    network = networks.named(place.network)
-    return Game(place.network, network, agents, ports=draws.ports_of(place.ports))
+    plan = PLANS[name].hunt_plan
+    agents = fill_team([AgentWords(INSIDE, agent_of(name))], plan.agents)
+    network = networks.network_named(plan.network)
+    return Game(plan.network, network, agents, ports=draws.ports_of(plan.ports))
 
 
 class UntilFailure:
@@ -42,37 +42,37 @@ class UntilFailure:
         if self.hunter is not None and self.hunter.failed_at is not None:
             raise KeyboardInterrupt
 
-    def set_postfix_str(self, said: str) -> None:
+    def set_postfix_str(self, text: str) -> None:
         """Shows nothing."""
 
 
 def hunts(name: str, seed: int) -> Optional[int]:
     """After how many schedules a hunt finds that the team fails; None if it does
     not."""
-    shown = UntilFailure()
-    shown.hunter = Hunter(Hunt(game_of(name), seed=seed), shown)
-    hunted(shown.hunter)
-    return shown.hunter.failed_at
+    until_failure = UntilFailure()
+    until_failure.hunter = Hunter(Hunt(game_of(name), seed=seed), until_failure)
+    run_hunter(until_failure.hunter)
+    return until_failure.hunter.failed_at
 
 
-def runs(name: str, seed: int, most: int) -> Optional[int]:
+def runs(name: str, seed: int, limit: int) -> Optional[int]:
     """After how many schedules `run` finds that the team fails; None if not within this
     number."""
     game = game_of(name)
-    tried = (
+    first_failure = (
         count
-        for count in range(1, most + 1)
+        for count in range(1, limit + 1)
         if play_seed(game, "fair", seed * DRAWS + count - 1, None).has_failed
     )
-    return next(tried, None)
+    return next(first_failure, None)
 
 
-def cells(found: Sequence[Optional[int]], most: int) -> List[str]:
+def cells(counts: Sequence[Optional[int]], limit: int) -> List[str]:
     """The median and the most of some counts."""
-    known = [most + 1 if count is None else count for count in found]
+    counts_or_limit = [limit + 1 if count is None else count for count in counts]
     return [
-        f"more than {most}" if count > most else f"{count:g}"
-        for count in (median(known), max(known))
+        f"more than {limit}" if count > limit else f"{count:g}"
+        for count in (median(counts_or_limit), max(counts_or_limit))
     ]
 
 
@@ -95,26 +95,26 @@ def main(words: Sequence[str]) -> int:
     parser.add_argument(
         "--most",
         type=int,
-        default=MOST,
+        default=MAX_RUNS,
         metavar="N",
         help="after how many schedules `run` is given up (%(default)s)",
     )
-    given = parser.parse_args(words)
+    args = parser.parse_args(words)
     print(
         "| agent | network | hunt: median | hunt: most | run: median | run: most |\n"
         "| --- | --- | --- | --- | --- | --- |"
     )
     is_behind = False
-    for name in given.names or sorted(PLANS):
-        by_hunt = [hunts(name, seed) for seed in range(given.seeds)]
-        by_run = [runs(name, seed, given.most) for seed in range(given.seeds)]
+    for name in args.names or sorted(PLANS):
+        by_hunt = [hunts(name, seed) for seed in range(args.seeds)]
+        by_run = [runs(name, seed, args.most) for seed in range(args.seeds)]
         is_behind |= any(
-            (hunt or given.most + 1) > (run or given.most + 1)
+            (hunt or args.most + 1) > (run or args.most + 1)
             for hunt, run in zip(by_hunt, by_run)
         )
         print(
-            f"| `{name}` | {PLANS[name].hunted.network} | "
-            f"{' | '.join(cells(by_hunt, given.most) + cells(by_run, given.most))} |",
+            f"| `{name}` | {PLANS[name].hunt_plan.network} | "
+            f"{' | '.join(cells(by_hunt, args.most) + cells(by_run, args.most))} |",
             flush=True,
         )
     return int(is_behind)

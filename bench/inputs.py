@@ -9,13 +9,13 @@ import tempfile
 import time
 from typing import NamedTuple, Sequence
 
-from arena_lab.rules.limits import MOST_LINE, MOST_QUOTA, SMALL_QUOTA
+from arena_lab.rules.limits import MAX_LINE, MAX_QUOTA, SMALL_QUOTA
 
 MIB = 1024 * 1024
 PAUSE = 0.0005
-# the bytes of the longest text that a client can write: with the command it is as long
-# as a line may be
-LONGEST_TEXT = MOST_LINE - len('{"do":"write","expect":"","put":""}')
+# bytes of the longest text that a client can write, limited by the line with its
+# command
+LONGEST_TEXT = MAX_LINE - len('{"do":"write","expect":"","put":""}')
 
 
 def key(game: int, agent: int) -> str:
@@ -34,10 +34,10 @@ def tournament(
     quota of its version. The first of them have these black holes, which takes version
     2; the others are practice matches."""
     parts = [f'version = {version}\nseed = "{"0" * 64}"\n']
-    quota = MOST_QUOTA if version == 3 else SMALL_QUOTA
+    quota = MAX_QUOTA if version == 3 else SMALL_QUOTA
     for game in range(matches):
-        found = list(holes[game]) if game < len(holes) else []
-        hole = 'hole = "none"' if version == 1 else f"holes = {found}"
+        match_holes = list(holes[game]) if game < len(holes) else []
+        hole = 'hole = "none"' if version == 1 else f"holes = {match_holes}"
         keys = ", ".join(f'"{key(game, agent)}"' for agent in range(agents))
         parts.append(
             f'[[match]]\nteam = "team-{game}"\nnetwork = "{name}"\nhome = 0\n{hole}\n'
@@ -60,12 +60,12 @@ def timer() -> str:
     """The program that times others, compiled of c/timer.c."""
     folder = tempfile.TemporaryDirectory()
     atexit.register(folder.cleanup)
-    made = str(pathlib.Path(folder.name) / "timer")
+    path = str(pathlib.Path(folder.name) / "timer")
     source = str(pathlib.Path(__file__).resolve().parent / "c" / "timer.c")
     subprocess.run(
-        ["cc", "-O2", "-Wall", "-Wextra", "-Werror", "-o", made, source], check=True
+        ["cc", "-O2", "-Wall", "-Wextra", "-Werror", "-o", path, source], check=True
     )
-    return made
+    return path
 
 
 def run(
@@ -77,17 +77,17 @@ def run(
 ) -> Run:
     """One run of a program. What it prints goes to nobody, or is kept in memory, so
     that no reader and no disk is timed."""
-    told, teller = os.pipe()
-    with open(told) as figures, open(teller, "w") as tells, open(
+    reader, teller = os.pipe()
+    with open(reader) as figures, open(teller, "w") as tells, open(
         source, "rb"
-    ) as given, open(
+    ) as source_file, open(
         os.memfd_create("printed") if keeps else os.devnull, "wb"
-    ) as taken:
+    ) as output_file:
         command = [timer(), str(tells.fileno()), program, *words]
         subprocess.run(
             command,
-            stdin=given,
-            stdout=taken,
+            stdin=source_file,
+            stdout=output_file,
             cwd=folder,
             pass_fds=[tells.fileno()],
             check=True,
@@ -101,10 +101,10 @@ def printed_by(
     program: str, words: Sequence[str], source: pathlib.Path, folder: pathlib.Path
 ) -> bytes:
     """What one run prints."""
-    with open(source, "rb") as given:
+    with open(source, "rb") as source_file:
         return subprocess.run(
             [program, *words],
-            stdin=given,
+            stdin=source_file,
             stdout=subprocess.PIPE,
             cwd=folder,
             check=True,

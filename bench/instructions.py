@@ -36,21 +36,21 @@ import tempfile
 import tomllib
 from typing import Callable, Dict, Iterator, List, NamedTuple, Sequence
 
-from arena_lab.rules.limits import MOST_TEXT, SMALL_QUOTA
-from arena_lab.rules.model import AWAY, Match, Object, Setup, spelled
+from arena_lab.rules.limits import MAX_TEXT, SMALL_QUOTA
+from arena_lab.rules.model import AWAY, Match, Object, Setup, spell
 from arena_lab.rules.networks import text_of, torus
 from bench import compare, rehearse
 from bench.inputs import tournament
-from tests.support.counts import SKIPPED, concluded
+from tests.support.counts import SKIPPED, report_counts
 
 TOP = pathlib.Path(__file__).resolve().parent.parent
 PROGRAM = TOP / "crates" / "bhs_main" / "out" / "bhs_main"
 VALGRIND = "valgrind"
 # the millions of instructions that are kept of each run on small inputs, and how many
 # times as many pass
-KEPT = pathlib.Path(__file__).with_name("instructions.toml")
-MOST = 1.03
-COUNTED = re.compile(r"^==\d+== Collected : (\d+)$", re.MULTILINE)
+RECORD_FILE = pathlib.Path(__file__).with_name("instructions.toml")
+MAX_RATIO = 1.03
+COUNT_LINE = re.compile(r"^==\d+== Collected : (\d+)$", re.MULTILINE)
 SEED = 20_261_128
 MATCHES = AGENTS = 16
 SIDE = 8
@@ -73,8 +73,8 @@ class Size(NamedTuple):
     commands: int
 
 
-WHOLE = Size(MOST_TEXT * 3 // 4, 256, SMALL_QUOTA)
-SMALL = Size(MOST_TEXT * 3 // 40, 64, SMALL_QUOTA // 10)
+WHOLE = Size(MAX_TEXT * 3 // 4, 256, SMALL_QUOTA)
+SMALL = Size(MAX_TEXT * 3 // 40, 64, SMALL_QUOTA // 10)
 
 
 class Work(NamedTuple):
@@ -85,7 +85,7 @@ class Work(NamedTuple):
     source: str = "empty"
 
 
-def entered() -> Match:
+def entered_match() -> Match:
     """A match on a torus that all agents have entered."""
     match = Match(
         Setup(
@@ -100,40 +100,40 @@ def entered() -> Match:
         )
     )
     for agent in range(AGENTS):
-        match.tell(agent, {"do": "enter"})
+        match.reply_to(agent, {"do": "enter"})
     return match
 
 
 def moves(match: Match, commands: int) -> None:
     """In each round all agents depart, and arrive in an order of their own."""
-    chance = random.Random(SEED)
+    rng = random.Random(SEED)
     for _ in range(commands):
         for agent in range(AGENTS):
             far = match.far[match.agents[agent].node]
             ports = [port for port in far if far[port][0] not in (HOLE, TWIN)]
-            match.tell(agent, {"do": "depart", "port": chance.choice(ports)})
-        for agent in chance.sample(range(AGENTS), AGENTS):
+            match.reply_to(agent, {"do": "depart", "port": rng.choice(ports)})
+        for agent in rng.sample(range(AGENTS), AGENTS):
             match.deliver(agent)
 
 
 def texts(match: Match, commands: int) -> None:
     """One agent writes, and then all look; of 50 commands one is a write that comes too
     late."""
-    chance = random.Random(SEED)
-    match.tell(0, {"do": "write", "expect": "", "put": TEXT})
+    rng = random.Random(SEED)
+    match.reply_to(0, {"do": "write", "expect": "", "put": TEXT})
     for number in range(commands - 1):
         for agent in range(AGENTS):
             late = {"do": "write", "expect": str(number), "put": TEXT[:100]}
-            match.tell(agent, late if chance.random() < 0.02 else {"do": "look"})
+            match.reply_to(agent, late if rng.random() < 0.02 else {"do": "look"})
 
 
 def replay(play: Play, commands: int) -> Iterator[str]:
     """The lines of a replay of version 1, in which all agents leave at last."""
-    match = entered()
+    match = entered_match()
     play(match, commands)
     assert not any(agent.standing == AWAY for agent in match.agents)
     for agent in range(AGENTS):
-        match.tell(agent, {"do": "leave"})
+        match.reply_to(agent, {"do": "leave"})
     match.close()
     head = {
         name: value
@@ -145,10 +145,10 @@ def replay(play: Play, commands: int) -> Iterator[str]:
         *match.log,
         {"end": len(match.log)},
     ]
-    return (spelled(line) + "\n" for line in lines)
+    return (spell(line) + "\n" for line in lines)
 
 
-def written(folder: pathlib.Path, size: Size) -> List[Work]:
+def write_inputs(folder: pathlib.Path, size: Size) -> List[Work]:
     """Writes the inputs, and gives what is counted on them."""
     script, lines = rehearse.script(size.script, MATCHES)
     files = {
@@ -178,8 +178,8 @@ def has_valgrind() -> bool:
     return shutil.which(VALGRIND) is not None
 
 
-def counted(program: str, work: Work, folder: pathlib.Path) -> int:
-    """How many instructions a run takes."""
+def count_instructions(program: str, work: Work, folder: pathlib.Path) -> int:
+    """Returns how many instructions a run takes."""
     words = [
         VALGRIND,
         "--tool=callgrind",
@@ -187,57 +187,60 @@ def counted(program: str, work: Work, folder: pathlib.Path) -> int:
         program,
         *work.words,
     ]
-    with open(folder / work.source, "rb") as given:
-        ran = subprocess.run(
+    with open(folder / work.source, "rb") as source_file:
+        result = subprocess.run(
             words,
-            stdin=given,
+            stdin=source_file,
             stdout=subprocess.DEVNULL,
             stderr=subprocess.PIPE,
             cwd=folder,
             text=True,
         )
-    found = COUNTED.search(ran.stderr)
-    if ran.returncode != 0 or not found:
-        raise SystemExit(f"{shlex.join(words)}: status {ran.returncode}\n{ran.stderr}")
-    return int(found[1])
+    match = COUNT_LINE.search(result.stderr)
+    if result.returncode != 0 or not match:
+        raise SystemExit(
+            f"{shlex.join(words)}: status {result.returncode}\n{result.stderr}"
+        )
+    return int(match[1])
 
 
 def row(work: Work, counts: Sequence[int]) -> str:
-    """A row of the table: the count of the program, and of each other program the count
-    and the ratio."""
-    others = [
+    """Returns a row of the table: the program's count, and for each other program its
+    count and the ratio."""
+    cells = [
         cell
-        for other in counts[1:]
-        for cell in (f"{other / 1e6:,.1f}", f"{counts[0] / other:.2f}")
+        for count in counts[1:]
+        for cell in (f"{count / 1e6:,.1f}", f"{counts[0] / count:.2f}")
     ]
-    return f"| {' | '.join([work.title, f'{counts[0] / 1e6:,.1f}', *others])} |"
+    return f"| {' | '.join([work.title, f'{counts[0] / 1e6:,.1f}', *cells])} |"
 
 
-def risen(counts: Dict[str, float], kept: Dict[str, float]) -> List[str]:
-    """What is wrong with the millions of instructions of some runs, by those that are
-    kept."""
+def risen(counts: Dict[str, float], record: Dict[str, float]) -> List[str]:
+    """Returns a line for each run whose millions of instructions exceed the recorded
+    number."""
     return [
-        f"{title} takes {count:.2f} million instructions, and {kept.get(title, 0):.2f} are kept: see {KEPT.name}"
+        f"{title} takes {count:.2f} million instructions, and {record.get(title, 0):.2f} "
+        f"are kept: see {RECORD_FILE.name}"
         for title, count in counts.items()
-        if count > MOST * kept.get(title, 0)
+        if count > MAX_RATIO * record.get(title, 0)
     ]
 
 
 def compare_kept(program: str) -> int:
     """Compares a program with what is kept; gives the exit status."""
-    kept = tomllib.loads(KEPT.read_text(encoding="utf-8"))
+    record = tomllib.loads(RECORD_FILE.read_text(encoding="utf-8"))
     with tempfile.TemporaryDirectory() as name:
         folder = pathlib.Path(name)
         counts = {
-            work.title.replace("`", ""): counted(program, work, folder) / 1e6
-            for work in written(folder, SMALL)
+            work.title.replace("`", ""): count_instructions(program, work, folder) / 1e6
+            for work in write_inputs(folder, SMALL)
         }
     for title, count in counts.items():
         print(f"{title}: {count:.2f} million instructions", flush=True)
-    wrong = risen(counts, kept)
+    wrong = risen(counts, record)
     for line in wrong:
         print(f"FAILED {line}")
-    return concluded(len(counts) - len(wrong), len(wrong))
+    return report_counts(len(counts) - len(wrong), len(wrong))
 
 
 def given_words(words: Sequence[str]) -> argparse.Namespace:
@@ -262,24 +265,28 @@ def given_words(words: Sequence[str]) -> argparse.Namespace:
         "--small", action="store_true", help="on inputs of a tenth of the size"
     )
     parser.add_argument(
-        "--kept", action="store_true", help=f"compare with {KEPT.name}, on small inputs"
+        "--kept",
+        action="store_true",
+        help=f"compare with {RECORD_FILE.name}, on small inputs",
     )
     return parser.parse_args(words)
 
 
 def main(words: Sequence[str]) -> int:
-    given = given_words(words)
-    named = {"program": given.program, "other": given.other, "peer": given.peer}
-    programs = {name: str(path.resolve()) for name, path in named.items() if path}
+    args = given_words(words)
+    named_programs = {"program": args.program, "other": args.other, "peer": args.peer}
+    programs = {
+        name: str(path.resolve()) for name, path in named_programs.items() if path
+    }
     for program in programs.values():
         if not pathlib.Path(program).exists():
             raise SystemExit(f"there is no program {program}: tools/build builds it")
-    if given.kept and not has_valgrind():
+    if args.kept and not has_valgrind():
         print(f"{SKIPPED}bench.instructions: Debian's valgrind is not installed")
-        return concluded(0, 0)
+        return report_counts(0, 0)
     if not has_valgrind():
         raise SystemExit("valgrind is missing: install Debian's package valgrind")
-    if given.kept:
+    if args.kept:
         return compare_kept(programs["program"])
     head = [
         "millions of instructions",
@@ -289,11 +296,14 @@ def main(words: Sequence[str]) -> int:
     print(f"| {' | '.join(head)} |\n|{' --- |' * len(head)}", flush=True)
     with tempfile.TemporaryDirectory() as name:
         folder = pathlib.Path(name)
-        for work in written(folder, SMALL if given.small else WHOLE):
+        for work in write_inputs(folder, SMALL if args.small else WHOLE):
             print(
                 row(
                     work,
-                    [counted(program, work, folder) for program in programs.values()],
+                    [
+                        count_instructions(program, work, folder)
+                        for program in programs.values()
+                    ],
                 ),
                 flush=True,
             )

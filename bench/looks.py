@@ -18,11 +18,11 @@ import tempfile
 import time
 from typing import Iterator, Tuple
 
-from arena_lab.rules.limits import MOST_BOARD, MOST_QUOTA
+from arena_lab.rules.limits import MAX_BOARD, MAX_QUOTA
 from arena_lab.rules.networks import ring
 from bench.inputs import LONGEST_TEXT, peak_so_far
 from bench.servers import serving
-from tests.support.counts import Wrong, require
+from tests.support.counts import FailedCheckError, require
 from tests.support.tournaments import match, write_cup
 
 # looks are said this many at a time
@@ -39,42 +39,43 @@ class Agent:
         self.socket = socket.create_connection(("127.0.0.1", port), 60)
         self.answers = self.socket.makefile("rb")
 
-    def say(self, command: dict, times: int = 1, wanted: str = "here") -> None:
+    def say(self, command: dict, times: int = 1, expected_reply: str = "here") -> None:
         self.socket.sendall((json.dumps(command).encode() + b"\n") * times)
         for _ in range(times):
             answer = json.loads(self.answers.readline() or b"{}")
             require(
-                answer.get("ok") == wanted,
+                answer.get("ok") == expected_reply,
                 f"{command['do']} is answered {str(answer)[:60]}",
             )
 
 
-def measured(looks: int, size: int) -> Iterator[Tuple[str, float, float]]:
+def measure(looks: int, size: int) -> Iterator[Tuple[str, float, float]]:
     """What was done, the most memory in MB that the server has held then, and the
     seconds since the first look."""
     with tempfile.TemporaryDirectory() as name:
         folder = pathlib.Path(name)
         write_cup(
             folder,
-            [match("red", ring(3), [2], agents=1, quota=MOST_QUOTA, board=MOST_BOARD)],
+            [match("red", ring(3), [2], agents=1, quota=MAX_QUOTA, board=MAX_BOARD)],
         )
         with serving(folder, 1, TURNS, PAUSE) as server:
             agent = Agent(server.port)
             agent.say({"do": "enter", "key": "red-0"})
             agent.say(
-                {"do": "write", "expect": "", "put": "x" * size}, wanted="written"
+                {"do": "write", "expect": "", "put": "x" * size},
+                expected_reply="written",
             )
             yield "before the looks", peak_so_far(server.child) / 1024, 0.0
-            begun = time.monotonic()
-            said = 0
+            start = time.monotonic()
+            count = 0
             for quarter in range(1, 5):
-                while said < looks * quarter // 4:
-                    together = min(TOGETHER, looks * quarter // 4 - said)
+                while count < looks * quarter // 4:
+                    together = min(TOGETHER, looks * quarter // 4 - count)
                     agent.say({"do": "look"}, together)
-                    said += together
-                yield f"{said:,} looks", peak_so_far(
+                    count += together
+                yield f"{count:,} looks", peak_so_far(
                     server.child
-                ) / 1024, time.monotonic() - begun
+                ) / 1024, time.monotonic() - start
 
 
 def main(words_given: list) -> int:
@@ -86,7 +87,7 @@ def main(words_given: list) -> int:
     parser.add_argument(
         "--looks",
         type=int,
-        default=MOST_QUOTA - 1,
+        default=MAX_QUOTA - 1,
         metavar="N",
         help="how many looks (%(default)s)",
     )
@@ -97,11 +98,11 @@ def main(words_given: list) -> int:
         metavar="N",
         help="bytes of the text (%(default)s)",
     )
-    given = parser.parse_args(words_given)
+    args = parser.parse_args(words_given)
     try:
-        for what, memory, seconds in measured(given.looks, given.size):
+        for what, memory, seconds in measure(args.looks, args.size):
             print(f"{what}: {memory:.1f} MB, {seconds:.1f} s", flush=True)
-    except (Wrong, OSError, ValueError) as fault:
+    except (FailedCheckError, OSError, ValueError) as fault:
         sys.exit(str(fault))
     return 0
 

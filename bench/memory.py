@@ -21,7 +21,7 @@ from arena_lab.rules.networks import text_of, torus
 from bench.inputs import key, tournament
 from bench.looks import Agent
 from bench.servers import prepare, serving
-from tests.support.counts import Wrong
+from tests.support.counts import FailedCheckError
 
 MATCHES = 4
 AGENTS = 64
@@ -38,31 +38,32 @@ REST = "the program, its libraries and the rest"
 GUARD = 1 << 20
 # the head of a mapping, and how much of it the memory holds
 HEAD = re.compile(r"([0-9a-f]+)-([0-9a-f]+) (\S+) \S+ \S+ \S+ *(.*)")
-HELD = re.compile(r"Rss: +(\d+) kB")
+RSS_LINE = re.compile(r"Rss: +(\d+) kB")
 
 
 def parts(smaps: str) -> Dict[str, int]:
-    """How many KiB a program holds for what, by what the system says of its memory."""
-    found = dict.fromkeys((STACKS, HEAP, PIECES, REST), 0)
+    """Returns how many KiB a program holds for what, by what the system says of its
+    memory."""
+    sizes = dict.fromkeys((STACKS, HEAP, PIECES, REST), 0)
     what = REST
-    guarded = ""
+    guard = ""
     for line in smaps.splitlines():
         head = HEAD.fullmatch(line)
-        held = HELD.fullmatch(line)
+        match = RSS_LINE.fullmatch(line)
         if head:
             begin, end, access, name = head.groups()
             what = HEAP if name == "[heap]" else REST
             if not name:
-                what = STACKS if begin == guarded else PIECES
+                what = STACKS if begin == guard else PIECES
             is_guard = int(end, 16) - int(begin, 16) < GUARD
-            guarded = end if is_guard and access.startswith("---") else ""
-        elif held:
-            found[what] += int(held[1])
-    return found
+            guard = end if is_guard and access.startswith("---") else ""
+        elif match:
+            sizes[what] += int(match[1])
+    return sizes
 
 
-def measured(sessions: int) -> Dict[str, Dict[str, int]]:
-    """What a server holds for what, before and with this many sessions."""
+def measure(sessions: int) -> Dict[str, Dict[str, int]]:
+    """Measures a server's memory by purpose, before and with `sessions` sessions."""
     with tempfile.TemporaryDirectory() as name:
         folder = pathlib.Path(name)
         (folder / "torus.toml").write_text(text_of(torus(4, 4)))
@@ -89,28 +90,28 @@ def main(words_given: list) -> int:
         description=__doc__,
         formatter_class=argparse.RawDescriptionHelpFormatter,
     )
-    most = MATCHES * AGENTS
+    sessions_in_all = MATCHES * AGENTS
     parser.add_argument(
         "--sessions",
         type=int,
-        default=most,
-        choices=range(1, most + 1),
+        default=sessions_in_all,
+        choices=range(1, sessions_in_all + 1),
         metavar="N",
         help="how many sessions (%(default)s)",
     )
     sessions = parser.parse_args(words_given).sessions
-    prepare(2 * most)
+    prepare(2 * sessions_in_all)
     try:
-        found = measured(sessions)
-    except (Wrong, OSError, ValueError) as fault:
+        sizes = measure(sessions)
+    except (FailedCheckError, OSError, ValueError) as fault:
         sys.exit(str(fault))
     print(f"| KiB | before | with {sessions} sessions | a session |")
     print("| --- | --- | --- | --- |")
-    for column in found.values():
+    for column in sizes.values():
         column["all"] = sum(column.values())
-    for what, before in found["before"].items():
-        held = found["open"][what]
-        print(f"| {what} | {before:,} | {held:,} | {(held - before) / sessions:.1f} |")
+    for what, before in sizes["before"].items():
+        size = sizes["open"][what]
+        print(f"| {what} | {before:,} | {size:,} | {(size - before) / sessions:.1f} |")
     return 0
 
 

@@ -37,10 +37,10 @@ class Model(NamedTuple):
 
 
 NATURAL = Model("ring_natural", ["-DSAFETY", "-DCOLLAPSE"])
-MERGED = Model("ring_merged", ["-DSAFETY", "-DNOREDUCE"])
+MERGED_MODEL = Model("ring_merged", ["-DSAFETY", "-DNOREDUCE"])
 
 
-class Searched(NamedTuple):
+class SpinResult(NamedTuple):
     """What a search came to, in how many seconds; and in how many seconds of a
     processor and with how many megabytes, of its first process if there are several."""
 
@@ -52,7 +52,9 @@ class Searched(NamedTuple):
     memory: float
 
 
-def search(model: Model, nodes: int, source: str = "", processors: int = 1) -> Searched:
+def search(
+    model: Model, nodes: int, source: str = "", processors: int = 1
+) -> SpinResult:
     """Searches all schedules of a model, or of another source, on a ring of this many
     nodes, by a process for each processor. To compile the program takes no part of the
     time."""
@@ -66,35 +68,38 @@ def search(model: Model, nodes: int, source: str = "", processors: int = 1) -> S
             check=True,
             stdout=subprocess.DEVNULL,
         )
-        options = [*model.options, *(shared(processors) if processors > 1 else [])]
+        options = [
+            *model.options,
+            *(memory_options(processors) if processors > 1 else []),
+        ]
         subprocess.run(
             ["cc", "-O2", "-w", *options, "-o", "pan", "pan.c"],
             cwd=folder,
             check=True,
         )
-        return searched(folder, SHARED_TABLE if processors > 1 else TABLE)
+        return run_spin(folder, SHARED_TABLE if processors > 1 else TABLE)
 
 
-def shared(processors: int) -> List[str]:
+def memory_options(processors: int) -> List[str]:
     """The options for processes that share at most half of the machine's memory."""
     pages = os.sysconf("SC_PHYS_PAGES") * os.sysconf("SC_PAGE_SIZE")
     return [f"-DNCORE={processors}", f"-DMEMLIM={pages // 2**21}"]
 
 
-def searched(folder: pathlib.Path, table: List[str]) -> Searched:
+def run_spin(folder: pathlib.Path, table: List[str]) -> SpinResult:
     """What the compiled program comes to."""
-    begun = time.monotonic()
-    with (folder / "printed").open("wb+") as printed:
+    start = time.monotonic()
+    with (folder / "printed").open("wb+") as output_file:
         child = subprocess.Popen(
             [str(folder / "pan"), *SEARCH, *table],
             cwd=folder,
-            stdout=printed,
+            stdout=output_file,
             start_new_session=True,
         )
         try:
-            _, status, used = os.wait4(child.pid, 0)
+            _, status, usage = os.wait4(child.pid, 0)
             child.returncode = os.waitstatus_to_exitcode(status)
-            whole = time.monotonic() - begun
+            whole = time.monotonic() - start
         finally:
             # those that the first process started
             with contextlib.suppress(ProcessLookupError):
@@ -108,19 +113,19 @@ def searched(folder: pathlib.Path, table: List[str]) -> Searched:
         or number(r"errors: (\d+)", text) != 0
     ):
         raise RuntimeError(f"SPIN did not search all states:\n{text}")
-    return Searched(
+    return SpinResult(
         0 if errors else int(number(r"([\d.e+]+) states, stored", text)),
         max(map(int, re.findall(r"MOST MOVES (\d+)", text)), default=0),
         errors,
         whole,
-        used.ru_utime + used.ru_stime,
-        used.ru_maxrss / 1024,
+        usage.ru_utime + usage.ru_stime,
+        usage.ru_maxrss / 1024,
     )
 
 
 def number(pattern: str, text: str) -> float:
     """The number that this pattern finds in what SPIN's program printed."""
-    found = re.search(pattern, text)
-    if found is None:
+    match = re.search(pattern, text)
+    if match is None:
         raise RuntimeError(f"SPIN printed no {pattern}:\n{text}")
-    return float(found[1])
+    return float(match[1])

@@ -16,7 +16,7 @@ import sys
 import tempfile
 from typing import Tuple
 
-from arena_lab.rules.limits import MOST_TEXT
+from arena_lab.rules.limits import MAX_TEXT
 from arena_lab.rules.networks import text_of, torus
 from bench.inputs import key, median_run, tournament
 
@@ -34,7 +34,7 @@ SEED = 20_261_122
 def script(length: int, matches: int = MATCHES) -> Tuple[str, int]:
     """A script of at most this many bytes for this many matches, and its number of
     lines: every connection enters, and then commands and draws come by chance."""
-    chance = random.Random(SEED)
+    rng = random.Random(SEED)
     lines = []
     size = 0
 
@@ -53,20 +53,20 @@ def script(length: int, matches: int = MATCHES) -> Tuple[str, int]:
         )
     commands = [
         lambda: '{"do":"look"}',
-        lambda: '{"do":"depart","port":%d}' % chance.randrange(4),
-        lambda: '{"do":"write","expect":"","put":"%d"}' % chance.randrange(100),
+        lambda: '{"do":"depart","port":%d}' % rng.randrange(4),
+        lambda: '{"do":"write","expect":"","put":"%d"}' % rng.randrange(100),
     ]
     while True:
-        if chance.random() < 0.5:
-            line = "draw %d %d" % (chance.randrange(matches), chance.randrange(2**32))
+        if rng.random() < 0.5:
+            line = "draw %d %d" % (rng.randrange(matches), rng.randrange(2**32))
         else:
-            line = "%d %s" % (chance.randrange(CONNECTIONS), chance.choice(commands)())
+            line = "%d %s" % (rng.randrange(CONNECTIONS), rng.choice(commands)())
         if not add(line):
             return "\n".join(lines) + "\n", len(lines)
 
 
 def line_of(lines: int, size: int, seconds: float, peak: int) -> str:
-    """What is printed of a script. bench/figure_texts.py reads it."""
+    """Returns the line of a script's figures; bench/figure_texts.py parses it."""
     return f"{lines} lines, {size} bytes: {seconds:.3f} s, {lines / seconds:.0f} lines per second, peak {peak} KiB"
 
 
@@ -88,15 +88,15 @@ def main() -> None:
         words = ["rehearse", "long.toml"]
         figures = []
         for part in (1, 10):
-            text, lines = script(MOST_TEXT // part)
+            text, lines = script(MAX_TEXT // part)
             source = folder / f"script{part}"
             source.write_text(text)
             seconds, _, peak = median_run(RUNS, program, words, source, folder)
             figures.append((lines, seconds, peak))
             print(line_of(lines, len(text), seconds, peak), flush=True)
-        (most, slow, high), (few, fast, low) = figures
+        (largest, slow, high), (few, fast, low) = figures
         print(
-            f"ratios: lines {most / few:.1f}, seconds {slow / fast:.1f}, peak memory {high / low:.1f}"
+            f"ratios: lines {largest / few:.1f}, seconds {slow / fast:.1f}, peak memory {high / low:.1f}"
         )
         for words in (["rehearse"], ["rehearse", "long.toml"]):
             seconds, _, _ = median_run(RUNS, program, words, folder / "empty", folder)

@@ -51,13 +51,13 @@ from typing import (
 from bench.compare import line_of
 from bench.inputs import LONGEST_TEXT, median_run, run
 from arena_lab.rules.limits import (
-    MOST_AGENTS,
-    MOST_BOARD,
-    MOST_QUOTA,
+    MAX_AGENTS,
+    MAX_BOARD,
+    MAX_QUOTA,
     SMALL_BOARD,
     SMALL_QUOTA,
 )
-from arena_lab.rules.model import spelled
+from arena_lab.rules.model import spell
 from arena_lab.rules.networks import torus
 
 TOP = pathlib.Path(__file__).resolve().parent.parent
@@ -79,15 +79,15 @@ Event = Dict[str, Any]
 def events_at_most(quota: int) -> int:
     """The events of the largest log: each agent enters, departs and arrives with each
     command, and leaves; the close is last."""
-    return MOST_AGENTS * (2 * quota + 2) + 1
+    return MAX_AGENTS * (2 * quota + 2) + 1
 
 
-def here(came: Optional[int], board: str) -> Event:
-    return {"ok": "here", "ports": 4, "from": came, "board": board}
+def here(port: Optional[int], board: str) -> Event:
+    return {"ok": "here", "ports": 4, "from": port, "board": board}
 
 
-def event(agent: int, do: str, reply: Optional[Event], **more: Any) -> Event:
-    return {"agent": agent, "do": do, "reply": reply, **more}
+def event(agent: int, do: str, reply: Optional[Event], **extra: Any) -> Event:
+    return {"agent": agent, "do": do, "reply": reply, **extra}
 
 
 def hole_of_moves(commands: int) -> int:
@@ -99,14 +99,14 @@ def hole_of_moves(commands: int) -> int:
 def moves(commands: int) -> Iterator[Event]:
     """All agents walk east round row 0, side by side; at last agent 0 steps south, into
     the black hole."""
-    for agent in range(MOST_AGENTS):
+    for agent in range(MAX_AGENTS):
         yield event(agent, "enter", here(None, ""))
     for step in range(commands):
-        for agent in range(MOST_AGENTS):
+        for agent in range(MAX_AGENTS):
             falls = agent == 0 and step == commands - 1
             yield event(agent, "depart", {"ok": "gone"}, port=SOUTH if falls else EAST)
             yield event(agent, "deliver", None if falls else here(FROM_WEST, ""))
-    for agent in range(MOST_AGENTS):
+    for agent in range(MAX_AGENTS):
         yield event(agent, "leave", {"ok": "bye"})
 
 
@@ -114,29 +114,29 @@ def whiteboards(commands: int) -> Iterator[Event]:
     """All agents stay at the home base; of four commands one writes the longest text,
     one wipes it, and after each of them one looks."""
     board = ""
-    for agent in range(MOST_AGENTS):
+    for agent in range(MAX_AGENTS):
         yield event(agent, "enter", here(None, board))
     for step in range(commands):
-        for agent in range(MOST_AGENTS):
+        for agent in range(MAX_AGENTS):
             if (step + agent) % 2 == 0:
-                put = "" if board else "a" * LONGEST_TEXT
-                yield event(agent, "write", {"ok": "written"}, expect=board, put=put)
-                board = put
+                text = "" if board else "a" * LONGEST_TEXT
+                yield event(agent, "write", {"ok": "written"}, expect=board, put=text)
+                board = text
             else:
                 yield event(agent, "look", here(None, board))
-    for agent in range(MOST_AGENTS):
+    for agent in range(MAX_AGENTS):
         yield event(agent, "leave", {"ok": "bye"})
 
 
 def long_lines(commands: int) -> Iterator[Event]:
     """All agents write the longest texts: longer than a small whiteboard takes."""
-    put = "a" * LONGEST_TEXT
-    for agent in range(MOST_AGENTS):
+    text = "a" * LONGEST_TEXT
+    for agent in range(MAX_AGENTS):
         yield event(agent, "enter", here(None, ""))
     for _ in range(commands):
-        for agent in range(MOST_AGENTS):
-            yield event(agent, "write", {"no": "long"}, expect="", put=put)
-    for agent in range(MOST_AGENTS):
+        for agent in range(MAX_AGENTS):
+            yield event(agent, "write", {"no": "long"}, expect="", put=text)
+    for agent in range(MAX_AGENTS):
         yield event(agent, "leave", {"ok": "bye"})
 
 
@@ -150,7 +150,7 @@ class Kind(NamedTuple):
     hole: Callable[[int], int]
     moves: Callable[[int], int]
     lost: int
-    board: int = MOST_BOARD
+    board: int = MAX_BOARD
 
 
 KINDS = [
@@ -159,15 +159,15 @@ KINDS = [
         moves,
         SMALL_QUOTA,
         hole_of_moves,
-        lambda commands: MOST_AGENTS * commands,
+        lambda commands: MAX_AGENTS * commands,
         1,
     ),
     Kind(
         "moves",
         moves,
-        MOST_QUOTA,
+        MAX_QUOTA,
         hole_of_moves,
-        lambda commands: MOST_AGENTS * commands,
+        lambda commands: MAX_AGENTS * commands,
         1,
     ),
     Kind("whiteboards", whiteboards, LONG_TEXTS, lambda _: NODES // 2, lambda _: 0, 0),
@@ -183,7 +183,7 @@ KINDS = [
 ]
 
 
-def head(hole: int, board: int = MOST_BOARD) -> Event:
+def head(hole: int, board: int = MAX_BOARD) -> Event:
     """The head of a replay on the torus: each link from its lesser node, in order of
     that node and its port there."""
     links = [
@@ -192,8 +192,8 @@ def head(hole: int, board: int = MOST_BOARD) -> Event:
     ]
     return {
         "replay": 3,
-        "agents": MOST_AGENTS,
-        "quota": MOST_QUOTA,
+        "agents": MAX_AGENTS,
+        "quota": MAX_QUOTA,
         "board": board,
         "home": 0,
         "holes": [hole],
@@ -204,15 +204,15 @@ def head(hole: int, board: int = MOST_BOARD) -> Event:
 
 
 def write_replay(
-    out: TextIO, hole: int, events: Iterator[Event], board: int = MOST_BOARD
+    out: TextIO, hole: int, events: Iterator[Event], board: int = MAX_BOARD
 ) -> int:
     """Writes a whole replay, the close last; answers the number of its events."""
-    out.write(spelled(head(hole, board)) + "\n")
+    out.write(spell(head(hole, board)) + "\n")
     count = 0
     for each in events:
-        out.write(spelled(each) + "\n")
+        out.write(spell(each) + "\n")
         count += 1
-    out.write('{"do":"close","reply":null}\n' + spelled({"end": count + 1}) + "\n")
+    out.write('{"do":"close","reply":null}\n' + spell({"end": count + 1}) + "\n")
     return count + 1
 
 
@@ -226,7 +226,7 @@ def commands_on(name: str) -> List[List[str]]:
     ]
 
 
-def measured(
+def measure(
     program: str, name: str, folder: pathlib.Path
 ) -> List[Tuple[str, float, int]]:
     """For each command its word, median time and peak memory."""
@@ -240,19 +240,19 @@ def measured(
 def is_judged(
     program: str, kind: Kind, commands: int, name: str, folder: pathlib.Path
 ) -> bool:
-    """Whether `judge` says what the replay was made to give. Where it does not, that is
-    told."""
+    """Returns whether `judge` prints the expected verdict of the replay, and reports a
+    difference."""
     verdict = f"silent moves {kind.moves(commands)} lost {kind.lost}"
-    ran = subprocess.run(
+    result = subprocess.run(
         [program, "judge", name],
         cwd=folder,
         stdout=subprocess.PIPE,
         check=True,
         text=True,
     )
-    if ran.stdout.strip() != verdict:
+    if result.stdout.strip() != verdict:
         print(f"{kind.title}: judge should say: {verdict}")
-    return ran.stdout.strip() == verdict
+    return result.stdout.strip() == verdict
 
 
 def figure_line(word: str, seconds: float, count: int, peak: int) -> str:
@@ -261,7 +261,7 @@ def figure_line(word: str, seconds: float, count: int, peak: int) -> str:
     return f"  {word}: {seconds:.3f} s, {seconds / count * 1e6:.2f} us an event, peak {peak} KiB"
 
 
-def written(kind: Kind, commands: int, path: pathlib.Path) -> int:
+def write_agent_replay(kind: Kind, commands: int, path: pathlib.Path) -> int:
     """Writes a replay of this many commands of an agent, and says how large it is:
     gives the number of its events."""
     with open(path, "w", encoding="utf-8") as out:
@@ -280,9 +280,9 @@ def alone(program: str, kind: Kind, folder: pathlib.Path) -> bool:
     for part in (1, 10):
         commands = kind.commands // part
         name = f"replay{part}.jsonl"
-        count = written(kind, commands, folder / name)
+        count = write_agent_replay(kind, commands, folder / name)
         right = is_judged(program, kind, commands, name, folder) and right
-        figures = measured(program, name, folder)
+        figures = measure(program, name, folder)
         for word, seconds, peak in figures:
             print(figure_line(word, seconds, count, peak), flush=True)
         if part == 1:
@@ -299,9 +299,9 @@ def alone(program: str, kind: Kind, folder: pathlib.Path) -> bool:
 def print_the_same(
     programs: Sequence[str], words: Sequence[str], folder: pathlib.Path
 ) -> bool:
-    """Whether the programs print the same bytes. They go to files, since they may be
-    many."""
-    paths = [folder / f"printed{place}" for place in range(len(programs))]
+    """Returns whether the programs print equal bytes. Outputs are written to files,
+    because they may be large."""
+    paths = [folder / f"printed{index}" for index in range(len(programs))]
     for program, path in zip(programs, paths):
         with open(path, "wb") as out:
             subprocess.run([program, *words], stdout=out, cwd=folder, check=True)
@@ -324,7 +324,7 @@ def beside(
     """Times two programs on one kind, in turn; answers whether they print the same, and
     `judge` what it should."""
     name = "replay.jsonl"
-    written(kind, kind.commands, folder / name)
+    write_agent_replay(kind, kind.commands, folder / name)
     right = all(
         [is_judged(program, kind, kind.commands, name, folder) for program in programs]
     )
@@ -360,17 +360,17 @@ def given_words(words: Optional[Sequence[str]] = None) -> argparse.Namespace:
 
 
 def main() -> int:
-    given = given_words()
-    programs = [path.resolve() for path in (given.program, given.other) if path]
+    args = given_words()
+    programs = [path.resolve() for path in (args.program, args.other) if path]
     for path in programs:
         if not path.exists():
             raise SystemExit(f"there is no program {path}: tools/build builds it")
     with tempfile.TemporaryDirectory() as name:
         folder = pathlib.Path(name)
         (folder / "empty").write_text("")
-        if given.other:
+        if args.other:
             results = [
-                beside([*map(str, programs)], kind, given.rounds, folder)
+                beside([*map(str, programs)], kind, args.rounds, folder)
                 for kind in KINDS
             ]
         else:

@@ -31,7 +31,7 @@ AGENTS = {
 }
 
 
-def explored(agent: str) -> Dict[int, int]:
+def explore_moves(agent: str) -> Dict[int, int]:
     """The most moves of two agents of this program by the number of nodes, where every
     schedule was tried."""
     rows = re.findall(
@@ -40,7 +40,7 @@ def explored(agent: str) -> Dict[int, int]:
     return {int(nodes): int(moves) for nodes, moves in rows}
 
 
-def drawn() -> Any:
+def draw_figure() -> Any:
     """The picture, as a figure of matplotlib."""
     figure = new_figure()
     axes = figure.add_subplot()
@@ -58,7 +58,7 @@ def drawn() -> Any:
             label=name,
         )
     for agent, (name, mark) in AGENTS.items():
-        points = explored(agent)
+        points = explore_moves(agent)
         axes.plot(
             list(points),
             [moves / nodes for nodes, moves in points.items()],
@@ -80,7 +80,7 @@ def main(words: Optional[Sequence[str]] = None) -> int:
     )
     parser.add_argument("file", nargs="?", type=pathlib.Path, default=PICTURE)
     file = parser.parse_args(words).file
-    file.write_text(svg_of(drawn()), encoding="utf-8")
+    file.write_text(svg_of(draw_figure()), encoding="utf-8")
     print(f"{file}: written")
     return 0
 

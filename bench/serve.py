@@ -47,7 +47,7 @@ from arena_lab.support.built import TOP
 from arena_lab.support.ports import free_port
 from bench.inputs import key, peak_so_far, tournament
 from bench.servers import MAX_SESSIONS, prepare, serving
-from tests.support.counts import Wrong, require
+from tests.support.counts import FailedCheckError, require
 from tests.support.servers import Server
 
 SOURCES = TOP / "bench" / "c"
@@ -59,7 +59,7 @@ KINDS = ["looks", "moves", "writes"]
 ACTIVE = [1, 16, 256]
 ROUNDS = 3
 # a quota is 1000, and what comes before the clock starts uses some of it
-MOST_COMMANDS = 990
+MAX_COMMANDS = 990
 # how many commands are measured for each of up to four active sessions; moves are
 # bounded by turns
 TOTALS = {"one": 20_000, "many": 200_000}
@@ -72,8 +72,8 @@ PAUSES = {"looks": 1000, "writes": 20, "moves": 1}
 MATCH_SECONDS = 600
 LIMIT = 60
 # a run gives up once it could not measure this many loads
-MOST_FAILED = 3
-WANTED = {"one": 0.5, "many": 0.2}
+MAX_FAILED = 3
+EXPECTED_RATIOS = {"one": 0.5, "many": 0.2}
 
 
 class Load(NamedTuple):
@@ -106,7 +106,7 @@ class Bench(NamedTuple):
     folder: pathlib.Path
 
     @classmethod
-    def made(cls, folder: pathlib.Path) -> "Bench":
+    def build(cls, folder: pathlib.Path) -> "Bench":
         """Compiles the programs, and writes the tournament."""
         for name in ("load", "echo"):
             flags = ["-O2", "-Wall", "-Wextra", "-pthread"]
@@ -129,7 +129,7 @@ class Bench(NamedTuple):
 
     def words_of_load(self, port: int, load: Load) -> List[str]:
         threads = min(load.active, max(1, (os.cpu_count() or 1) // 2))
-        given = [
+        words = [
             self.folder / "load",
             port,
             load.kind,
@@ -138,20 +138,24 @@ class Bench(NamedTuple):
             load.commands,
             threads,
         ]
-        return [str(word) for word in given]
+        return [str(word) for word in words]
 
     def figures(self, port: int, load: Load) -> Figures:
         """Loads a server."""
-        ran = subprocess.run(
+        result = subprocess.run(
             self.words_of_load(port, load),
             input=keys(load),
             capture_output=True,
             text=True,
             timeout=LIMIT,
         )
-        require(ran.returncode == 0, ran.stderr.strip())
-        found = json.loads(ran.stdout)
-        return Figures(found["commands"] / found["seconds"], found["p50"], found["p99"])
+        require(result.returncode == 0, result.stderr.strip())
+        result_values = json.loads(result.stdout)
+        return Figures(
+            result_values["commands"] / result_values["seconds"],
+            result_values["p50"],
+            result_values["p99"],
+        )
 
     def arena(self, load: Load) -> Server:
         """A new arena."""
@@ -196,10 +200,10 @@ def load_of(kind: str, mode: str, active: int, part: int) -> Load:
         agents = -(-active // MATCHES)
         return Load(kind, mode, active, active, max(1, MOVES // agents // part))
     total = TOTALS[mode] * min(active, 4) // part
-    rounds = max(1, min(-(-total // (MOST_COMMANDS * active)), MAX_SESSIONS // active))
+    rounds = max(1, min(-(-total // (MAX_COMMANDS * active)), MAX_SESSIONS // active))
     sessions = rounds * active
     # an even number leaves each whiteboard as it was
-    commands = min(MOST_COMMANDS, max(2, total // sessions // 2 * 2))
+    commands = min(MAX_COMMANDS, max(2, total // sessions // 2 * 2))
     return Load(kind, mode, active, sessions, commands)
 
 
@@ -224,11 +228,11 @@ HEAD = (
 )
 
 
-def row(load: Load, found: Dict[str, Figures]) -> str:
-    """The line of a load; what was not timed is left out."""
-    arena = found["arena"]
-    echo = found["all"]
-    each = found.get("each")
+def row(load: Load, figures: Dict[str, Figures]) -> str:
+    """Returns the row of a load, without the servers that were not timed."""
+    arena = figures["arena"]
+    echo = figures["all"]
+    each = figures.get("each")
     line = f"{load.kind:<7}{load.mode:<5}{load.active:>8}{load.sessions * load.commands:>10}{arena.rate:>11.0f}"
     line += f"{echo.rate:>11.0f}{arena.rate / echo.rate:>7.3f}"
     if each:
@@ -239,26 +243,27 @@ def row(load: Load, found: Dict[str, Figures]) -> str:
     )
 
 
-def measured(
+def measure(
     bench: Bench, load: Load, echoes: Dict[str, int], rounds: int
 ) -> Dict[str, Figures]:
     """The medians of a load on each server."""
     modes = [mode for mode in echoes if load.mode == "many" or mode == "all"]
-    found: Dict[str, List[Figures]] = {server: [] for server in ("arena", *modes)}
+    figures: Dict[str, List[Figures]] = {server: [] for server in ("arena", *modes)}
     for _ in range(rounds):
-        found["arena"].append(bench.of_arena(load))
+        figures["arena"].append(bench.of_arena(load))
         for mode in modes:
-            found[mode].append(bench.figures(echoes[mode], load))
-    return {server: median(figures) for server, figures in found.items()}
+            figures[mode].append(bench.figures(echoes[mode], load))
+    return {server: median(figures) for server, figures in figures.items()}
 
 
-def judged(load: Load, found: Dict[str, Figures]) -> Optional[str]:
-    """Whether the rate of a load is what is wanted, if any is."""
+def verdict(load: Load, figures: Dict[str, Figures]) -> Optional[str]:
+    """Returns the line that compares the rate of a load with the required ratio; None
+    if nothing is required."""
     if load.kind != "looks":
         return None
-    ratio = found["arena"].rate / found["all"].rate
-    holds = "holds" if ratio >= WANTED[load.mode] else "does not hold"
-    return f"{load.title}: {ratio:.3f} of the echo's rate, at least {WANTED[load.mode]} wanted: {holds}"
+    ratio = figures["arena"].rate / figures["all"].rate
+    holds = "holds" if ratio >= EXPECTED_RATIOS[load.mode] else "does not hold"
+    return f"{load.title}: {ratio:.3f} of the echo's rate, at least {EXPECTED_RATIOS[load.mode]} wanted: {holds}"
 
 
 def memory(bench: Bench, count: int) -> List[str]:
@@ -280,30 +285,30 @@ def memory(bench: Bench, count: int) -> List[str]:
 def run(bench: Bench, loads: List[Load], rounds: int, count: int) -> int:
     """Runs all loads, and prints what was found; answers how much could not be
     measured."""
-    failed = 0
+    failures = 0
     verdicts = []
     print(HEAD, flush=True)
     with bench.echo("all") as together, bench.echo("each") as apart:
         for load in loads:
-            if failed == MOST_FAILED:
-                return failed
+            if failures == MAX_FAILED:
+                return failures
             try:
-                found = measured(
+                figures = measure(
                     bench, load, {"all": together.port, "each": apart.port}, rounds
                 )
-            except (Wrong, subprocess.TimeoutExpired) as fault:
+            except (FailedCheckError, subprocess.TimeoutExpired) as fault:
                 print(f"{load.title}: could not be measured: {fault}", flush=True)
-                failed += 1
+                failures += 1
                 continue
-            print(row(load, found), flush=True)
-            verdicts.append(judged(load, found))
+            print(row(load, figures), flush=True)
+            verdicts.append(verdict(load, figures))
     try:
         verdicts = memory(bench, count) + verdicts
-    except Wrong as fault:
+    except FailedCheckError as fault:
         print(f"memory could not be measured: {fault}")
-        failed += 1
+        failures += 1
     print("\n".join(verdict for verdict in verdicts if verdict))
-    return failed
+    return failures
 
 
 def main() -> int:
@@ -316,17 +321,17 @@ def main() -> int:
     )
     parser.add_argument("--part", metavar="N", type=int, default=1)
     parser.add_argument("--open", metavar="N", type=int, default=MAX_SESSIONS)
-    given = parser.parse_args()
-    if min(given.rounds, given.part, given.open) < 1 or given.open > MAX_SESSIONS:
+    args = parser.parse_args()
+    if min(args.rounds, args.part, args.open) < 1 or args.open > MAX_SESSIONS:
         parser.error(
             f"numbers begin with 1, and at most {MAX_SESSIONS} sessions are open"
         )
-    active = [int(word) for word in given.active.split(",")]
+    active = [int(word) for word in args.active.split(",")]
     if any(count < 1 or MATCHES * BOARDS % count for count in active):
         parser.error("--active takes powers of two up to 256")
     prepare(2 * MAX_SESSIONS)
     loads = [
-        load_of(kind, mode, count, given.part)
+        load_of(kind, mode, count, args.part)
         for kind in KINDS
         for mode in TOTALS
         for count in active
@@ -334,7 +339,7 @@ def main() -> int:
     with tempfile.TemporaryDirectory() as name:
         return (
             1
-            if run(Bench.made(pathlib.Path(name)), loads, given.rounds, given.open)
+            if run(Bench.build(pathlib.Path(name)), loads, args.rounds, args.open)
             else 0
         )
 

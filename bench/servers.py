@@ -15,7 +15,7 @@ def serving(
     folder: pathlib.Path, sessions: int, turns: int, pause: int, *options: object
 ) -> Server:
     """The arena serves the tournament of a folder, cup.toml."""
-    given = [
+    options_given = [
         "serve",
         folder / "cup.toml",
         "--sessions",
@@ -27,7 +27,7 @@ def serving(
         "--replay",
         folder / "match",
     ]
-    return Server([*arena(), *given, *options], errors=folder / "errors")
+    return Server([*arena(), *options_given, *options], errors=folder / "errors")
 
 
 def prepare(files: int) -> None:

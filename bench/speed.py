@@ -68,20 +68,20 @@ def states() -> int:
         holes=[SMALL // 2],
         board=64,
     )
-    with bar(None, "state") as shown:
+    with bar(None, "state") as progress:
         return sum(
-            found.explorer.states()
-            for found in explore.tried(game, explore.MOST_STATES, shown)
+            match.explorer.states()
+            for match in explore.explore_matches(game, explore.MAX_STATES, progress)
         )
 
 
 def rate(count: Callable[[int], int], rounds: int) -> int:
-    """How many a second, the median of the rounds."""
-    found: List[float] = []
+    """Returns how many a second, the median of the rounds."""
+    rates: List[float] = []
     for seed in range(rounds):
-        started = time.perf_counter()
-        found.append(count(seed) / (time.perf_counter() - started))
-    return round(statistics.median(found))
+        start = time.perf_counter()
+        rates.append(count(seed) / (time.perf_counter() - start))
+    return round(statistics.median(rates))
 
 
 def main() -> int:
@@ -99,15 +99,15 @@ def main() -> int:
     )
     add_program(parser)
     words = parser.parse_args()
-    named = program_at(words.program)
+    program_path = program_at(words.program)
     engines: Dict[str, Optional[str]] = {
         "the Python model": None,
-        name_of(named): named,
+        name_of(program_path): program_path,
     }
     for engine, program in engines.items():
         for team, agent in TEAMS.items():
-            found = rate(lambda seed: steps(agent, program, seed), words.rounds)
-            print(f"{engine}, {team}: {found} steps a second", flush=True)
+            rates = rate(lambda seed: steps(agent, program, seed), words.rounds)
+            print(f"{engine}, {team}: {rates} steps a second", flush=True)
     print(f"explore: {rate(lambda seed: states(), words.rounds)} states a second")
     return 0
 

@@ -23,13 +23,13 @@ import os
 import time
 from typing import Iterator, List, NamedTuple, Optional
 
-from arena_lab.support.faults import Fault
+from arena_lab.support.faults import ArenaError
 from bench import promela
-from bench.explore import STATES, Taken, measured, measured_by_module
+from bench.explore import STATES, MatchCost, measure, measured_by_module
 
 
 class Row(NamedTuple):
-    """What one search of all matches on a ring took; what is not known is None."""
+    """The cost of a search of all matches on a ring; unknown values are None."""
 
     name: str
     states: int
@@ -43,21 +43,30 @@ def by_spin(nodes: int, processors: int) -> Iterator[Row]:
     """What SPIN takes on a ring, for each model."""
     for name, model in (
         ("SPIN, natural", promela.NATURAL),
-        ("SPIN, merged", promela.MERGED),
+        ("SPIN, merged", promela.MERGED_MODEL),
     ):
-        one = promela.search(model, nodes)
-        more = promela.search(model, nodes, processors=processors)
-        if one.errors or more.errors:
+        single = promela.search(model, nodes)
+        parallel = promela.search(model, nodes, processors=processors)
+        if single.errors or parallel.errors:
             raise SystemExit(
                 f"{name} finds a schedule of the ring of {nodes} that fails"
             )
-        yield Row(name, one.states, one.moves, one.whole, one.processor, one.memory)
-        yield Row(f"{name}, on {processors}", more.states, more.moves, more.whole)
+        yield Row(
+            name,
+            single.states,
+            single.moves,
+            single.whole,
+            single.processor,
+            single.memory,
+        )
+        yield Row(
+            f"{name}, on {processors}", parallel.states, parallel.moves, parallel.whole
+        )
 
 
 def of_matches(
     name: str,
-    matches: List[Taken],
+    matches: List[MatchCost],
     whole: Optional[float],
     processor: float,
     has_memory: bool = True,
@@ -65,49 +74,49 @@ def of_matches(
     """The row of these matches."""
     return Row(
         name,
-        sum(it.states for it in matches),
-        max(it.moves for it in matches),
+        sum(cost.states for cost in matches),
+        max(cost.moves for cost in matches),
         whole,
         processor,
-        max(it.memory for it in matches) if has_memory else None,
+        max(cost.memory for cost in matches) if has_memory else None,
     )
 
 
 def by_explore(nodes: int, processors: int) -> Iterator[Row]:
     """What `explore` takes on a ring, by its hosts."""
     ring = f"ring:{nodes}"
-    matches = measured(ring, "ring_step", STATES)
-    whole = sum(it.whole for it in matches)
-    processor = sum(it.processor for it in matches)
+    matches = measure(ring, "ring_step", STATES)
+    whole = sum(cost.whole for cost in matches)
+    processor = sum(cost.processor for cost in matches)
     yield of_matches("./arena-lab explore", matches, whole, processor, False)
-    alone = sum(it.program for it in matches)
+    alone = sum(cost.program for cost in matches)
     yield of_matches("arena explore alone", matches, None, alone)
     for name, at_a_time in (
         ("arena explore --module", 1),
         (f"arena explore --module, {processors} at a time", processors),
     ):
-        begun = time.monotonic()
+        start = time.monotonic()
         matches = measured_by_module(ring, "wasm/ring.wasm", STATES, at_a_time)
-        whole = time.monotonic() - begun
-        processor = sum(it.program for it in matches)
+        whole = time.monotonic() - start
+        processor = sum(cost.program for cost in matches)
         yield of_matches(name, matches, whole, processor, at_a_time == 1)
 
 
 def rows_of(nodes: int, processors: int) -> List[Row]:
     """What each search takes on a ring."""
-    found = [*by_spin(nodes, processors), *by_explore(nodes, processors)]
-    if len({row.moves for row in found}) > 1:
-        raise SystemExit(f"they differ on the ring of {nodes}: {found}")
-    return found
+    results = [*by_spin(nodes, processors), *by_explore(nodes, processors)]
+    if len({row.moves for row in results}) > 1:
+        raise SystemExit(f"they differ on the ring of {nodes}: {results}")
+    return results
 
 
-def told(number: Optional[float], form: str) -> str:
+def number_text(number: Optional[float], form: str) -> str:
     return "" if number is None else format(number, form)
 
 
 def main() -> None:
-    given = argparse.ArgumentParser(description=(__doc__ or "").partition("\n")[0])
-    given.add_argument(
+    parser = argparse.ArgumentParser(description=(__doc__ or "").partition("\n")[0])
+    parser.add_argument(
         "nodes",
         type=int,
         nargs="*",
@@ -115,14 +124,14 @@ def main() -> None:
         metavar="N",
         help="numbers of nodes of rings (16 24 32)",
     )
-    given.add_argument(
+    parser.add_argument(
         "--processors",
         type=int,
         default=os.cpu_count(),
         metavar="N",
         help="on how many processors all are searched once more (%(default)s)",
     )
-    words = given.parse_args()
+    words = parser.parse_args()
     if not promela.HAS_SPIN:
         raise SystemExit(
             "spin is not installed, or there is no C compiler: apt install spin gcc"
@@ -134,8 +143,8 @@ def main() -> None:
     for nodes in words.nodes:
         for row in rows_of(nodes, words.processors):
             print(
-                f"| {nodes} | {row.name} | {row.states:,} | {row.moves} | {told(row.whole, '.2f')} "
-                f"| {told(row.processor, '.2f')} | {told(row.memory, '.0f')} |",
+                f"| {nodes} | {row.name} | {row.states:,} | {row.moves} | {number_text(row.whole, '.2f')} "
+                f"| {number_text(row.processor, '.2f')} | {number_text(row.memory, '.0f')} |",
                 flush=True,
             )
 
@@ -143,5 +152,5 @@ def main() -> None:
 if __name__ == "__main__":
     try:
         main()
-    except Fault as fault:
+    except ArenaError as fault:
         raise SystemExit(str(fault)) from None

@@ -32,14 +32,14 @@ from arena_lab.play.agent_files import client_module
 from arena_lab.rules import networks
 from arena_lab.rules.delays import Delays
 from arena_lab.rules.fixtures import Fixture
-from tests.support.counts import Wrong
+from tests.support.counts import FailedCheckError
 from tests.support.tournaments import match, write_cup
 
 client = client_module()
 search = importlib.import_module("ring").search
 
 TIMEOUTS = (1, 8, 64, 512)
-MOST_MATCHES = 64
+MAX_MATCHES = 64
 # in a team's name, of a match that is a trap
 TRAP = "t"
 # accuses as soon as its time is up, and visits no other node before
@@ -54,7 +54,7 @@ AHEAD = 0
 
 
 class Rules(NamedTuple):
-    """What is the same in all matches."""
+    """Settings shared by all matches."""
 
     nodes: int
     turns: int
@@ -66,11 +66,11 @@ class Rules(NamedTuple):
     def kinds(self) -> List[str]:
         """The teams of a contest: `honest`, `timeout-8` and so on, and again in traps
         as `honest-t`."""
-        found = ["honest", *(f"timeout-{turns}" for turns in self.timeouts)]
+        names = ["honest", *(f"timeout-{turns}" for turns in self.timeouts)]
         if not self.has_traps:
-            return found
-        found += [f"{HASTY}-{turns}" for turns in self.timeouts]
-        return found + [f"{kind}-{TRAP}" for kind in found]
+            return names
+        names += [f"{HASTY}-{turns}" for turns in self.timeouts]
+        return names + [f"{kind}-{TRAP}" for kind in names]
 
 
 def teams(rules: Rules, contests: int) -> List[str]:
@@ -132,7 +132,7 @@ def is_back(agent: client.Agent, seconds: float, every: float) -> bool:
 
 
 def plays(port: int, rules: Rules, name: str, number: int) -> Callable[[], None]:
-    """What an agent of a team does."""
+    """Returns the function that plays one agent of a team."""
     key = f"{name}-{number}"
     pause = rules.pause / 1000
 
@@ -166,7 +166,7 @@ def table_of(text: str) -> Dict[str, str]:
 
 
 def contest(rules: Rules, contests: int) -> Dict[str, str]:
-    """The outcomes of some contests that are played in one."""
+    """Plays several contests as one, and returns the outcomes of its teams."""
     names = teams(rules, contests)
     with tempfile.TemporaryDirectory() as folder_name:
         folder = pathlib.Path(folder_name)
@@ -226,31 +226,31 @@ def main(arguments: List[str]) -> int:
         default="oblivious",
         help="(default: oblivious)",
     )
-    given = parser.parse_args(arguments)
+    args = parser.parse_args(arguments)
     prepare(MAX_SESSIONS)
     rules = Rules(
-        given.nodes,
-        given.turns,
-        given.pause,
-        given.schedule,
-        given.timeouts,
-        given.traps,
+        args.nodes,
+        args.turns,
+        args.pause,
+        args.schedule,
+        args.timeouts,
+        args.traps,
     )
-    found: Dict[str, Counter[str]] = collections.defaultdict(collections.Counter)
-    left = given.contests
-    while left:
-        some = min(left, MOST_MATCHES // len(rules.kinds()))
+    outcomes: Dict[str, Counter[str]] = collections.defaultdict(collections.Counter)
+    contests_left = args.contests
+    while contests_left:
+        some = min(contests_left, MAX_MATCHES // len(rules.kinds()))
         try:
             for name, outcome in contest(rules, some).items():
-                found[name.rpartition("-")[0]][outcome] += 1
-        except (Wrong, OSError) as fault:
+                outcomes[name.rpartition("-")[0]][outcome] += 1
+        except (FailedCheckError, OSError) as fault:
             print(fault, file=sys.stderr)
             return 1
-        left -= some
+        contests_left -= some
     print(f"| team | {' | '.join(OUTCOMES)} |\n| --- |{' --- |' * len(OUTCOMES)}")
     for name in rules.kinds():
         print(
-            f"| {name} | {' | '.join(str(found[name][outcome]) for outcome in OUTCOMES)} |"
+            f"| {name} | {' | '.join(str(outcomes[name][outcome]) for outcome in OUTCOMES)} |"
         )
     return 0
 

@@ -24,7 +24,7 @@ from arena_lab.rules.delays import Delays
 from arena_lab.rules.model import Place
 from arena_lab.rules.networks import ring
 from bench.servers import serving
-from tests.support.counts import Wrong, require
+from tests.support.counts import FailedCheckError, require
 from tests.support.tournaments import match, write_cup
 
 NODES = 8
@@ -46,7 +46,7 @@ class Agent(NamedTuple):
     lines: TextIO
 
     def says(self, **command: object) -> dict:
-        """What it is answered to a command."""
+        """Sends a command and returns the reply."""
         self.connection.sendall(json.dumps(command).encode() + b"\n")
         return self.hears()
 
@@ -61,10 +61,10 @@ class Agent(NamedTuple):
             self.says(do="depart", port=port) != {"ok": "gone"}
             or self.hears().get("ok") != "here"
         ):
-            raise Wrong("an agent could not move")
+            raise FailedCheckError("an agent could not move")
 
 
-def entered(port: int, key: str) -> Agent:
+def enter_agent(port: int, key: str) -> Agent:
     connection = socket.create_connection(("127.0.0.1", port), timeout=LIMIT)
     connection.setsockopt(socket.IPPROTO_TCP, socket.TCP_NODELAY, 1)
     agent = Agent(connection, connection.makefile("r"))
@@ -75,31 +75,31 @@ def entered(port: int, key: str) -> Agent:
     return agent
 
 
-def waits(place: str, schedule: str, moves: int, pause: int) -> List[float]:
-    """How many turns each move of the second agent took."""
+def waits(place_name: str, schedule: str, moves: int, pause: int) -> List[float]:
+    """Returns how many turns each move of the second agent took."""
     with tempfile.TemporaryDirectory() as name:
         folder = pathlib.Path(name)
-        hole, held = PLACES[place]
+        hole, held_links = PLACES[place_name]
         write_cup(
             folder,
-            [match("red", ring(NODES), [hole], board=8, held=held)],
+            [match("red", ring(NODES), [hole], board=8, held=held_links)],
             SCHEDULES[schedule],
             "07" * 32,
         )
         with serving(folder, 8, TURNS, pause) as server:
-            first = entered(server.port, "red-0")
-            second = entered(server.port, "red-1")
-            if place != "stands":
+            first = enter_agent(server.port, "red-0")
+            second = enter_agent(server.port, "red-1")
+            if place_name != "stands":
                 first.says(do="depart", port=0)
                 time.sleep(50 * pause / 1000)
-            taken = []
+            turn_counts = []
             for move in range(moves):
                 began = time.monotonic()
                 second.goes(1 if move % 2 == 0 else 0)
-                taken.append((time.monotonic() - began) * 1000 / pause)
+                turn_counts.append((time.monotonic() - began) * 1000 / pause)
             first.connection.close()
             second.connection.close()
-            return taken
+            return turn_counts
 
 
 def main(arguments: List[str]) -> int:
@@ -115,21 +115,21 @@ def main(arguments: List[str]) -> int:
         default=5,
         help="milliseconds before each turn (default: 5)",
     )
-    given = parser.parse_args(arguments)
+    args = parser.parse_args(arguments)
     print(
         "| schedule | the other agent | turns of a move | error | longest |\n| --- | --- | --- | --- | --- |"
     )
     for schedule in SCHEDULES:
-        for place in PLACES:
+        for place_name in PLACES:
             try:
-                taken = waits(place, schedule, given.moves, given.pause)
-            except (Wrong, OSError) as fault:
-                print(f"{schedule}, {place}: {fault}", file=sys.stderr)
+                turn_counts = waits(place_name, schedule, args.moves, args.pause)
+            except (FailedCheckError, OSError) as fault:
+                print(f"{schedule}, {place_name}: {fault}", file=sys.stderr)
                 return 1
-            error = statistics.stdev(taken) / len(taken) ** 0.5
-            mean = statistics.mean(taken)
+            error = statistics.stdev(turn_counts) / len(turn_counts) ** 0.5
+            mean = statistics.mean(turn_counts)
             print(
-                f"| {schedule} | {place} | {mean:.2f} | {error:.2f} | {max(taken):.1f} |",
+                f"| {schedule} | {place_name} | {mean:.2f} | {error:.2f} | {max(turn_counts):.1f} |",
                 flush=True,
             )
     return 0

@@ -9,14 +9,14 @@ import random
 def writers_wait(seed):
     """Whoever wants to write waits as long as anything else can happen: so whiteboards
     change between a reading and the writing that rests on it."""
-    chance = random.Random(seed)
+    rng = random.Random(seed)
 
     def choose(choices, state):
-        others = [
+        other_choices = [
             choice
             for choice in choices
             if (state.said(choice.agent) or {}).get("do") != "write"
         ]
-        return chance.choice(others or choices)
+        return rng.choice(other_choices or choices)
 
     return choose

@@ -81,15 +81,20 @@ TEAMS: Dict[str, List[str]] = {
 
 
 def arena() -> List[str]:
-    """The command that ARENA names, or ./arena of this folder or beside the lab, which
-    a wheel does not have; or the server in Python, if there is no program."""
+    """Returns the server's command: the variable ARENA, else ./arena beside the
+    examples or the lab (a wheel has none), else the server in Python."""
     if "ARENA" in os.environ:
         return shlex.split(os.environ["ARENA"])
     launcher = next(
-        (it / "arena" for it in (TOP, built.TOP) if (it / "arena").exists()), None
+        (
+            folder / "arena"
+            for folder in (TOP, built.TOP)
+            if (folder / "arena").exists()
+        ),
+        None,
     )
     if launcher is None:
-        return [str(built.ARENA.packaged)]
+        return [str(built.ARENA.wheel_path)]
     return [str(launcher if built.can_play() else launcher.with_name(LAB))]
 
 
@@ -139,11 +144,11 @@ def start_server(
         "--replay",
         replays,
     ]
-    started = subprocess.Popen(command, cwd=TOP, stdout=subprocess.PIPE, text=True)
-    line = started.stdout.readline()
+    process = subprocess.Popen(command, cwd=TOP, stdout=subprocess.PIPE, text=True)
+    line = process.stdout.readline()
     if line != f"listening {port}\n":
         raise SystemExit(f"contest: the server did not start: {line}")
-    return started
+    return process
 
 
 def play(
@@ -170,7 +175,7 @@ def play(
             time.sleep(LIFE)
             for agent in agents[VICTIM]:
                 agent.kill()
-        printed, _ = server.communicate(timeout=PATIENCE * max(1, pause // SLOW_PAUSE))
+        output, _ = server.communicate(timeout=PATIENCE * max(1, pause // SLOW_PAUSE))
     except subprocess.TimeoutExpired:
         raise SystemExit(
             f"contest: the server did not end within {PATIENCE} seconds"
@@ -182,7 +187,7 @@ def play(
             child.wait()
     if server.returncode != 0:
         raise SystemExit(f"contest: the server ended with status {server.returncode}")
-    return printed
+    return output
 
 
 def outcomes(table: str) -> Dict[str, str]:
@@ -192,8 +197,8 @@ def outcomes(table: str) -> Dict[str, str]:
 
 
 def write_pages(replays: str, folder: pathlib.Path) -> None:
-    """Writes a page of each match and one that lists them, by the program that served
-    them, or by the model."""
+    """Writes the pages of all matches and their index, with verdicts by the serving
+    program or by the model."""
     server = arena()
     is_model = pathlib.Path(server[0]).name == LAB or len(server) > 1
     program = (
@@ -218,7 +223,7 @@ def write_pages(replays: str, folder: pathlib.Path) -> None:
 
 
 @contextlib.contextmanager
-def watched(replays: str, pause: int) -> Iterator[None]:
+def serve_pages(replays: str, pause: int) -> Iterator[None]:
     """Shows the contest in a browser while it goes on, and until Enter is pressed."""
     port = free_port()
     words = [
@@ -276,9 +281,9 @@ def main() -> int:
     )
     words = parser.parse_args()
     with tempfile.TemporaryDirectory() as name:
-        kept = words.keep or words.pages or pathlib.Path(name)
-        kept.mkdir(parents=True, exist_ok=True)
-        replays = str(kept.resolve() / "match")
+        folder = words.keep or words.pages or pathlib.Path(name)
+        folder.mkdir(parents=True, exist_ok=True)
+        replays = str(folder.resolve() / "match")
         pause = WATCHED_PAUSE if words.watch else SLOW_PAUSE if words.kill else PAUSE
         server = arena()
         if "ARENA" not in os.environ and pathlib.Path(server[0]).name == LAB:
@@ -288,21 +293,23 @@ def main() -> int:
                 file=sys.stderr,
                 flush=True,
             )
-        with watched(replays, pause) if words.watch else contextlib.nullcontext():
+        with serve_pages(replays, pause) if words.watch else contextlib.nullcontext():
             table = play(server, pathlib.Path(name), replays, pause, words.kill)
             print(table, end="", flush=True)
-        found = outcomes(table)
-        judged = [team for team in TEAMS if not (words.kill and team == VICTIM)]
-        failed = [team for team in judged if found.get(team) != "solved"]
-        for team in judged:
+        outcomes_by_team = outcomes(table)
+        teams = [team for team in TEAMS if not (words.kill and team == VICTIM)]
+        failing_teams = [
+            team for team in teams if outcomes_by_team.get(team) != "solved"
+        ]
+        for team in teams:
             print(
                 f"{team} solved its network"
-                if team not in failed
+                if team not in failing_teams
                 else f"{team} did not solve its network"
             )
         if words.pages:
             write_pages(replays, words.pages)
-    return 1 if failed else 0
+    return 1 if failing_teams else 0
 
 
 if __name__ == "__main__":

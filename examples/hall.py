@@ -69,7 +69,7 @@ EDGE = "----a-program"
 
 
 class Demo:
-    """A hall, and the teams that play in it."""
+    """A hall with teams that play in it."""
 
     def __init__(self, folder: pathlib.Path, port: int) -> None:
         self.folder = folder / "course.hall"
@@ -119,12 +119,12 @@ class Demo:
 
     def standings(self) -> str:
         """The standings, as lines."""
-        asked = urllib.request.Request(
+        request = urllib.request.Request(
             f"{self.address}/api/standings",
             headers={"Authorization": f"Bearer {self.tokens()['amber']}"},
         )
-        with urllib.request.urlopen(asked) as told:
-            rows = json.load(told)["teams"]
+        with urllib.request.urlopen(request) as response:
+            rows = json.load(response)["teams"]
         return "".join(
             f"{'absent' if row['absent'] else row['place']:>6} {row['name']:<16} "
             f"{row['solved']} of {row['matches']}\n"
@@ -133,20 +133,20 @@ class Demo:
 
     def hand_in(self, team: str, program: str) -> None:
         """Hands in a program with the module that it imports."""
-        made = io.BytesIO()
-        with zipfile.ZipFile(made, "w") as archive:
+        buffer = io.BytesIO()
+        with zipfile.ZipFile(buffer, "w") as archive:
             archive.write(AGENTS / program, "agent.py")
             archive.write(AGENTS / "client.py", "client.py")
         head = f'--{EDGE}\r\nContent-Disposition: form-data; name="file"; filename="agent.zip"\r\n\r\n'
-        asked = urllib.request.Request(
+        request = urllib.request.Request(
             f"{self.address}/api/hand-ins",
-            head.encode() + made.getvalue() + f"\r\n--{EDGE}--\r\n".encode(),
+            head.encode() + buffer.getvalue() + f"\r\n--{EDGE}--\r\n".encode(),
             {
                 "Authorization": f"Bearer {self.tokens()[team]}",
                 "Content-Type": f"multipart/form-data; boundary={EDGE}",
             },
         )
-        urllib.request.urlopen(asked).close()
+        urllib.request.urlopen(request).close()
 
     def end(self) -> None:
         self._is_over.set()
@@ -163,7 +163,7 @@ class Demo:
             return False
 
     def _play(self, team: str, token: str) -> None:
-        """A team that hands in its program, and practises again and again."""
+        """Plays a team that hands in its program and then practises repeatedly."""
         if team in PROGRAMS:
             self.hand_in(team, PROGRAMS[team])
         while not self._is_over.is_set():
@@ -177,16 +177,16 @@ class Demo:
                     str(AGENTS / turn.agent),
                     *turn.words,
                 ]
-                ran = subprocess.Popen(
+                process = subprocess.Popen(
                     [sys.executable, str(PRACTISE), *words],
                     stdout=subprocess.DEVNULL,
                     stderr=subprocess.DEVNULL,
                     env={**os.environ, "ARENA_TOKEN": token},
                 )
-                while ran.poll() is None and not self._is_over.wait(0.2):
+                while process.poll() is None and not self._is_over.wait(0.2):
                     pass
-                ran.terminate()
-                ran.wait()
+                process.terminate()
+                process.wait()
             self._is_over.wait(5)
 
 

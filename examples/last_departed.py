@@ -28,13 +28,13 @@ on_links: List[
 def play(line: str) -> None:
     """Plays a line of the script and prints what it sends."""
     print(line, file=ARENA.stdin, flush=True)
-    for sent in iter(ARENA.stdout.readline, "\n"):
-        connection, text = sent.split(" ", 1)
+    for line_sent in iter(ARENA.stdout.readline, "\n"):
+        connection, text = line_sent.split(" ", 1)
         if json.loads(text).get("ok") == "gone":
             on_links.append(connection)
         elif connection in on_links:  # it arrived
             on_links.remove(connection)
-        print(sent, end="")
+        print(line_sent, end="")
 
 
 def deliver_last() -> None:

@@ -31,11 +31,11 @@ from typing import Callable, List, NamedTuple, Optional, Tuple
 
 import numpy as np
 
-from experiments.turns import Run, played
-from arena_lab.play.agent_files import AGENTS, loaded
+from experiments.turns import Run, play_search
+from arena_lab.play.agent_files import AGENTS, load_module
 from arena_lab.search.ring_bounds import most_moves
 
-ring3 = loaded(AGENTS / "ring3.py")
+ring3 = load_module(AGENTS / "ring3.py")
 
 LEFT = 1
 RIGHT = 0
@@ -43,8 +43,8 @@ BACK = 2
 
 
 class Division(NamedTuple):
-    """What is left to each agent and in the middle, and how far the box is from the
-    left agent."""
+    """The nodes assigned to each agent and to the middle, and the distance of the box
+    from the left agent."""
 
     s: int
     m: int
@@ -76,27 +76,27 @@ def cases(left: int, way: int, division: Division) -> List[Case]:
     """All answers of the adversary, without how far the one that comes last has
     come."""
     s, m, t, p = division
-    found = []
+    answers = []
     for first, mine, last, theirs, near, far in (
         (RIGHT, t, LEFT, s, way - p, p),
         (LEFT, s, RIGHT, t, p, way - p),
     ):
         if m == 0:
-            found.append(
+            answers.append(
                 Case(0 if theirs == 1 else way + mine - BACK, [(first, mine)], theirs)
             )
             continue
-        taken = 2 * (near + mine) - BACK
-        found.append(
+        moves = 2 * (near + mine) - BACK
+        answers.append(
             Case(
-                taken + (0 if theirs == 1 else way + mine + m - BACK),
+                moves + (0 if theirs == 1 else way + mine + m - BACK),
                 [(first, mine), (first, m)],
                 theirs,
             )
         )
         end = 2 * (far + theirs) - BACK if m == 1 else way + s + t - BACK
-        found.append(Case(taken + end, [(first, mine), (last, theirs)], m))
-    return found
+        answers.append(Case(moves + end, [(first, mine), (last, theirs)], m))
+    return answers
 
 
 # the most that ways cost, and the division
@@ -105,15 +105,15 @@ Costed = Tuple[int, Division]
 
 def least(cost: "np.ndarray", *division: "np.ndarray") -> Costed:
     """The least of these costs, with its division."""
-    it = int(cost.argmin())
-    return int(cost.flat[it]), Division(
-        *(int(np.broadcast_to(x, cost.shape).flat[it]) for x in division)
+    index = int(cost.argmin())
+    return int(cost.flat[index]), Division(
+        *(int(np.broadcast_to(x, cost.shape).flat[index]) for x in division)
     )
 
 
 class Table:
-    """V and M of a ring, for a way to divide, or for the best of all if none is
-    given."""
+    """The tables V and M of a ring for one rule of division, or for the best
+    division."""
 
     def __init__(self, nodes: int, divide: Optional[Divide] = None) -> None:
         self.nodes = nodes
@@ -124,7 +124,7 @@ class Table:
             way = nodes - 1 - left
             self.division[left] = divide(left, way) if divide else self._best(left, way)
             self.value[left] = way + max(
-                it.moves + self.share[it.rest] for it in self.cases(left)
+                case.moves + self.share[case.rest] for case in self.cases(left)
             )
             self.share[left] = max(i + self.value[left - i] for i in range(left))
 
@@ -151,17 +151,17 @@ class Table:
         return least(cost, s, none, t, none)
 
     def _best_thirds(self, left: int, way: int) -> List[Costed]:
-        """The best with a middle of several nodes, and with a middle of one node, if
-        there are such."""
+        """Returns the best divisions with a middle of several nodes and with a middle
+        of one node, where possible."""
         share = self.share
         s, t = (
-            it.ravel() for it in np.meshgrid(np.arange(1, left), np.arange(1, left))
+            grid.ravel() for grid in np.meshgrid(np.arange(1, left), np.arange(1, left))
         )
         fits = (s <= t) & (s + t < left)
         s = s[fits]
         t = t[fits]
         m = left - s - t
-        found: List[Costed] = []
+        candidates: List[Costed] = []
         if len(s):
             right = np.where(s == 1, 0, way + t + m - BACK + share[s])
             left_ = np.where(t == 1, 0, way + s + m - BACK + share[t])
@@ -172,22 +172,22 @@ class Table:
             even = np.floor_divide(2 * way + 2 * t - 2 * s + x - y, 4)
             for p in (np.clip(even, 0, way), np.clip(even + 1, 0, way)):
                 cost = np.maximum(2 * (way - p + t) - BACK + x, 2 * (p + s) - BACK + y)
-                found.append(
+                candidates.append(
                     least(np.where(m == 1, np.iinfo(np.int64).max, cost), s, m, t, p)
                 )
-            one = m == 1
-            s = s[one]
-            t = t[one]
-            right = right[one]
-            left_ = left_[one]
+            is_single = m == 1
+            s = s[is_single]
+            t = t[is_single]
+            right = right[is_single]
+            left_ = left_[is_single]
             p = np.arange(way + 1)[:, None]
             q = way - p
             cost = np.maximum(
                 2 * (q + t) - BACK + np.maximum(right, 2 * (p + s) - BACK),
                 2 * (p + s) - BACK + np.maximum(left_, 2 * (q + t) - BACK),
             )
-            found.append(least(cost, s, np.ones_like(s), t, p))
-        return found
+            candidates.append(least(cost, s, np.ones_like(s), t, p))
+        return candidates
 
     def runs(self) -> Tuple[List[Run], int]:
         """The runs of a worst case, as (agent, nodes), and how many nodes the right
@@ -195,7 +195,10 @@ class Table:
         left = self.nodes - 1
         runs = []
         while left > 1:
-            case = max(self.cases(left), key=lambda it: it.moves + self.share[it.rest])
+            case = max(
+                self.cases(left),
+                key=lambda answer: answer.moves + self.share[answer.rest],
+            )
             i = max(range(case.rest), key=lambda i: i + self.value[case.rest - i])
             first = case.runs[:-1]
             last = case.runs[-1]
@@ -217,9 +220,9 @@ def table(sizes: List[int]) -> None:
         best = Table(nodes).moves()
         thirds = Table(nodes, of_ring3).moves()
         halves = most_moves(nodes)
-        most = bound(nodes)
+        limit = bound(nodes)
         print(
-            f"{nodes} | {best} | {thirds} | {halves} | {most:.1f} | {best / most:.3f} | {thirds / most:.3f} | "
+            f"{nodes} | {best} | {thirds} | {halves} | {limit:.1f} | {best / limit:.3f} | {thirds / limit:.3f} | "
             f"{thirds / halves:.3f}",
             flush=True,
         )
@@ -228,26 +231,26 @@ def table(sizes: List[int]) -> None:
 def attain(sizes: List[int]) -> None:
     """Plays the worst case with the agent's own code."""
     for nodes in sizes:
-        found = Table(nodes, of_ring3)
-        runs, right = found.runs()
-        ended = played(ring3.search, nodes, runs)
+        table = Table(nodes, of_ring3)
+        runs, right = table.runs()
+        search_end = play_search(ring3.search, nodes, runs)
         print(
-            f"ring:{nodes} counted {found.moves()}, played {ended.moves}, black hole {ended.hole}, commands "
-            f"{ended.commands}, runs {runs}"
+            f"ring:{nodes} counted {table.moves()}, played {search_end.moves}, black hole {search_end.hole}, commands "
+            f"{search_end.commands}, runs {runs}"
         )
-        if (ended.moves, ended.hole) != (found.moves(), right + 1):
+        if (search_end.moves, search_end.hole) != (table.moves(), right + 1):
             sys.exit(f"ring:{nodes}: the count is not attained")
 
 
-def main(given: List[str]) -> None:
+def main(arguments: List[str]) -> None:
     commands = {"table": table, "attain": attain}
     if (
-        len(given) < 2
-        or given[0] not in commands
-        or not all(it.isdigit() and int(it) > 2 for it in given[1:])
+        len(arguments) < 2
+        or arguments[0] not in commands
+        or not all(word.isdigit() and int(word) > 2 for word in arguments[1:])
     ):
         sys.exit((__doc__ or "").strip())
-    commands[given[0]]([int(it) for it in given[1:]])
+    commands[arguments[0]]([int(word) for word in arguments[1:]])
 
 
 if __name__ == "__main__":

@@ -22,8 +22,8 @@ MOST = ": most"
 
 
 class Series(NamedTuple):
-    """The networks of some tables, the bound that they have there, and the mark of
-    their points."""
+    """A series of the plot: networks of some tables, their bound, and the marker of
+    points."""
 
     name: str
     tables: Sequence[str]
@@ -44,7 +44,7 @@ ALL_SERIES = (
 
 
 def cells_in(document: str, name: str) -> List[List[str]]:
-    """The rows of a table of the document, and its head before them."""
+    """Returns the head and the rows of a table in the document."""
     text = document.partition(f"<!-- table {name} -->")[2].partition("<!-- end")[0]
     head, _, *rows = [
         line.strip("| ").split(" | ")
@@ -64,7 +64,7 @@ def points(document: str, series: Series) -> List[Tuple[int, int]]:
     """The nodes of each network, and the most moves in any column of its row."""
     return [
         (
-            networks.named(row["network"]).nodes,
+            networks.network_named(row["network"]).nodes,
             max(
                 int(cell)
                 for head, cell in row.items()
@@ -76,15 +76,19 @@ def points(document: str, series: Series) -> List[Tuple[int, int]]:
     ]
 
 
-def drawn(document: str) -> Any:
+def draw_figure(document: str) -> Any:
     """The picture, as a figure of matplotlib."""
     figure = new_figure()
     axes = figure.add_subplot()
     for series, colour in zip(ALL_SERIES, COLOURS):
-        found = points(document, series)
-        sizes = sorted({nodes for nodes, _ in found})
+        series_points = points(document, series)
+        sizes = sorted({nodes for nodes, _ in series_points})
         axes.plot(
-            *zip(*found), series.mark, color=colour, markersize=4, label=series.name
+            *zip(*series_points),
+            series.mark,
+            color=colour,
+            markersize=4,
+            label=series.name,
         )
         axes.plot(
             sizes,
@@ -106,7 +110,7 @@ def drawn(document: str) -> Any:
 def write(file: pathlib.Path = PICTURE) -> None:
     """Draws the document's tables."""
     file.write_text(
-        svg_of(drawn(DOCUMENT.read_text(encoding="utf-8"))), encoding="utf-8"
+        svg_of(draw_figure(DOCUMENT.read_text(encoding="utf-8"))), encoding="utf-8"
     )
     print(f"{file}: written", flush=True)
 

@@ -32,7 +32,7 @@ import time
 from typing import Sequence
 
 from experiments import growth
-from experiments.table_rows import TABLES, Asked, Cells, Made
+from experiments.table_rows import TABLES, TableRequest, Cells, MadeTable
 from arena_lab.commands.words import add_engine, add_workers, program_of
 from arena_lab.rules.engines import name_of
 from arena_lab.support.built import TOP
@@ -43,51 +43,53 @@ WIDTH = 120
 
 
 def markdown(rows: Sequence[Cells]) -> str:
-    head, *others = rows
+    head, *body = rows
     return "\n".join(
-        f"| {' | '.join(row)} |" for row in [head, ["---"] * len(head), *others]
+        f"| {' | '.join(row)} |" for row in [head, ["---"] * len(head), *body]
     )
 
 
 def commit() -> str:
-    ran = subprocess.run(
+    result = subprocess.run(
         ["git", "rev-parse", "--short", "HEAD"], cwd=TOP, capture_output=True, text=True
     )
-    return ran.stdout.strip() or "unknown"
+    return result.stdout.strip() or "unknown"
 
 
 def machine() -> str:
-    """How many processors this machine has, and which."""
-    found = re.search(
+    """Returns how many processors this machine has, and which."""
+    match = re.search(
         r"^model name\s*: (.*)$",
         pathlib.Path("/proc/cpuinfo").read_text(encoding="utf-8"),
         re.M,
     )
-    return f"{os.cpu_count()} processors{f' ({found[1].strip()})' if found else ''}"
+    return f"{os.cpu_count()} processors{f' ({match[1].strip()})' if match else ''}"
 
 
-def player_of(words: argparse.Namespace) -> str:
+def player_of(args: argparse.Namespace) -> str:
     """Who plays, in words."""
-    program = program_of(words)
+    program = program_of(args)
     return name_of(program) if program else "the Python model, which is not verified"
 
 
-def text_of(made: Made, seconds: float, player: str) -> str:
-    """A table as the document has it."""
-    commands = "".join(f"\n    {command}" for command in made.commands)
-    search = "The Python model searched. " if made.is_searched else ""
-    taken = f"{seconds:.0f} s" if seconds < 120 else f"{seconds / 60:.0f} min"
-    said = f"{search}Engine: {player}. {taken} on {datetime.date.today()}, {machine()}. Commit {commit()}."
-    return f"{markdown(made.rows)}\n\n{textwrap.fill(said, WIDTH)}\n{commands}\n"
+def text_of(made_table: MadeTable, seconds: float, player: str) -> str:
+    """Returns the text of a table for the document."""
+    commands = "".join(f"\n    {command}" for command in made_table.commands)
+    search = "The Python model searched. " if made_table.is_searched else ""
+    duration = f"{seconds:.0f} s" if seconds < 120 else f"{seconds / 60:.0f} min"
+    caption = f"{search}Engine: {player}. {duration} on {datetime.date.today()}, {machine()}. Commit {commit()}."
+    return (
+        f"{markdown(made_table.rows)}\n\n{textwrap.fill(caption, WIDTH)}\n{commands}\n"
+    )
 
 
-def written(document: str, name: str, text: str) -> str:
+def insert_table(document: str, name: str, text: str) -> str:
     """The document with this text in the place of a table."""
     begin = f"<!-- table {name} -->\n"
     end = f"<!-- end of {name} -->"
-    before, found, rest = document.partition(begin)
+    before, middle, rest = document.partition(begin)
     _, also, after = rest.partition(end)
-    if not found or not also:
+    if not middle or not also:
         sys.exit(
             f"{DOCUMENT}: the table {name} stands between `{begin.strip()}` and `{end}`: add these lines"
         )
@@ -113,7 +115,7 @@ def main() -> int:
     )
     add_workers(parser)
     add_engine(parser)
-    # the modules without which the program is not compiled for a command
+    # no module is required here; without that setting the program would not be compiled
     parser.set_defaults(needs=())
     words = parser.parse_args()
     for name in words.tables:
@@ -127,12 +129,12 @@ def main() -> int:
         *(["--program", words.program] if words.program else []),
     ]
     for name in words.tables or TABLES:
-        started = time.monotonic()
-        made = TABLES[name](Asked(words.out, engine, words.workers))
-        text = text_of(made, time.monotonic() - started, player_of(words))
+        start = time.monotonic()
+        table = TABLES[name](TableRequest(words.out, engine, words.workers))
+        text = text_of(table, time.monotonic() - start, player_of(words))
         print(f"{name}\n\n{text}", flush=True)
         if words.write:
-            document = written(DOCUMENT.read_text(encoding="utf-8"), name, text)
+            document = insert_table(DOCUMENT.read_text(encoding="utf-8"), name, text)
             DOCUMENT.write_text(document, encoding="utf-8")
     if words.write:
         growth.write()

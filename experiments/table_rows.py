@@ -10,7 +10,7 @@ from typing import Callable, Dict, List, Mapping, NamedTuple, Sequence, Tuple
 
 from bench import explore
 from experiments.division import Table, bound, of_ring3, ring3
-from experiments.turns import played
+from experiments.turns import play_search
 from arena_lab.sweep import grid, report, tables
 from arena_lab.__main__ import main as lab
 from arena_lab.search.ring_bounds import most_moves
@@ -27,7 +27,7 @@ KNOWN_MAP = f"{AGENTS}/known_map.py"
 Cells = Sequence[str]
 
 
-class Made(NamedTuple):
+class MadeTable(NamedTuple):
     """A table: its rows with their head, the commands that made it, and whether the
     Python model searched for its rows, which the engine then played again."""
 
@@ -36,7 +36,7 @@ class Made(NamedTuple):
     is_searched: bool = False
 
 
-class Asked(NamedTuple):
+class TableRequest(NamedTuple):
     """Where files go, the words that choose the engine, and how many processes play a
     sweep."""
 
@@ -45,53 +45,60 @@ class Asked(NamedTuple):
     workers: int = 1
 
 
-def said_by(words: Sequence[str], asked: Asked) -> str:
+def said_by(words: Sequence[str], table_request: TableRequest) -> str:
     """What a command of the lab says."""
-    said = io.StringIO()
-    with contextlib.redirect_stdout(said):
-        status = lab([*words, *asked.engine])
+    stream = io.StringIO()
+    with contextlib.redirect_stdout(stream):
+        status = lab([*words, *table_request.engine])
     if status not in (0, 1):
-        sys.exit(f"{shown(words)} ended with status {status}")
-    return said.getvalue()
+        sys.exit(f"{command_line(words)} ended with status {status}")
+    return stream.getvalue()
 
 
-def shown(words: Sequence[str]) -> str:
-    """A command of the lab as one types it."""
-    quoted = [f'"{word}"' if " " in word else word for word in words]
-    return f"./arena-lab {' '.join(quoted)}"
+def command_line(words: Sequence[str]) -> str:
+    """Returns a command of the lab as typed in a shell."""
+    words_in_quotes = [f'"{word}"' if " " in word else word for word in words]
+    return f"./arena-lab {' '.join(words_in_quotes)}"
 
 
-def groups_of_sweep(name: str, asked: Asked) -> Tuple[List[report.RunGroup], List[str]]:
+def groups_of_sweep(
+    name: str, table_request: TableRequest
+) -> Tuple[List[report.RunGroup], List[str]]:
     """The groups of a sweep, which is played now, and its command."""
-    words = ["sweep", f"experiments/{name}.toml", "--out", str(asked.out / name)]
-    said_by([*words, "--workers", str(asked.workers)], asked)
-    spec = grid.read(EXPERIMENTS / f"{name}.toml")
-    return report.groups_of(tables.rows_in(asked.out / name / tables.RUNS), spec), [
-        shown([*words[:3], f"out/{name}"])
+    words = [
+        "sweep",
+        f"experiments/{name}.toml",
+        "--out",
+        str(table_request.out / name),
     ]
+    said_by([*words, "--workers", str(table_request.workers)], table_request)
+    spec = grid.read_grid(EXPERIMENTS / f"{name}.toml")
+    return report.groups_of(
+        tables.rows_in(table_request.out / name / tables.RUNS), spec
+    ), [command_line([*words[:3], f"out/{name}"])]
 
 
-def of_sweep(name: str) -> Callable[[Asked], Made]:
+def of_sweep(name: str) -> Callable[[TableRequest], MadeTable]:
     """Makes the table of a sweep: a row for each network, and of each scheduler the
     mean and the most moves."""
 
-    def make(asked: Asked) -> Made:
-        groups, commands = groups_of_sweep(name, asked)
-        return Made(rows_of(groups), commands)
+    def make(table_request: TableRequest) -> MadeTable:
+        groups, commands = groups_of_sweep(name, table_request)
+        return MadeTable(rows_of(groups), commands)
 
     return make
 
 
 def rows_of(
-    groups: Sequence[report.RunGroup], hunted: Mapping[str, int] = {}
+    groups: Sequence[report.RunGroup], hunt_moves: Mapping[str, int] = {}
 ) -> List[Cells]:
-    """A row for each network, with the most moves that were hunted on it, if that was
-    done. A mean has its confidence, which is of all black holes: the sweep draws them,
-    or has enough seeds to take each."""
+    """Returns a row per network, with the most moves of hunts, if any. A mean has its
+    confidence over all black holes, because the sweep draws them or has enough seeds to
+    take each."""
     schedulers = list(dict.fromkeys(group.name[2] for group in groups))
     bound = grid_bound(groups)
     moves = [f"{name}: {what}" for name in schedulers for what in ("mean", "most")]
-    if hunted:
+    if hunt_moves:
         moves.append("hunted: most")
     head = [
         "network",
@@ -107,14 +114,14 @@ def rows_of(
     return [
         head,
         *(
-            row_of([group for group in groups if group.name[0] == name], hunted)
+            row_of([group for group in groups if group.name[0] == name], hunt_moves)
             for name in networks
         ),
     ]
 
 
 def grid_bound(groups: Sequence[report.RunGroup]) -> str:
-    """The name of the bound, which the groups have as a number."""
+    """Returns the name of the bound whose number the groups contain."""
     return next(
         (
             name
@@ -125,10 +132,10 @@ def grid_bound(groups: Sequence[report.RunGroup]) -> str:
     )
 
 
-def row_of(groups: Sequence[report.RunGroup], hunted: Mapping[str, int]) -> Cells:
+def row_of(groups: Sequence[report.RunGroup], hunt_moves: Mapping[str, int]) -> Cells:
     network = groups[0].name[0]
-    most = max(
-        [int(group.worst["moves"]) for group in groups] + [hunted.get(network, 0)]
+    limit = max(
+        [int(group.worst["moves"]) for group in groups] + [hunt_moves.get(network, 0)]
     )
     bound = groups[0].bound or 1
     cells = [
@@ -139,8 +146,8 @@ def row_of(groups: Sequence[report.RunGroup], hunted: Mapping[str, int]) -> Cell
             group.worst["moves"],
         )
     ]
-    if hunted:
-        cells.append(str(hunted.get(network, "–")))
+    if hunt_moves:
+        cells.append(str(hunt_moves.get(network, "–")))
     return [
         network,
         str(groups[0].agents),
@@ -149,7 +156,7 @@ def row_of(groups: Sequence[report.RunGroup], hunted: Mapping[str, int]) -> Cell
         *cells,
         str(max(group.lost for group in groups)),
         f"{bound:.0f}",
-        f"{most / bound:.2f}",
+        f"{limit / bound:.2f}",
     ]
 
 
@@ -160,7 +167,7 @@ class Search(NamedTuple):
     network: str
     agent: str
     agents: int
-    more: Sequence[str] = ()
+    options: Sequence[str] = ()
 
     def words(self) -> List[str]:
         return [
@@ -171,54 +178,55 @@ class Search(NamedTuple):
             str(self.agents),
             "--agent",
             self.agent,
-            *self.more,
+            *self.options,
         ]
 
     def team(self) -> str:
-        """How many agents there are, and which."""
+        """Describes the team: number and file of its agents."""
         return f"{self.agents}, `{self.agent.partition(' ')[0].rpartition('/')[2]}`"
 
 
 def hunts(runs: int = 0, agent: str = "") -> List[Search]:
     """The hunts for most moves, as their file says, or with another number of
     schedules, or by another search."""
-    found = tomllib.loads((EXPERIMENTS / "hunts.toml").read_text(encoding="utf-8"))
-    more = (
+    rows = tomllib.loads((EXPERIMENTS / "hunts.toml").read_text(encoding="utf-8"))
+    extra = (
         "--objective",
         "moves",
         "--seed",
-        str(found["seed"]),
+        str(rows["seed"]),
         "--runs",
-        str(runs or found["runs"]),
+        str(runs or rows["runs"]),
     )
     return [
-        Search("hunt", network, agent or found["agent"], found["agents"], more)
-        for network in found["networks"]
+        Search("hunt", network, agent or rows["agent"], rows["agents"], extra)
+        for network in rows["networks"]
     ]
 
 
-def hunted_most(hunt: Search, asked: Asked) -> int:
+def hunted_most(hunt: Search, table_request: TableRequest) -> int:
     """The most moves that a hunt finds. It knows of no earlier finds, so it finds the
     same again."""
-    folder = asked.out / "hunts" / hunt.network.replace(":", "")
+    folder = table_request.out / "hunts" / hunt.network.replace(":", "")
     with tempfile.TemporaryDirectory() as database:
-        said = said_by(
-            [*hunt.words(), "--keep", str(folder), "--database", database], asked
+        output = said_by(
+            [*hunt.words(), "--keep", str(folder), "--database", database],
+            table_request,
         )
-    most = re.search(r"^the most moves: .* solved moves (\d+) lost \d+$", said, re.M)
-    if not most:
-        sys.exit(f"{shown(hunt.words())}: {said}")
-    return int(most[1])
+    match = re.search(r"^the most moves: .* solved moves (\d+) lost \d+$", output, re.M)
+    if not match:
+        sys.exit(f"{command_line(hunt.words())}: {output}")
+    return int(match[1])
 
 
-def rings(asked: Asked) -> Made:
+def rings(table_request: TableRequest) -> MadeTable:
     """The sweep of rings, with the most moves that were hunted on each."""
-    groups, commands = groups_of_sweep("rings", asked)
+    groups, commands = groups_of_sweep("rings", table_request)
     all_hunts = hunts()
-    hunted = {hunt.network: hunted_most(hunt, asked) for hunt in all_hunts}
-    return Made(
-        rows_of(groups, hunted),
-        [*commands, shown(all_hunts[0].words())],
+    hunt_moves = {hunt.network: hunted_most(hunt, table_request) for hunt in all_hunts}
+    return MadeTable(
+        rows_of(groups, hunt_moves),
+        [*commands, command_line(all_hunts[0].words())],
         is_searched=True,
     )
 
@@ -240,48 +248,54 @@ THIRDS_HEAD = (
 )
 
 
-def thirds(asked: Asked) -> Made:
+def thirds(table_request: TableRequest) -> MadeTable:
     """The most moves of the search by halves and of the search by thirds: drawn,
     hunted, and counted."""
-    groups, commands = groups_of_sweep("thirds", asked)
-    drawn = {(group.name[0], group.name[1]): group.worst["moves"] for group in groups}
+    groups, commands = groups_of_sweep("thirds", table_request)
+    sweep_moves = {
+        (group.name[0], group.name[1]): group.worst["moves"] for group in groups
+    }
     halves = hunts()
     all_thirds = hunts(agent=RING3)
-    hunted = {
-        (search.network, name): str(hunted_most(search, asked))
+    hunt_moves = {
+        (search.network, name): str(hunted_most(search, table_request))
         for name, searches in (("halves", halves), ("thirds", all_thirds))
         for search in searches
         if search.network in {f"ring:{nodes}" for nodes in SIZES}
     }
-    rows = [thirds_row(nodes, drawn, hunted) for nodes in SIZES]
-    return Made(
+    rows = [thirds_row(nodes, sweep_moves, hunt_moves) for nodes in SIZES]
+    return MadeTable(
         [THIRDS_HEAD, *rows],
-        [*commands, shown(all_thirds[0].words())],
+        [*commands, command_line(all_thirds[0].words())],
         is_searched=True,
     )
 
 
 def thirds_row(
     nodes: int,
-    drawn: Mapping[Tuple[str, str], str],
-    hunted: Mapping[Tuple[str, str], str],
+    sweep_moves: Mapping[Tuple[str, str], str],
+    hunt_moves: Mapping[Tuple[str, str], str],
 ) -> Cells:
     network = f"ring:{nodes}"
     halves = most_moves(nodes)
-    counted = Table(nodes, of_ring3)
-    attained = played(ring3.search, nodes, counted.runs()[0]).moves
+    table = Table(nodes, of_ring3)
+    counted_moves = play_search(ring3.search, nodes, table.runs()[0]).moves
     cells = [
-        [drawn.get((network, name), "–"), hunted.get((network, name), "–"), str(moves)]
-        for name, moves in (("halves", halves), ("thirds", counted.moves()))
+        [
+            sweep_moves.get((network, name), "–"),
+            hunt_moves.get((network, name), "–"),
+            str(moves),
+        ]
+        for name, moves in (("halves", halves), ("thirds", table.moves()))
     ]
     return [
         network,
         *cells[0],
         *cells[1],
-        str(attained),
+        str(counted_moves),
         f"{bound(nodes):.0f}",
-        f"{counted.moves() / bound(nodes):.2f}",
-        f"{counted.moves() / halves:.2f}",
+        f"{table.moves() / bound(nodes):.2f}",
+        f"{table.moves() / halves:.2f}",
     ]
 
 
@@ -300,15 +314,15 @@ CHARTS_HEAD = (
 )
 
 
-def charts(asked: Asked) -> Made:
+def charts(table_request: TableRequest) -> MadeTable:
     """The moves of agents that keep a map, and of agents that keep a chart."""
-    groups, commands = groups_of_sweep("charts", asked)
-    return Made(charts_rows(groups), commands)
+    groups, commands = groups_of_sweep("charts", table_request)
+    return MadeTable(charts_rows(groups), commands)
 
 
 def charts_rows(groups: Sequence[report.RunGroup]) -> List[Cells]:
     """A row for each network, on which m are the links."""
-    all_networks = grid.read(EXPERIMENTS / "charts.toml").networks
+    all_networks = grid.read_grid(EXPERIMENTS / "charts.toml").networks
     rows: List[Cells] = [CHARTS_HEAD]
     for name in dict.fromkeys(group.name[0] for group in groups):
         cells = row_of([group for group in groups if group.name[0] == name], {})
@@ -334,25 +348,27 @@ EXPLORED = [
 EXPLORED_HEAD = ("network", "agents", "states", "most moves", "most lost", "seconds")
 
 
-def explored_row(search: Search, asked: Asked) -> Cells:
-    """What was found of all schedules on a network."""
-    said = said_by([*search.words(), "--keep", str(asked.out / "explored")], asked)
+def explored_row(search: Search, table_request: TableRequest) -> Cells:
+    """Returns the row of an exhaustive exploration of one network."""
+    output = said_by(
+        [*search.words(), "--keep", str(table_request.out / "explored")], table_request
+    )
     states = re.search(
         r"^(\d+) states in (\S+) s: every schedule that the lab tried solves, ",
-        said,
+        output,
         re.M,
     )
-    most = re.search(
-        r"^most moves (\d+), most agents lost (\d+), most turns ", said, re.M
+    match = re.search(
+        r"^most moves (\d+), most agents lost (\d+), most turns ", output, re.M
     )
-    if not states or not most:
-        sys.exit(f"{shown(search.words())}: {said}")
-    return [search.network, search.team(), states[1], most[1], most[2], states[2]]
+    if not states or not match:
+        sys.exit(f"{command_line(search.words())}: {output}")
+    return [search.network, search.team(), states[1], match[1], match[2], states[2]]
 
 
-def explored(asked: Asked) -> Made:
-    rows = [explored_row(search, asked) for search in EXPLORED]
-    return Made([EXPLORED_HEAD, *rows], [shown(EXPLORED[0].words())])
+def exploration_table(table_request: TableRequest) -> MadeTable:
+    rows = [explored_row(search, table_request) for search in EXPLORED]
+    return MadeTable([EXPLORED_HEAD, *rows], [command_line(EXPLORED[0].words())])
 
 
 MODULE = "wasm/ring.wasm"
@@ -374,15 +390,15 @@ def module_row(nodes: int) -> Cells:
     return [
         f"ring:{nodes}",
         f"`{MODULE}:{nodes}`",
-        str(sum(it.states for it in matches)),
-        str(max(it.moves for it in matches)),
-        str(max(it.lost for it in matches)),
-        f"{sum(it.program for it in matches):.2f}",
-        f"{max(it.memory for it in matches):.0f}",
+        str(sum(match.states for match in matches)),
+        str(max(match.moves for match in matches)),
+        str(max(match.lost for match in matches)),
+        f"{sum(match.program for match in matches):.2f}",
+        f"{max(match.memory for match in matches):.0f}",
     ]
 
 
-def modules(asked: Asked) -> Made:
+def modules(table_request: TableRequest) -> MadeTable:
     search = Search(
         "explore",
         f"ring:{RINGS_OF_MODULE[-1]}",
@@ -390,8 +406,9 @@ def modules(asked: Asked) -> Made:
         2,
         WIDE,
     )
-    return Made(
-        [MODULES_HEAD, *map(module_row, RINGS_OF_MODULE)], [shown(search.words())]
+    return MadeTable(
+        [MODULES_HEAD, *map(module_row, RINGS_OF_MODULE)],
+        [command_line(search.words())],
     )
 
 
@@ -411,48 +428,56 @@ TOO_FEW_HEAD = (
 )
 
 
-def too_few_row(hunt: Search, asked: Asked) -> Cells:
+def too_few_row(hunt: Search, table_request: TableRequest) -> Cells:
     """How a team with an agent too few fails."""
-    folder = asked.out / "too_few" / f"{hunt.network.replace(':', '')}_{hunt.agents}"
-    said = said_by(
-        [*hunt.words(), "--keep", str(folder), "--database", str(asked.out / "hunted")],
-        asked,
+    folder = (
+        table_request.out / "too_few" / f"{hunt.network.replace(':', '')}_{hunt.agents}"
     )
-    tried = re.search(
+    output = said_by(
+        [
+            *hunt.words(),
+            "--keep",
+            str(folder),
+            "--database",
+            str(table_request.out / "hunted"),
+        ],
+        table_request,
+    )
+    match = re.search(
         r"^(\d+) schedules were tried: the team fails, first under number \d+$",
-        said,
+        output,
         re.M,
     )
-    verdict = re.search(r"^it comes to: home 0 (holes .*)$", said, re.M)
-    choices = re.search(r": (\d+) choices; again by", said)
-    if not tried or not verdict or not choices:
+    verdict = re.search(r"^it comes to: home 0 (holes .*)$", output, re.M)
+    choices = re.search(r": (\d+) choices; again by", output)
+    if not match or not verdict or not choices:
         sys.exit(
-            f"{shown(hunt.words())} found no schedule after which the team fails: {said}"
+            f"{command_line(hunt.words())} found no schedule after which the team fails: {output}"
         )
     return [
         hunt.network,
         hunt.team(),
         str(hunt.agents + 1),
-        tried[1],
+        match[1],
         verdict[1],
         choices[1],
     ]
 
 
-def too_few(asked: Asked) -> Made:
-    rows = [too_few_row(hunt, asked) for hunt in TOO_FEW]
-    return Made(
+def too_few(table_request: TableRequest) -> MadeTable:
+    rows = [too_few_row(hunt, table_request) for hunt in TOO_FEW]
+    return MadeTable(
         [TOO_FEW_HEAD, *rows],
-        [shown(hunt.words()) for hunt in TOO_FEW],
+        [command_line(hunt.words()) for hunt in TOO_FEW],
         is_searched=True,
     )
 
 
-TABLES: Dict[str, Callable[[Asked], Made]] = {
+TABLES: Dict[str, Callable[[TableRequest], MadeTable]] = {
     "rings": rings,
     "thirds": thirds,
     "large-rings": of_sweep("large_rings"),
-    "explored": explored,
+    "explored": exploration_table,
     "modules": modules,
     "no-map": of_sweep("no_map"),
     "large-no-map": of_sweep("large_no_map"),

@@ -5,15 +5,15 @@ from typing import Any, Dict, List, NamedTuple, Sequence, Set, Tuple
 
 from greenlet import greenlet
 
-from arena_lab.play.agent_files import AGENTS, loaded
+from arena_lab.play.agent_files import AGENTS, load_module
 
-client = loaded(AGENTS / "client.py")
+client = load_module(AGENTS / "client.py")
 
 # an agent, and how many new nodes it enters
 Run = Tuple[int, int]
 
 
-class Ended(NamedTuple):
+class SearchEnd(NamedTuple):
     """How a search ended: its moves, the node that was accused, and how many commands
     each agent used."""
 
@@ -35,7 +35,8 @@ class World:
         self.hub = greenlet.getcurrent()
         self.clients = [Client(self), Client(self)]
         self.agents = [
-            greenlet(lambda it=it: search(it, "", nodes)) for it in self.clients
+            greenlet(lambda own_client=client: search(own_client, "", nodes))
+            for client in self.clients
         ]
         for agent in self.agents:
             agent.switch()
@@ -54,11 +55,11 @@ class Client:
 
     def write(self, expect: str, put: str) -> Any:
         self.commands += 1
-        found = self.world.boards.get(self.node, "")
-        if found == expect:
+        board = self.world.boards.get(self.node, "")
+        if board == expect:
             self.world.boards[self.node] = put
             return client.Swap(True, put)
-        return client.Swap(False, found)
+        return client.Swap(False, board)
 
     def depart(self, port: int) -> Any:
         self.commands += 1
@@ -78,7 +79,7 @@ class Client:
         return (self.node + (1 if port == 0 else -1)) % self.world.nodes
 
 
-def played(search: Any, nodes: int, runs: Sequence[Run]) -> Ended:
+def play_search(search: Any, nodes: int, runs: Sequence[Run]) -> SearchEnd:
     """How a search ends in which the agents enter new nodes in these runs."""
     world = World(search, nodes)
     for agent, count in runs:
@@ -89,4 +90,6 @@ def played(search: Any, nodes: int, runs: Sequence[Run]) -> Ended:
     assert set(range(nodes)) - world.reached == set(
         world.accused
     ), "another node is accused"
-    return Ended(world.moves, world.accused[0], [it.commands for it in world.clients])
+    return SearchEnd(
+        world.moves, world.accused[0], [client.commands for client in world.clients]
+    )

@@ -3,7 +3,7 @@ import pathlib
 import sys
 
 from tests import needs
-from tests.support.output import InTemporary, ran
+from tests.support.output import InTemporary, run_call
 from tools.prove import again
 
 
@@ -16,21 +16,21 @@ class Compared(InTemporary):
         self.bytes = pathlib.Path(sys.executable).resolve().read_bytes()
         self.one.write_bytes(self.bytes)
 
-    def told(self) -> str:
-        status, said, _ = ran(again.told, self.one, self.other)
-        self.assertEqual(status, 0 if "the same program" in said else 1)
-        return said
+    def comparison(self) -> str:
+        status, output, _ = run_call(again.compare_programs, self.one, self.other)
+        self.assertEqual(status, 0 if "the same program" in output else 1)
+        return output
 
     def test_equal_programs(self) -> None:
         self.other.write_bytes(self.bytes)
-        self.assertIn("the same program, SHA-256 ", self.told())
+        self.assertIn("the same program, SHA-256 ", self.comparison())
 
     def test_the_sections_that_differ_are_named(self) -> None:
         text = again.sections(self.one)[".text"]
-        changed = bytes([text[0] ^ 1]) + text[1:]
-        self.other.write_bytes(self.bytes.replace(text, changed, 1))
-        self.assertEqual(self.told(), "they differ in .text\n")
+        changes = bytes([text[0] ^ 1]) + text[1:]
+        self.other.write_bytes(self.bytes.replace(text, changes, 1))
+        self.assertEqual(self.comparison(), "they differ in .text\n")
 
     def test_a_difference_between_sections(self) -> None:
         self.other.write_bytes(self.bytes + b"\0")
-        self.assertIn("no section", self.told())
+        self.assertIn("no section", self.comparison())

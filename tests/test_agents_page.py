@@ -8,7 +8,7 @@ from typing import List, Tuple
 from arena_lab.play.kits import KITS
 from arena_lab.rules.fixtures import fixture_of
 from arena_lab.rules.model import Setup, judge
-from arena_lab.rules.rehearsal import Rehearsal, Said
+from arena_lab.rules.rehearsal import Rehearsal, SentLine
 from tests import TOP
 
 PAGE = (TOP / "docs" / "AGENTS.md").read_text(encoding="utf-8")
@@ -20,16 +20,18 @@ OVER = '{"ok":"over"}'
 
 
 def lines() -> List[Tuple[str, str]]:
-    """The lines of the conversations, in order, each with who says it."""
+    """Returns the lines of the conversations in order, each with its speaker."""
     return [
-        (found[1], found[2]) for found in map(LINE.fullmatch, PAGE.split("\n")) if found
+        (result[1], result[2])
+        for result in map(LINE.fullmatch, PAGE.split("\n"))
+        if result
     ]
 
 
 class Conversation(unittest.TestCase):
     def setUp(self) -> None:
         self.engine = Rehearsal(fixture_of(TRIANGLE)._replace(keys=["ka", "kb"]))
-        self.told: List[Said] = []
+        self.told: List[SentLine] = []
         self.now = -1
 
     def say(self, line: str) -> None:
@@ -53,8 +55,10 @@ class Conversation(unittest.TestCase):
             with self.subTest(line):
                 (self.say if who == ">" else self.hear)(line)
         self.assertEqual([], self.told)
-        found = judge(self.engine.match)
-        self.assertIn(f"`{found.outcome} moves {found.moves} lost {found.lost}`", PAGE)
+        result = judge(self.engine.match)
+        self.assertIn(
+            f"`{result.outcome} moves {result.moves} lost {result.lost}`", PAGE
+        )
 
 
 class Words(unittest.TestCase):

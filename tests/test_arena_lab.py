@@ -22,8 +22,8 @@ class Command(InTemporary):
         write(self.folder / name / "bin" / "python3", text, 0o755)
         return str(self.folder / name)
 
-    def said(self, *words: str, **variables: str) -> str:
-        kept = {
+    def output(self, *words: str, **variables: str) -> str:
+        record = {
             name: text
             for name, text in os.environ.items()
             if name not in ("VIRTUAL_ENV", "CONDA_PREFIX")
@@ -31,7 +31,7 @@ class Command(InTemporary):
         return subprocess.run(
             [TOP / "arena-lab", *words],
             cwd=self.folder,
-            env={**kept, **variables},
+            env={**record, **variables},
             check=True,
             stdout=subprocess.PIPE,
             text=True,
@@ -39,9 +39,11 @@ class Command(InTemporary):
 
     def test_an_active_environment_with_the_packages_is_taken(self) -> None:
         for variable in ("VIRTUAL_ENV", "CONDA_PREFIX"):
-            place = self.environment(f"mine-{variable}", True)
+            position = self.environment(f"mine-{variable}", True)
             self.assertEqual(
-                self.said("run", "two words", PYTHONPATH="mine", **{variable: place}),
+                self.output(
+                    "run", "two words", PYTHONPATH="mine", **{variable: position}
+                ),
                 f"mine-{variable}: {TOP} run two words path=mine\n",
             )
 
@@ -51,8 +53,8 @@ class Command(InTemporary):
             ["/usr/bin/python3", "-c", "import greenlet, jinja2, tqdm"],
             stderr=subprocess.DEVNULL,
         )
-        said = self.said("--help", VIRTUAL_ENV=bare)
+        output = self.output("--help", VIRTUAL_ENV=bare)
         if whole.returncode == 0:
-            self.assertIn("usage: ./arena-lab", said)
+            self.assertIn("usage: ./arena-lab", output)
         else:
-            self.assertNotIn("usage: lab", said)
+            self.assertNotIn("usage: lab", output)

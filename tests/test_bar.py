@@ -21,9 +21,9 @@ class Bars(unittest.TestCase):
         return stream.getvalue()
 
     def test_a_terminal_has_one_line(self) -> None:
-        said = self.lines(self.Terminal(), [0, 0.5], 30)
+        output = self.lines(self.Terminal(), [0, 0.5], 30)
         self.assertEqual(
-            said,
+            output,
             "\rarena: [....................]   0% work\x1b[K"
             "\rarena: [##########..........]  50% work\x1b[K\r\x1b[Karena: done\n",
         )

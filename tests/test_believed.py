@@ -17,9 +17,9 @@ class Believed(unittest.TestCase):
         )
 
     def test_a_headline_reaches_what_it_uses_and_no_more(self) -> None:
-        found = believed.reached(("bhs_model", "Laws", "EqualPasts"))
-        self.assertIn("answer", found["bhs_model", "Replying"])
-        self.assertNotIn("EventsAdd", found["bhs_model", "Laws"])
+        result = believed.reachable(("bhs_model", "Laws", "EqualPasts"))
+        self.assertIn("answer", result["bhs_model", "Replying"])
+        self.assertNotIn("EventsAdd", result["bhs_model", "Laws"])
 
     def test_names_of_a_module_inside_another_are_found(self) -> None:
         lines = [

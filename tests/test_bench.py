@@ -11,7 +11,7 @@ from bench import benchmarks
 from bench import compare
 from bench import figure_texts
 from bench import figures
-from arena_lab.rules.limits import MOST_TEXT
+from arena_lab.rules.limits import MAX_TEXT
 from bench import inputs
 from bench import memory
 from bench import rehearse
@@ -45,11 +45,11 @@ class Inputs(InTemporary):
         self.assertLessEqual(len(text), 20_000)
         self.assertGreater(len(text), 19_900)
         self.assertEqual(text.count("\n"), lines)
-        self.assertGreater(len(compare.filled(compare.moves())), MOST_TEXT - 100)
+        self.assertGreater(len(compare.filled_script(compare.moves())), MAX_TEXT - 100)
 
     def test_times_are_compared(self) -> None:
         self.assertEqual(
-            compare.compared(min, [[0.002, 0.004], [0.003, 0.008]]),
+            compare.compare_times(min, [[0.002, 0.004], [0.003, 0.008]]),
             "2.00 ms, 4.00 ms, ratio 0.50",
         )
 
@@ -60,17 +60,17 @@ class Inputs(InTemporary):
             inputs.printed_by("cat", [], self.folder / "in", self.folder), b"text"
         )
         for keeps in (False, True):
-            ran = inputs.run("cat", [], self.folder / "in", self.folder, keeps)
-            self.assertGreater(ran.seconds, 0)
-            self.assertGreater(ran.processor, 0)
-            self.assertGreater(ran.peak, 100)
+            result = inputs.run("cat", [], self.folder / "in", self.folder, keeps)
+            self.assertGreater(result.seconds, 0)
+            self.assertGreater(result.processor, 0)
+            self.assertGreater(result.peak, 100)
         with self.assertRaises(subprocess.CalledProcessError):
             inputs.run("false", [], self.folder / "in", self.folder)
         words = ["-c", "held = b'x' * (32 * 1024 * 1024)"]
-        held = inputs.median_run(
+        run = inputs.median_run(
             3, sys.executable, words, self.folder / "in", self.folder
         )
-        self.assertGreater(held.peak, 32 * 1024)
+        self.assertGreater(run.peak, 32 * 1024)
 
 
 SMAPS = """\
@@ -114,18 +114,18 @@ class Figures(unittest.TestCase):
         self.assertEqual(figures.page(figures.sections_of(self.text)), self.text)
 
     def test_each_section_says_where_it_was_measured(self) -> None:
-        found = figures.sections_of(self.text)
-        self.assertGreater(len(found), 10)
-        for name, section in found.items():
+        sections = figures.sections_of(self.text)
+        self.assertGreater(len(sections), 10)
+        for name, section in sections.items():
             with self.subTest(name):
-                self.assertEqual(len(figures.MEASURED.findall(section)), 1)
+                self.assertEqual(len(figures.MEASURED_NOTE.findall(section)), 1)
                 self.assertIn(f"\n## {benchmarks.BENCHMARKS[name].title}\n", section)
 
     def test_a_section_of_a_long_machine_is_wrapped_and_read_again(self) -> None:
         name = "waits"
-        place = "`abc1234` with changes, 2026-01-02"
+        position = "`abc1234` with changes, 2026-01-02"
         machine = f"4 processors, {'fast ' * 20}ones"
-        setting = benchmarks.Setting(figures.TOP, None, figures.TOP, place, machine)
+        setting = benchmarks.Setting(figures.TOP, None, figures.TOP, position, machine)
         page = figures.page({name: figures.section(name, "| a |\n", setting)})
         self.assertEqual(figures.page(figures.sections_of(page)), page)
         self.assertIn(
@@ -156,12 +156,12 @@ class Figures(unittest.TestCase):
 
 class Words(unittest.TestCase):
     def test_the_first_words_of_the_zero_seed(self) -> None:
-        published = bytes.fromhex(
+        published_value = bytes.fromhex(
             "3e00ef2f895f40d67f5bb8e81f09a5a12c840ec3ce9a7f3b181be188ef711a1e"
         )
         words = list(chacha8.block(bytes(32), 0, 0))[:8]
         self.assertEqual(
-            b"".join(word.to_bytes(4, "little") for word in words), published
+            b"".join(word.to_bytes(4, "little") for word in words), published_value
         )
 
 

@@ -1,4 +1,4 @@
-"""The inputs on which instructions are counted, and how they are counted."""
+"""Checks the inputs of the instruction counts, and the counting."""
 import contextlib
 import io
 import json
@@ -6,9 +6,9 @@ import tomllib
 import unittest
 import unittest.mock
 
-from arena_lab.rules.model import judge, played
+from arena_lab.rules.model import judge, replay_match
 from bench import instructions
-from tests.support.output import InTemporary, ran, write
+from tests.support.output import InTemporary, run_call, write
 
 
 class Inputs(InTemporary):
@@ -21,7 +21,7 @@ class Inputs(InTemporary):
         second = json.dumps(
             {**values, "replay": 2, "dark": [], "holes": [values.pop("hole")]}
         )
-        match = played("".join([second + "\n", *lines]))
+        match = replay_match("".join([second + "\n", *lines]))
         self.assertEqual(match.replay().split("\n")[1:], "".join(lines).split("\n"))
         self.assertEqual(str(judge(match)), verdict)
         self.assertNotIn(instructions.TWIN, match.reached)
@@ -35,7 +35,7 @@ class Inputs(InTemporary):
         )
 
     def test_small_inputs(self) -> None:
-        works = instructions.written(self.folder, instructions.SMALL)
+        works = instructions.write_inputs(self.folder, instructions.SMALL)
         self.assertEqual(len({work.title for work in works}), 8)
         for work in works:
             self.assertTrue(
@@ -46,23 +46,27 @@ class Inputs(InTemporary):
 
 
 class Counts(InTemporary):
-    def made(self, name: str, text: str) -> str:
+    def write_script(self, name: str, text: str) -> str:
         """A script in the place of a program."""
         return str(write(self.folder / name, f"#!/bin/sh\n{text}\n", 0o700))
 
-    def printed(self, said: str) -> str:
+    def compare(self, text: str) -> str:
         """What is printed of two programs, with this script in the place of
         valgrind."""
-        programs = [self.made("one", "exit"), "--peer", self.made("two", "exit")]
+        programs = [
+            self.write_script("one", "exit"),
+            "--peer",
+            self.write_script("two", "exit"),
+        ]
         with unittest.mock.patch.object(
-            instructions, "VALGRIND", self.made("valgrind", said)
-        ), contextlib.redirect_stdout(io.StringIO()) as told:
+            instructions, "VALGRIND", self.write_script("valgrind", text)
+        ), contextlib.redirect_stdout(io.StringIO()) as message:
             instructions.main([*programs, "--small"])
-        return told.getvalue()
+        return message.getvalue()
 
     def test_a_table_has_the_counts_and_ratios(self) -> None:
         counts = "case $3 in *two) count=1000000;; *) count=2500000;; esac"
-        lines = self.printed(f"{counts}; echo ==7== Collected : $count >&2").split("\n")
+        lines = self.compare(f"{counts}; echo ==7== Collected : $count >&2").split("\n")
         self.assertEqual(
             lines[:2],
             [
@@ -81,26 +85,28 @@ class Counts(InTemporary):
         self.assertEqual([line.partition(" takes ")[0] for line in wrong], ["a", "new"])
 
     def test_each_run_is_compared_with_what_is_kept(self) -> None:
-        titles = list(tomllib.loads(instructions.KEPT.read_text()))
-        kept = self.folder / "kept.toml"
-        valgrind = self.made("valgrind", "echo ==7== Collected : 2000000 >&2")
+        titles = list(tomllib.loads(instructions.RECORD_FILE.read_text()))
+        kept_folder = self.folder / "kept.toml"
+        valgrind = self.write_script("valgrind", "echo ==7== Collected : 2000000 >&2")
         for number, last in ((2, "8 passed, 0 failed"), (1, "0 passed, 8 failed")):
-            kept.write_text("".join(f'"{title}" = {number}\n' for title in titles))
+            kept_folder.write_text(
+                "".join(f'"{title}" = {number}\n' for title in titles)
+            )
             with unittest.mock.patch.multiple(
-                instructions, KEPT=kept, VALGRIND=valgrind
+                instructions, RECORD_FILE=kept_folder, VALGRIND=valgrind
             ):
-                status, told, _ = ran(
-                    instructions.main, [self.made("one", "exit"), "--kept"]
+                status, output, _ = run_call(
+                    instructions.main, [self.write_script("one", "exit"), "--kept"]
                 )
                 self.assertEqual(status, number == 1)
-            self.assertEqual(told.splitlines()[-1], last)
+            self.assertEqual(output.splitlines()[-1], last)
 
     def test_a_program_that_fails_ends_it(self) -> None:
-        for said in ("exit 6", "echo nothing"):
+        for message in ("exit 6", "echo nothing"):
             with self.assertRaisesRegex(SystemExit, "rehearse t.toml: status"):
-                self.printed(said)
+                self.compare(message)
 
     def test_without_valgrind_it_says_what_to_install(self) -> None:
         with unittest.mock.patch.object(instructions, "VALGRIND", "no-such-command"):
             with self.assertRaisesRegex(SystemExit, "valgrind is missing"):
-                instructions.main([self.made("one", "exit")])
+                instructions.main([self.write_script("one", "exit")])

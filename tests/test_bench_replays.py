@@ -5,9 +5,9 @@ from typing import Iterator
 
 from tests import TOP, needs
 from bench import replays
-from arena_lab.rules.limits import MOST_LINE
-from arena_lab.rules.model import judge, played
-from tests.support.output import InTemporary, ran, write
+from arena_lab.rules.limits import MAX_LINE
+from arena_lab.rules.model import judge, replay_match
+from tests.support.output import InTemporary, run_call, write
 
 
 class LargeReplays(unittest.TestCase):
@@ -18,7 +18,7 @@ class LargeReplays(unittest.TestCase):
         count = replays.write_replay(
             out, kind.hole(commands), kind.events(commands), kind.board
         )
-        match = played(out.getvalue())
+        match = replay_match(out.getvalue())
         self.assertEqual(match.replay(), out.getvalue())
         self.assertEqual(judge(match), ("silent", kind.moves(commands), kind.lost))
         self.assertEqual(count, len(match.log))
@@ -36,22 +36,22 @@ class LargeReplays(unittest.TestCase):
         )
         self.assertEqual(
             [
-                replays.events_at_most(it.commands)
-                for it in replays.KINDS
-                if it.events == replays.moves
+                replays.events_at_most(kind.commands)
+                for kind in replays.KINDS
+                if kind.events == replays.moves
             ],
             [128_129, 8_388_609],
         )
-        told = (TOP / "bench" / "FIGURES.md").read_text(encoding="utf-8")
+        text = (TOP / "bench" / "FIGURES.md").read_text(encoding="utf-8")
         self.assertTrue(
-            "8,388,609 events at most" in told and "128,129 events at most" not in told
+            "8,388,609 events at most" in text and "128,129 events at most" not in text
         )
 
     def test_the_longest_line(self) -> None:
         lines: Iterator[dict] = replays.long_lines(1)
         write = next(event for event in lines if event["do"] == "write")
-        sent = {name: write[name] for name in ("do", "expect", "put")}
-        self.assertEqual(len(replays.spelled(sent)), MOST_LINE)
+        payload = {name: write[name] for name in ("do", "expect", "put")}
+        self.assertEqual(len(replays.spell(payload)), MAX_LINE)
 
 
 @needs("cc", "gcc")
@@ -70,28 +70,28 @@ class TwoPrograms(InTemporary):
         text = f'#!/bin/sh\nif [ "$1" = twin ]; then {twin}; else echo silent moves 0 lost 0; fi\n'
         return str(write(self.folder / name, text, 0o755))
 
-    def compared(self, twin: str) -> "tuple[bool, str]":
+    def compare(self, twin: str) -> "tuple[bool, str]":
         programs = [self.program("one", "echo twin"), self.program("two", twin)]
-        right, told, _ = ran(replays.beside, programs, self.KIND, 2, self.folder)
-        return right, told
+        right, output, _ = run_call(replays.beside, programs, self.KIND, 2, self.folder)
+        return right, output
 
     def test_programs_that_print_the_same(self) -> None:
-        right, told = self.compared("echo twin")
+        right, message = self.compare("echo twin")
         self.assertTrue(right)
         for word in ("judge", "table", "explain", "twin"):
             self.assertRegex(
-                told,
+                message,
                 rf"  {word}: .* ms, .* ms, ratio .*; processor .*, ratio .*; peak .* KiB, .* KiB",
             )
 
     def test_programs_that_do_not(self) -> None:
-        right, told = self.compared("echo other")
+        right, message = self.compare("echo other")
         self.assertFalse(right)
-        self.assertIn("  twin: the programs do not print the same\n", told)
+        self.assertIn("  twin: the programs do not print the same\n", message)
 
     def test_words(self) -> None:
-        given = replays.given_words(["one", "two", "--rounds", "5"])
+        args = replays.given_words(["one", "two", "--rounds", "5"])
         self.assertEqual(
-            (str(given.program), str(given.other), given.rounds), ("one", "two", 5)
+            (str(args.program), str(args.other), args.rounds), ("one", "two", 5)
         )
         self.assertEqual(replays.given_words([]).program, replays.PROGRAM)

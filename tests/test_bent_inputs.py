@@ -5,8 +5,8 @@ import random
 import unittest
 from unittest import mock
 
-from arena_lab.rules.limits import MOST_LINE
-from arena_lab.rules.model import played
+from arena_lab.rules.limits import MAX_LINE
+from arena_lab.rules.model import replay_match
 from tests.hostile import bent_inputs
 from tests.hostile.bends import (
     REPLAY_BENDS,
@@ -16,7 +16,7 @@ from tests.hostile.bends import (
     long_line,
     on_lines,
     other_reply,
-    replaced,
+    replace_one,
     zero_in_front,
 )
 from tests.hostile.drawn_inputs import drawn_replay, drawn_script
@@ -35,33 +35,35 @@ esac
 
 class Bends(unittest.TestCase):
     @by_chance(50)
-    def test_drawn_replays_are_replays(self, chance: random.Random) -> None:
-        text = drawn_replay(chance).decode()
-        self.assertEqual(played(text).replay(), text)
+    def test_drawn_replays_are_replays(self, rng: random.Random) -> None:
+        text = drawn_replay(rng).decode()
+        self.assertEqual(replay_match(text).replay(), text)
 
     def test_each_bend_changes_most_texts(self) -> None:
         replay = drawn_replay(random.Random(8))
-        drawn = drawn_script(random.Random(8))
+        draw = drawn_script(random.Random(8))
         for bends, long in (
             (REPLAY_BENDS, replay),
-            (SCRIPT_BENDS, drawn.script),
+            (SCRIPT_BENDS, draw.script),
         ):
             for bend in bends:
-                found = [bend(long, random.Random(seed)) != long for seed in range(40)]
-                self.assertGreater(sum(found), 10, bend)
+                results = [
+                    bend(long, random.Random(seed)) != long for seed in range(40)
+                ]
+                self.assertGreater(sum(results), 10, bend)
 
     def test_bends_by_hand(self) -> None:
-        chance = random.Random(0)
-        self.assertIn(zero_in_front(b'{"end":2}', chance), (b'{"end":02}',))
-        self.assertEqual(replaced(b"none", rb"\d", chance, lambda _: b"x"), b"none")
+        rng = random.Random(0)
+        self.assertIn(zero_in_front(b'{"end":2}', rng), (b'{"end":02}',))
+        self.assertEqual(replace_one(b"none", rb"\d", rng, lambda _: b"x"), b"none")
         lines = REPLAY.split(b"\n")
-        drop(lines, 1, chance)
+        drop(lines, 1, rng)
         self.assertEqual(lines[1], b'{"do":"close","reply":null}')
         with mock.patch("tests.hostile.bends.REPLIES", (b"null",)):
-            found = collections.Counter(
+            counts = collections.Counter(
                 on_lines(other_reply)(REPLAY, random.Random(seed)) for seed in range(60)
             )
-        self.assertIn(REPLAY.replace(b'{"no":"away"}', b"null"), found)
+        self.assertIn(REPLAY.replace(b'{"no":"away"}', b"null"), counts)
 
     def test_scripts_by_hand(self) -> None:
         lines = [b'1 {"do":"look"}', b"# none"]
@@ -78,16 +80,18 @@ class Bends(unittest.TestCase):
         for seed in range(20):
             lines = []
             long_line(lines, 0, random.Random(seed))
-            sizes.add(len(lines[0]) - len(b"0 ") - MOST_LINE)
+            sizes.add(len(lines[0]) - len(b"0 ") - MAX_LINE)
         self.assertEqual(sizes, {-1, 0, 1})
 
     def test_the_same_seed_makes_the_same_inputs(self) -> None:
-        made = [bent_inputs.replay_of(number, 3, [REPLAY]) for number in range(30)]
+        products = [bent_inputs.replay_of(number, 3, [REPLAY]) for number in range(30)]
         self.assertEqual(
-            made, [bent_inputs.replay_of(number, 3, [REPLAY]) for number in range(30)]
+            products,
+            [bent_inputs.replay_of(number, 3, [REPLAY]) for number in range(30)],
         )
         self.assertNotEqual(
-            made, [bent_inputs.replay_of(number, 4, [REPLAY]) for number in range(30)]
+            products,
+            [bent_inputs.replay_of(number, 4, [REPLAY]) for number in range(30)],
         )
         scripts = [bent_inputs.script_of(number, 3) for number in range(30)]
         self.assertEqual(
@@ -99,21 +103,21 @@ class Bends(unittest.TestCase):
 
 
 class Programs(InTemporary):
-    def program(self, name: str, other: str) -> str:
-        return str(write(self.folder / name, PROGRAM.replace("{other}", other), 0o755))
+    def program(self, name: str, second: str) -> str:
+        return str(write(self.folder / name, PROGRAM.replace("{other}", second), 0o755))
 
-    def differing(self, other: str) -> collections.Counter:
-        kept = self.folder / "kept"
-        kept.mkdir(exist_ok=True)
-        one = self.program("one", "exit 3")
-        two = self.program("two", other)
-        given = bent_inputs.words(
-            [one, two, "--replays", "4", "--scripts", "2", "--keep", str(kept)]
+    def differing(self, second: str) -> collections.Counter:
+        kept_folder = self.folder / "kept"
+        kept_folder.mkdir(exist_ok=True)
+        first = self.program("one", "exit 3")
+        two = self.program("two", second)
+        conditions = bent_inputs.words(
+            [first, two, "--replays", "4", "--scripts", "2", "--keep", str(kept_folder)]
         )
         return collections.Counter(
             name
-            for found in bent_inputs.Comparing(given, self.folder).all()
-            for name in found.differing
+            for result in bent_inputs.Comparing(conditions, self.folder).all()
+            for name in result.differing
         )
 
     def test_the_same_programs(self) -> None:
@@ -128,9 +132,11 @@ class Programs(InTemporary):
 
     def test_faults_have_no_numbers(self) -> None:
         self.assertEqual(
-            bent_inputs.fault_of(bent_inputs.Said(3, b"", b"note\n/tmp/a: event 13\n")),
+            bent_inputs.fault_of(
+                bent_inputs.RunResult(3, b"", b"note\n/tmp/a: event 13\n")
+            ),
             "event N",
         )
         self.assertEqual(
-            bent_inputs.fault_of(bent_inputs.Said(0, b"", b"note\n")), "none"
+            bent_inputs.fault_of(bent_inputs.RunResult(0, b"", b"note\n")), "none"
         )

@@ -1,5 +1,5 @@
-"""What tools/build shows of a build, and what is left of it by earlier times. The
-prover here is a script."""
+"""Runs tools/build with a scripted prover, and checks its progress and the use of
+earlier times."""
 import contextlib
 import io
 import os
@@ -11,7 +11,7 @@ import unittest
 import unittest.mock
 
 from tests import TOP
-from tests.support.output import ran, write
+from tests.support.output import run_call, write
 from tests.test_gate import module
 from tools.prove import bar, prover, version
 from tools.prove.forecast import (
@@ -62,33 +62,33 @@ class Forecasts(unittest.TestCase):
         self.assertEqual(self.forecast(4).share(0), 0)
 
     def test_what_runs_and_what_is_done_counts(self) -> None:
-        found = self.forecast(1)
-        found.begin("low", 10)
-        self.assertAlmostEqual(found.share(60), 0.1)
-        self.assertEqual(found.seconds_left(60), 450)
-        found.end("low", 110)
-        self.assertAlmostEqual(found.share(110), 0.2)
-        self.assertEqual(found.seconds_left(110), 400)
+        forecast = self.forecast(1)
+        forecast.begin("low", 10)
+        self.assertAlmostEqual(forecast.share(60), 0.1)
+        self.assertEqual(forecast.seconds_left(60), 450)
+        forecast.end("low", 110)
+        self.assertAlmostEqual(forecast.share(110), 0.2)
+        self.assertEqual(forecast.seconds_left(110), 400)
 
     def test_a_slow_machine_takes_longer(self) -> None:
-        found = self.forecast(1)
-        found.begin("low", 0)
-        found.end("low", 300)
+        forecast = self.forecast(1)
+        forecast.begin("low", 0)
+        forecast.end("low", 300)
         pace = (300 + TRUST) / (100 + TRUST)
-        self.assertAlmostEqual(found.seconds_left(300), 400 * pace)
+        self.assertAlmostEqual(forecast.seconds_left(300), 400 * pace)
 
     def test_a_crate_that_takes_longer_is_not_taken_as_done(self) -> None:
-        found = self.forecast(1)
-        found.begin("low", 0)
-        self.assertEqual(found.seconds_left(5000), 400 + LAST_PART * 100)
-        self.assertLess(found.share(5000), 0.2)
+        forecast = self.forecast(1)
+        forecast.begin("low", 0)
+        self.assertEqual(forecast.seconds_left(5000), 400 + LAST_PART * 100)
+        self.assertLess(forecast.share(5000), 0.2)
 
     def test_all_done_and_nothing_to_do(self) -> None:
-        found = Forecast(LIBRARIES, {"low"}, {}, 2)
-        self.assertEqual(found.seconds_left(0), 1)
-        found.begin("low", 0)
-        found.end("low", 1)
-        self.assertEqual((found.share(1), found.seconds_left(1)), (1, 0))
+        forecast = Forecast(LIBRARIES, {"low"}, {}, 2)
+        self.assertEqual(forecast.seconds_left(0), 1)
+        forecast.begin("low", 0)
+        forecast.end("low", 1)
+        self.assertEqual((forecast.share(1), forecast.seconds_left(1)), (1, 0))
         self.assertEqual(Forecast(LIBRARIES, set(), {}, 2).share(0), 1)
 
     def test_the_file_names_the_crates(self) -> None:
@@ -96,10 +96,10 @@ class Forecasts(unittest.TestCase):
         self.assertEqual(text_of(seconds_of(text), text), text)
         # a crate without a time gets the median: one may wait for the next gate that is
         # measured
-        named = set(seconds_of(text))
+        seconds = set(seconds_of(text))
         crates = set(prover.libraries_of())
-        self.assertLessEqual(named, crates)
-        self.assertLessEqual(len(crates - named), 1)
+        self.assertLessEqual(seconds, crates)
+        self.assertLessEqual(len(crates - seconds), 1)
 
 
 class Build(unittest.TestCase):
@@ -116,18 +116,18 @@ class Build(unittest.TestCase):
             write(self.top / name, (TOP / name).read_text(), 0o755)
         self.build = module(TOP / "tools" / "build")
         self.record = prover.record_of(self.crates, "bhs_main")
-        for owner, found in (
+        for owner, result in (
             (prover, {"BUILT": self.crates}),
             (self.build, {"libraries_of": lambda: ALL}),
         ):
             self.enterContext(
                 unittest.mock.patch.multiple(
-                    owner, CRATES=self.crates, KIT=kit, TOP=self.top, **found
+                    owner, CRATES=self.crates, KIT=kit, TOP=self.top, **result
                 )
             )
         self.enterContext(unittest.mock.patch.object(version, "KIT", kit))
 
-    def said(self, status: int) -> str:
+    def output(self, status: int) -> str:
         errors = io.StringIO()
         with contextlib.redirect_stdout(errors):
             with unittest.mock.patch.object(self.build, "BAR", bar.Bar(errors, 0)):
@@ -135,26 +135,26 @@ class Build(unittest.TestCase):
         return errors.getvalue()
 
     def test_it_shows_what_is_done_and_what_is_left(self) -> None:
-        said = self.said(0)
-        self.assertIn("meanwhile `./arena` plays without a proof", said)
+        output = self.output(0)
+        self.assertIn("meanwhile `./arena` plays without a proof", output)
         self.assertRegex(
-            said,
+            output,
             r"arena: \[\.{20}\]   \d% 0 of 5 crates are proved, \d.* s, (about \d+ min|less than a "
             r"minute) left; now low\n",
         )
         self.assertRegex(
-            said,
+            output,
             r"\[#+\.+\] +\d+% [34] of 5 crates are proved, \d.* s, .* left; now bhs_main",
         )
         self.assertRegex(
-            said, r"all 5 crates are proved and the programs are built, \d.* s\n$"
+            output, r"all 5 crates are proved and the programs are built, \d.* s\n$"
         )
         self.assertEqual(self.record.with_name("bhs_main").read_text(), "the program")
         self.assertIn("\n# toolchain kit 1\n", self.record.read_text())
         self.assertTrue(prover.is_current(self.record))
 
     def test_files_are_read_again_only_if_one_was_touched(self) -> None:
-        self.said(0)
+        self.output(0)
         self.assertTrue(prover.is_current(self.record))
         write(self.top / "read", "")
         words = write(
@@ -166,7 +166,7 @@ class Build(unittest.TestCase):
         text = source.read_text()
         path = f"{words.parent}:{os.environ['PATH']}"
         with unittest.mock.patch.dict(os.environ, PATH=path):
-            for file, touched, is_same, reads in (
+            for file, touched_value, is_same, reads in (
                 (source, None, True, 0),
                 (source, text, True, 1),
                 (source, None, True, 1),
@@ -177,26 +177,26 @@ class Build(unittest.TestCase):
                 (self.record, self.record.read_text(), True, 5),
                 (self.record, self.record.read_text().replace("0", "1"), False, 6),
             ):
-                if touched is not None:
-                    write(file, touched)
+                if touched_value is not None:
+                    write(file, touched_value)
                     os.utime(file, (1, 1))
                 self.assertEqual(prover.is_current(self.record), is_same)
-                told = (self.top / "read").read_text().splitlines()
-                self.assertEqual(len(told), reads)
+                lines = (self.top / "read").read_text().splitlines()
+                self.assertEqual(len(lines), reads)
 
     def test_words_prove_nothing(self) -> None:
         for words, status in ((["--help"], 0), (["-h"], 0), (["bhs_net"], 2)):
-            found, said, _ = ran(self.build.main, words)
-            self.assertEqual(found, status)
-            self.assertIn("tools/build", said)
+            result, output, _ = run_call(self.build.main, words)
+            self.assertEqual(result, status)
+            self.assertIn("tools/build", output)
         self.assertFalse((self.crates / "low" / "out").exists())
 
     def test_what_is_built_is_not_proved_again(self) -> None:
-        self.said(0)
+        self.output(0)
         late = time.time() + 10
         os.utime(self.crates / "left" / "src" / "lib.rt", (late, late))
         self.assertEqual(
-            self.said(0),
+            self.output(0),
             "arena: the programs are proved and built of the sources as they are\n",
         )
         source = write(self.crates / "left" / "src" / "lib.rt", "changed\n")
@@ -204,36 +204,36 @@ class Build(unittest.TestCase):
             self.build.unbuilt(LIBRARIES, ["low", "left", "right", "bhs_main"]),
             {"left", "bhs_main"},
         )
-        said = self.said(0)
-        self.assertIn("3 of 5 crates are proved", said)
-        self.assertNotIn("the first time", said)
+        output = self.output(0)
+        self.assertIn("3 of 5 crates are proved", output)
+        self.assertNotIn("the first time", output)
         write(source, "broken\n")
-        said = self.said(1)
-        self.assertIn("left was not proved: see crates/left/out/build.log\n", said)
-        self.assertNotIn("all 5 crates are proved", said)
+        output = self.output(1)
+        self.assertIn("left was not proved: see crates/left/out/build.log\n", output)
+        self.assertNotIn("all 5 crates are proved", output)
 
     def test_a_source_that_is_put_in_its_place_is_proved_whatever_its_time(
         self,
     ) -> None:
-        self.said(0)
+        self.output(0)
         source = write(self.crates / "low" / "src" / "lib.rt", "an older one\n")
         os.utime(source, (1, 1))
-        self.assertIn("0 of 5 crates are proved", self.said(0))
+        self.assertIn("0 of 5 crates are proved", self.output(0))
 
     def test_what_changes_meanwhile_is_not_recorded_as_proved(self) -> None:
         change = f"import pathlib\npathlib.Path({str(self.crates / 'low' / 'src' / 'lib.rt')!r}).write_text('new')\n"
         write(self.top / "kit" / "bin" / "rattle-link", LINK + change, 0o755)
         self.assertIn(
-            "arena: the sources have changed meanwhile: run it again\n", self.said(1)
+            "arena: the sources have changed meanwhile: run it again\n", self.output(1)
         )
         self.assertFalse(prover.is_current(self.record))
-        self.said(0)
+        self.output(0)
         self.assertTrue(prover.is_current(self.record))
 
     def test_a_program_that_another_has_replaced_is_built_again(self) -> None:
-        self.said(0)
+        self.output(0)
         program = write(self.record.with_name("bhs_main"), "echo")
-        self.assertIn("4 of 5 crates are proved", self.said(0))
+        self.assertIn("4 of 5 crates are proved", self.output(0))
         self.assertEqual(program.read_text(), "the program")
 
 

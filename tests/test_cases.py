@@ -12,7 +12,7 @@ from arena_lab.support.waiting import is_ready
 from tests import TOP
 from tests.hostile.commands import Lab
 from tests.support.cases import Cases, raise_descriptors
-from tests.support.output import ran
+from tests.support.output import run_call
 from tests.support.program_rows import fault_of
 
 # a descriptor that select.select() does not take
@@ -28,10 +28,10 @@ class Dying(unittest.TestCase):
         cases = Cases(2)
         cases.case("one dies")(dies)
         cases.case("another passes")(lambda program, folder: None)
-        status, printed, _ = ran(cases.command, "usage", ["program"])
+        status, output, _ = run_call(cases.command, "usage", ["program"])
         self.assertEqual(status, 1)
         self.assertEqual(
-            printed,
+            output,
             "FAILED: one dies: KeyError: 'who dies'\nok: another passes\n"
             "1 passed, 1 failed\n",
         )
@@ -49,7 +49,7 @@ class Dying(unittest.TestCase):
 class Waiting(unittest.TestCase):
     @contextlib.contextmanager
     def many(self) -> Iterator[None]:
-        """The bound on descriptors is raised, as far as it may be."""
+        """Raises the limit on descriptors to its maximum."""
         before = resource.getrlimit(resource.RLIMIT_NOFILE)
         raise_descriptors()
         try:
@@ -61,19 +61,19 @@ class Waiting(unittest.TestCase):
 
     def test_a_process_with_thousands_of_sockets_waits(self) -> None:
         with self.many():
-            heard, said = os.pipe()
+            heard, output = os.pipe()
             high = fcntl.fcntl(heard, fcntl.F_DUPFD, HIGH)
             try:
                 self.assertFalse(is_ready(high, 0))
-                os.write(said, b"x")
+                os.write(output, b"x")
                 self.assertTrue(is_ready(high, 10))
             finally:
-                for descriptor in (heard, said, high):
+                for descriptor in (heard, output, high):
                     os.close(descriptor)
 
     def test_nothing_waits_by_select(self) -> None:
         tops = ("arena_lab", "tools", "bench", "examples", "tests")
-        found = [
+        results = [
             f"{path.relative_to(TOP)}: {node.lineno}"
             for top in tops
             for path in sorted((TOP / top).rglob("*.py"))
@@ -83,4 +83,4 @@ class Waiting(unittest.TestCase):
             and isinstance(node.value, ast.Name)
             and node.value.id == "select"
         ]
-        self.assertEqual(found, [])
+        self.assertEqual(results, [])

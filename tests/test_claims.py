@@ -72,8 +72,12 @@ PUBLIC = r"(?m)^\s*pub (?:const )?(?:fn|struct|enum|trait|type|const|mod) {0}\b|
 def faults_of(source: str) -> List[str]:
     """The texts of a file's faults as documents spell them: a capital letter stands for
     a number or a name."""
-    found = FAULT.findall((CRATES / source).read_text(encoding="utf-8"))
-    texts = {one or other for one, other in found} - {"{0}", "{fault}"} - OF_MACHINES
+    outcome_found = FAULT.findall((CRATES / source).read_text(encoding="utf-8"))
+    texts = (
+        {first or second for first, second in outcome_found}
+        - {"{0}", "{fault}"}
+        - OF_MACHINES
+    )
     return [
         re.sub(r"\\\{\w*\\\}", r"[A-Z]+", re.escape(text)) for text in sorted(texts)
     ]
@@ -96,16 +100,16 @@ class Faults(unittest.TestCase):
         the kinds alone."""
         for source, commands in SOURCES.items():
             for command in commands:
-                said = LIKE.get((command, source), "")
-                text = help_of(said or command)
-                self.assertIn(f"`arena {said}" if said else "", help_of(command))
-                told = (
-                    it
-                    for it in faults_of(source)
+                output = LIKE.get((command, source), "")
+                text = help_of(output or command)
+                self.assertIn(f"`arena {output}" if output else "", help_of(command))
+                message = (
+                    fault
+                    for fault in faults_of(source)
                     if source != OF_COMMANDS
-                    or command in TELLS[it.replace("\\", "").partition(" ")[0]]
+                    or command in TELLS[fault.replace("\\", "").partition(" ")[0]]
                 )
-                for fault in told:
+                for fault in message:
                     with self.subTest(command, fault=fault):
                         kind = (
                             fault.partition(" ")[0].rstrip("\\")
@@ -118,20 +122,20 @@ class Faults(unittest.TestCase):
 class Names(unittest.TestCase):
     def test_each_item_that_a_document_names_is_public(self) -> None:
         """Names of the past stand in the first column of their table."""
-        named: Set[Tuple[str, str]] = set()
+        names: Set[Tuple[str, str]] = set()
         for path in documents():
-            text, head, changed = path.read_text(encoding="utf-8").partition(CHANGED)
-            changed = re.sub(r"(?m)^\| .*? \|", "", changed)
-            named |= {
+            text, head, changes = path.read_text(encoding="utf-8").partition(CHANGED)
+            changes = re.sub(r"(?m)^\| .*? \|", "", changes)
+            names |= {
                 (crate, name)
-                for crate, _, name in NAMED.findall(f"{text}{head}{changed}")
+                for crate, _, name in NAMED.findall(f"{text}{head}{changes}")
             }
-        self.assertGreater(len(named), 80)
+        self.assertGreater(len(names), 80)
         hidden = []
-        for crate, name in sorted(named):
+        for crate, name in sorted(names):
             text = "".join(
-                it.read_text(encoding="utf-8")
-                for it in sorted((CRATES / crate / "src").rglob("*.rt"))
+                path.read_text(encoding="utf-8")
+                for path in sorted((CRATES / crate / "src").rglob("*.rt"))
             )
             if not re.search(PUBLIC.format(name), text) and not re.search(
                 rf"(?m)^    fn {name}\b", text

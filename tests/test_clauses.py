@@ -51,15 +51,17 @@ pub fn other()
 """
 
 
-def listed() -> Set[str]:
-    """The functions of the file, each behind its crate."""
-    rows = tomllib.loads(contracts.TESTED.read_text(encoding="utf-8"))["without_clause"]
+def function_names() -> Set[str]:
+    """Returns the function names of the file, each with its crate."""
+    rows = tomllib.loads(contracts.TESTED_FILE.read_text(encoding="utf-8"))[
+        "without_clause"
+    ]
     return {f"{row['crate']} {name}" for row in rows for name in row["functions"]}
 
 
 def named_by_others() -> Dict[str, Set[str]]:
     """Of each crate what other crates and the library tests name behind its name."""
-    found: Dict[str, Set[str]] = collections.defaultdict(set)
+    results: Dict[str, Set[str]] = collections.defaultdict(set)
     for path in (
         *CRATES.glob("*/src/**/*.rt"),
         *(TOP / "tests" / "library").rglob("*.rs"),
@@ -68,36 +70,38 @@ def named_by_others() -> Dict[str, Set[str]]:
             r"\b(bhs_\w+)::(\{[^}]*\}|[\w:]+)", path.read_text(encoding="utf-8")
         ):
             if CRATES / crate not in path.parents:
-                found[crate].update(re.findall(r"\w+", names))
-    return found
+                results[crate].update(re.findall(r"\w+", names))
+    return results
 
 
 def calls_that_want_memory() -> Iterator[Tuple[str, str]]:
     """The crates and names of open functions that take an allocator or can say that
     memory ran out, if another crate names them, or their types."""
     types = contracts.memory_types()
-    named = named_by_others()
+    names = named_by_others()
     for crate in crates_given([]):
         for path in sorted((CRATES / crate / "src").rglob("*.rt")):
-            for one in contracts.contracts_in(path):
+            for contract in contracts.contracts_in(path):
                 wants = types & set(
-                    re.findall(r"\w+", contracts.answer_of(one.signature))
+                    re.findall(r"\w+", contracts.answer_of(contract.signature))
                 )
-                if (wants or "Global" in one.signature) and one.name.partition("::")[
-                    0
-                ] in named[crate]:
-                    yield crate, one.name
+                if (
+                    wants or "Global" in contract.signature
+                ) and contract.name.partition("::")[0] in names[crate]:
+                    yield crate, contract.name
 
 
 class ClausesTest(unittest.TestCase):
     def test_the_table_has_each_function_without_a_clause(self) -> None:
-        table = listed()
-        found = {f"{one.crate} {one.name}" for one in without_clause(crates_given([]))}
+        table = function_names()
+        results = {
+            f"{first.crate} {first.name}" for first in without_clause(crates_given([]))
+        }
         self.assertEqual(
-            sorted(found - table), [], "the table lacks functions without a clause"
+            sorted(results - table), [], "the table lacks functions without a clause"
         )
         self.assertEqual(
-            sorted(table - found),
+            sorted(table - results),
             [],
             "the table has functions that have a clause or are gone",
         )
@@ -136,8 +140,8 @@ class ClausesTest(unittest.TestCase):
 
     def test_methods_are_named_by_their_types(self) -> None:
         names = {
-            one.name
-            for one in functions_in(
+            function.name
+            for function in functions_in(
                 "bhs_server", TOP / "crates/bhs_server/src/connections.rt"
             )
         }
@@ -148,18 +152,24 @@ class ClausesTest(unittest.TestCase):
 
 class ContractsTest(InTemporary):
     def test_functions_have_their_clauses_and_what_they_say(self) -> None:
-        held, law, other = contracts.contracts_in(write(self.folder / "held.rt", CODE))
+        held_links, law, second = contracts.contracts_in(
+            write(self.folder / "held.rt", CODE)
+        )
         self.assertEqual(
-            (held.name, held.words),
+            (held_links.name, held_links.words),
             ("Held::count", "How many there are, with a second line."),
         )
         self.assertEqual(
-            [list(one.clauses) for one in (held, law, other)],
+            [list(first.clauses) for first in (held_links, law, second)],
             [["kept", "-"], ["-"], ["named"]],
         )
-        self.assertEqual(contracts.answer_of(held.signature), "Result<u8, NetFault>")
-        self.assertRegex(held.signature, contracts.WAITS)
-        self.assertEqual(contracts.CHANGED.findall(held.signature), [("room", "")])
+        self.assertEqual(
+            contracts.answer_of(held_links.signature), "Result<u8, NetFault>"
+        )
+        self.assertRegex(held_links.signature, contracts.WAITS)
+        self.assertEqual(
+            contracts.CHANGED_PARAMETER.findall(held_links.signature), [("room", "")]
+        )
 
     def test_types_that_hold_a_fault_of_memory_can_say_it(self) -> None:
         types = contracts.memory_types()
@@ -210,7 +220,7 @@ class ContractsTest(InTemporary):
         self.assertIn("`walks_through_the_removed_node`", page)
 
     def test_crates_of_wrong_bodies_are_there(self) -> None:
-        rows = tomllib.loads(contracts.TESTED.read_text(encoding="utf-8"))[
+        rows = tomllib.loads(contracts.TESTED_FILE.read_text(encoding="utf-8"))[
             "let_through"
         ]
         self.assertEqual(
@@ -224,13 +234,13 @@ class ContractsTest(InTemporary):
         )
 
     def test_edits_that_a_form_refuses_are_there(self) -> None:
-        named = tomllib.loads(contracts.TESTED.read_text(encoding="utf-8"))[
+        names = tomllib.loads(contracts.TESTED_FILE.read_text(encoding="utf-8"))[
             "refused_by_form"
         ]
         self.assertEqual(
             [
                 (crate, name)
-                for crate, names in named.items()
+                for crate, names in names.items()
                 for name in names
                 if not list((CRATES / crate).glob(f"*/{name}.edit"))
             ],

@@ -102,9 +102,9 @@ class Crowded(unittest.TestCase):
         return agent
 
     def test_an_agent_connects_again_while_there_is_no_room(self) -> None:
-        refused = [b'{"no":"%b"}\n' % why for why in (b"full", b"late", b"memory")]
+        refusal = [b'{"no":"%b"}\n' % why for why in (b"full", b"late", b"memory")]
         port = self.serve(
-            [*refused, b"", b'{"board":"","from":null,"ok":"here","ports":2}\n']
+            [*refusal, b"", b'{"board":"","from":null,"ok":"here","ports":2}\n']
         )
         self.assertEqual(self.connect(port).enter("ka"), Here(2, None, ""))
 
@@ -132,9 +132,9 @@ class Clients(Served):
         self.assertRaises(client.UnknownKey, self.connect(port).enter, "zz")
         self.assertRaises(client.KeyTaken, self.connect(port).enter, "ka")
         self.assertRaises(client.NotEntered, self.connect(port).look)
-        other = self.connect(port)
-        other.enter("kb")
-        other.leave()
+        second = self.connect(port)
+        second.enter("kb")
+        second.leave()
         self.assertEqual(self.outcome()[2], "silent")
 
     def test_a_lost_agent_waits_until_the_match_is_over(self) -> None:
@@ -165,8 +165,8 @@ class SearchInC(Served):
                     subprocess.Popen([*command, port, key, "8"], **quiet)
                     for command, key in zip(commands, ("ka", "kb"))
                 ]
-                # one of them accuses and ends; the other does so soon, or is lost and
-                # ends with the match
+                # one agent accuses and ends; the other one ends soon after, or is lost
+                # and ends with the match
                 while all(agent.poll() is None for agent in agents):
                     time.sleep(0.01)
                 for agent in agents:

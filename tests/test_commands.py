@@ -6,7 +6,7 @@ import unittest
 from typing import Iterator, List, NamedTuple, Optional
 
 from tests import TOP
-from tests.hostile.commands import COMMANDS, SERVED
+from tests.hostile.commands import COMMANDS, SERVE
 
 DECLARED = TOP / "crates" / "bhs_command_line" / "src"
 COMMAND = re.compile(r"^    (\w+)::COMMAND,$", re.MULTILINE)
@@ -19,7 +19,7 @@ DEFAULT = re.compile(r'need: Need::Default\("([^"]*)"\)')
 
 
 class Option(NamedTuple):
-    """An option of a command, and its word where none is given."""
+    """A command's option, with the word used if it is absent."""
 
     command: str
     name: str
@@ -63,9 +63,9 @@ def formats() -> str:
     )
 
 
-def tried(option: Option) -> bool:
-    """Whether a hostile tool gives the option to its command."""
-    if option.command == SERVED:
+def is_tried(option: Option) -> bool:
+    """Returns whether a hostile tool gives the option to its command."""
+    if option.command == SERVE:
         tools = sorted((TOP / "tests" / "hostile").glob("*.py"))
         return any(
             f'"--{option.name}"' in tool.read_text(encoding="utf-8") for tool in tools
@@ -78,16 +78,16 @@ def tried(option: Option) -> bool:
 
 class Orders(unittest.TestCase):
     def test_each_order_is_tried(self) -> None:
-        found = commands()
-        self.assertGreater(len(found), 8)
+        result = commands()
+        self.assertGreater(len(result), 8)
         self.assertEqual(
-            sorted({command.words[0] for command in COMMANDS} | {SERVED}), sorted(found)
+            sorted({command.words[0] for command in COMMANDS} | {SERVE}), sorted(result)
         )
 
     def test_the_help_lists_the_orders(self) -> None:
-        listed = rows().partition("\n< Commands:\n")[2].partition("\n<\n")[0]
+        listing = rows().partition("\n< Commands:\n")[2].partition("\n<\n")[0]
         self.assertEqual(
-            re.findall(r"^<   (\w+) ", listed, re.MULTILINE), [*commands(), "help"]
+            re.findall(r"^<   (\w+) ", listing, re.MULTILINE), [*commands(), "help"]
         )
 
     def test_the_page_of_formats_has_each_order_and_sends_to_its_help(self) -> None:
@@ -116,4 +116,6 @@ class Options(unittest.TestCase):
                     self.assertIn(f"[default: {option.default}]", line.group())
 
     def test_a_hostile_tool_tries_each_option(self) -> None:
-        self.assertEqual([option for option in self.declared if not tried(option)], [])
+        self.assertEqual(
+            [option for option in self.declared if not is_tried(option)], []
+        )

@@ -7,7 +7,7 @@ import subprocess
 import unittest
 from typing import Iterator, Tuple
 
-from arena_lab.rules.model import played
+from arena_lab.rules.model import replay_match
 from tests import TOP
 from tools.prove.prover import below, libraries_of
 
@@ -38,8 +38,8 @@ def documents() -> Iterator[pathlib.Path]:
         yield from sorted(TOP.glob(pattern))
 
 
-def traced() -> Iterator[Tuple[str, str]]:
-    """Each function of the traces, with the file that has it."""
+def traced_functions() -> Iterator[Tuple[str, str]]:
+    """Yields each function of the traces with its source file."""
     text = ARCHITECTURE.read_text(encoding="utf-8")
     for head in TRACES:
         section = text.partition(head)[2].partition("\n## ")[0]
@@ -50,9 +50,9 @@ def traced() -> Iterator[Tuple[str, str]]:
 
 class Traces(unittest.TestCase):
     def test_each_function_stands_in_its_file(self) -> None:
-        found = list(traced())
-        self.assertGreater(len(found), 40)
-        for name, file in found:
+        functions = list(traced_functions())
+        self.assertGreater(len(functions), 40)
+        for name, file in functions:
             with self.subTest(name, file=file):
                 self.assertRegex(
                     (TOP / "crates" / file).read_text(encoding="utf-8"),
@@ -65,17 +65,17 @@ class Surface(unittest.TestCase):
         rows = ARCHITECTURE.read_text(encoding="utf-8").partition(
             "\n## Names that have changed\n"
         )[2]
-        found = [
+        results = [
             name
             for row in re.findall(r"^\| .*? \| (.*?) \|", rows, re.MULTILINE)
             for name in re.findall(r"`(bhs_\w+)::(?:\w+::)?(\w+)`", row)
         ]
-        self.assertGreater(len(found), 12)
-        for crate, name in found:
+        self.assertGreater(len(results), 12)
+        for crate, name in results:
             with self.subTest(crate, name=name):
                 text = "".join(
-                    it.read_text(encoding="utf-8")
-                    for it in (TOP / "crates" / crate / "src").rglob("*.rt")
+                    path.read_text(encoding="utf-8")
+                    for path in (TOP / "crates" / crate / "src").rglob("*.rt")
                 )
                 self.assertRegex(
                     text, rf"\b(fn|struct|enum|trait|type) {name}\b|pub use .*::{name};"
@@ -84,13 +84,13 @@ class Surface(unittest.TestCase):
 
 class Theorems(unittest.TestCase):
     def test_theorems_that_are_named_are_laws(self) -> None:
-        named = {
-            found
+        names = {
+            result
             for path in documents()
-            for found in NAMED.findall(path.read_text(encoding="utf-8"))
+            for result in NAMED.findall(path.read_text(encoding="utf-8"))
         }
-        self.assertGreater(len(named), 3)
-        for module, name in sorted(named):
+        self.assertGreater(len(names), 3)
+        for module, name in sorted(names):
             with self.subTest(module, name=name):
                 text = (TOP / "crates" / THEOREMS / "src" / f"{module}.rt").read_text(
                     encoding="utf-8"
@@ -107,14 +107,16 @@ class Theorems(unittest.TestCase):
 
 class Crates(unittest.TestCase):
     def test_crates_that_are_named_are_there(self) -> None:
-        found = {
+        results = {
             (path.name, name)
             for path in documents()
             if path.name not in MADE
             for name in re.findall(r"\bbhs_\w+", path.read_text(encoding="utf-8"))
         }
-        self.assertGreater(len(found), 50)
-        self.assertEqual(sorted(it for it in found if it[1] not in libraries_of()), [])
+        self.assertGreater(len(results), 50)
+        self.assertEqual(
+            sorted(result for result in results if result[1] not in libraries_of()), []
+        )
 
 
 class Links(unittest.TestCase):
@@ -123,7 +125,7 @@ class Links(unittest.TestCase):
             text = path.read_text(encoding="utf-8").replace(r"\|", "")
             for rows in re.findall(r"(?:^\|.*\n)+", text, re.MULTILINE):
                 lines = re.sub("`[^`\n]*`", "", rows).splitlines()
-                self.assertEqual(len({it.count("|") for it in lines}), 1, rows)
+                self.assertEqual(len({line.count("|") for line in lines}), 1, rows)
 
     def test_links_lead_to_files(self) -> None:
         for path in documents():
@@ -136,10 +138,10 @@ class Links(unittest.TestCase):
         for path in documents():
             if path.name in MADE:
                 continue
-            for found in PATH.findall(path.read_text(encoding="utf-8")):
-                if not found.startswith(MADE):
-                    with self.subTest(path.name, path=found):
-                        self.assertTrue((TOP / found).exists())
+            for result in PATH.findall(path.read_text(encoding="utf-8")):
+                if not result.startswith(MADE):
+                    with self.subTest(path.name, path=result):
+                        self.assertTrue((TOP / result).exists())
 
 
 class Replays(unittest.TestCase):
@@ -153,16 +155,16 @@ class Replays(unittest.TestCase):
             r"^    (.*\n)", section.partition("\nIn the head")[0], re.MULTILINE
         )
         self.assertEqual(len(lines), 5)
-        self.assertEqual(played("".join(lines)).replay(), "".join(lines))
+        self.assertEqual(replay_match("".join(lines)).replay(), "".join(lines))
 
 
 class Toolchain(unittest.TestCase):
     @unittest.skipUnless(shutil.which("rt"), "no rt")
     def test_a_kit_that_is_named_is_the_one_that_is_installed(self) -> None:
-        said = subprocess.run(
+        output = subprocess.run(
             ["rt", "version"], stdout=subprocess.PIPE, text=True, check=True
         ).stdout
         for path in documents():
-            for named in KIT.findall(path.read_text(encoding="utf-8")):
+            for names in KIT.findall(path.read_text(encoding="utf-8")):
                 with self.subTest(path.name):
-                    self.assertIn(named, said)
+                    self.assertIn(names, output)

@@ -1,18 +1,18 @@
-"""The rehearsals that the program is compared with: worked calls, and what the drawn
-ones have in them."""
+"""Checks the generator of random rehearsals: worked examples, and coverage of
+events."""
 import collections
 import unittest
 from typing import Counter
 
 from arena_lab.rules.model import Match, Setup
 from arena_lab.rules.rehearsal import Ready, Sessions
-from tests.support.drawn_rehearsals import drawn
+from tests.support.drawn_rehearsals import draw_rehearsal
 
 TRIANGLE = [(0, 0, 1, 0), (1, 1, 2, 0), (2, 1, 0, 1)]
 
 
 class Rehearsals(unittest.TestCase):
-    """Rehearsals of the built-in tournament, and what the drawn ones have in them."""
+    """Rehearses the built-in tournament, and checks the events of random rehearsals."""
 
     def rehearsal(self) -> Sessions:
         return Sessions(
@@ -32,8 +32,8 @@ class Rehearsals(unittest.TestCase):
             ],
         )
         self.assertEqual(stage.line(7, None), [])
-        arrived = {"ok": "here", "ports": 2, "from": 0, "board": ""}
-        self.assertEqual(stage.draw(0, 5), [(7, arrived), (7, arrived)])
+        arrival = {"ok": "here", "ports": 2, "from": 0, "board": ""}
+        self.assertEqual(stage.draw(0, 5), [(7, arrival), (7, arrival)])
         self.assertEqual(
             [event["do"] for event in stage.ready[0].match.log],
             ["enter", "depart", "deliver", "look", "leave"],
@@ -58,20 +58,20 @@ class Rehearsals(unittest.TestCase):
             b'{"do":"enter","key":"zz"}',
             b'{"do":"enter","key":"ka"}',
         ] + [b'{"do":"enter","key":"ka"}']
-        told = [
+        message = [
             stage.bytes_of(conn, line + b"\n")[0][1] for conn, line in enumerate(lines)
         ]
         self.assertEqual(
-            [reply.get("no") for reply in told], ["enter", "key", None, "taken"]
+            [reply.get("no") for reply in message], ["enter", "key", None, "taken"]
         )
 
     def test_drawn_rehearsals_have_each_kind_of_call(self) -> None:
-        seen: Counter[str] = collections.Counter()
+        counts: Counter[str] = collections.Counter()
         for agents in range(1, 65):
-            rehearsal = drawn(agents)
-            self.assertEqual(len(rehearsal.script), len(rehearsal.printed))
-            seen += rehearsal.seen
-        wanted = [
+            rehearsal = draw_rehearsal(agents)
+            self.assertEqual(len(rehearsal.script), len(rehearsal.expected))
+            counts += rehearsal.events
+        expectation = [
             *(f"pool of {size}" for size in range(65)),
             "held",
             "arrival",
@@ -98,4 +98,4 @@ class Rehearsals(unittest.TestCase):
                 )
             ),
         ]
-        self.assertEqual([kind for kind in wanted if not seen[kind]], [])
+        self.assertEqual([kind for kind in expectation if not counts[kind]], [])

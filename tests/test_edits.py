@@ -8,7 +8,7 @@ import tempfile
 import unittest
 import unittest.mock
 
-from tests.support.output import InTemporary, ran, write
+from tests.support.output import InTemporary, run_call, write
 from tools.prove import edits
 from tools.prove import prover
 
@@ -50,12 +50,12 @@ print(f"only={len(functions)} proved=0")
 
 
 class Functions(unittest.TestCase):
-    def at(self, text: str, path: str = "src/halls/doors.rt", *others: str) -> str:
+    def at(self, text: str, path: str = "src/halls/doors.rt", *args: str) -> str:
         """The function that a text of CODE stands in, if CODE is that file of a crate,
         beside files of other texts."""
         folder = pathlib.Path(self.enterContext(tempfile.TemporaryDirectory()))
         for file, code in (path, CODE), *(
-            (f"src/other_{place}.rt", other) for place, other in enumerate(others)
+            (f"src/other_{index}.rt", second) for index, second in enumerate(args)
         ):
             write(folder / file, code)
         return edits.function_at(folder, path, CODE.index(text)) or "none"
@@ -69,24 +69,24 @@ class Functions(unittest.TestCase):
         )
 
     def test_a_method_stands_in_the_module_of_its_type(self) -> None:
-        others = (
+        rest = (
             "pub struct Halls;\n",
             "#[derive(Clone)]\npub(crate) struct Hall {\n",
             "pub enum Fault {\n",
         )
         self.assertEqual(
-            self.at("self.count", "src/lib.rt", *others), "other_1::Hall::told"
+            self.at("self.count", "src/lib.rt", *rest), "other_1::Hall::told"
         )
         self.assertEqual(
-            self.at("Fault::Broken", "src/lib.rt", *others),
+            self.at("Fault::Broken", "src/lib.rt", *rest),
             "other_2::FaultFromBroken::from",
         )
         self.assertEqual(
-            self.at("self.count", "src/lib.rt", *others, "struct Hall;"), "Hall::told"
+            self.at("self.count", "src/lib.rt", *rest, "struct Hall;"), "Hall::told"
         )
 
     def test_an_impl_is_named_by_the_words_of_its_trait(self) -> None:
-        for head, named in (
+        for head, names in (
             ("impl Hall {", "Hall"),
             ("impl<'h, R: Read> Hall<'h, R> {", "Hall"),
             ("impl fmt::Display for Fault {", "FaultDisplay"),
@@ -96,7 +96,7 @@ class Functions(unittest.TestCase):
         ):
             with self.subTest(head=head):
                 self.assertEqual(
-                    edits.type_of(head), ("Hall" if named == "Hall" else "Fault", named)
+                    edits.type_of(head), ("Hall" if names == "Hall" else "Fault", names)
                 )
 
     def test_a_constant_stands_in_no_function(self) -> None:
@@ -108,13 +108,13 @@ class Reading(InTemporary):
         super().setUp()
         write(self.folder / "src" / "lib.rt", CODE)
 
-    def read(self, *lines: str) -> edits.Edit:
+    def read_edit(self, *lines: str) -> edits.Edit:
         path = self.folder / "one.edit"
         path.write_text("\n".join(["file: src/lib.rt", *lines]) + "\n")
         return edits.read_edit(path, self.folder)
 
     def test_pairs_change_the_text_one_after_the_other(self) -> None:
-        edit = self.read(
+        edit = self.read_edit(
             "old:     2 * number",
             "new:     3 * number",
             "old: 3 * number",
@@ -127,7 +127,8 @@ class Reading(InTemporary):
 
     def test_an_edit_may_name_what_is_checked(self) -> None:
         self.assertEqual(
-            self.read("only: hosting", "old: = 7;", "new: = 8;").function, "hosting"
+            self.read_edit("only: hosting", "old: = 7;", "new: = 8;").function,
+            "hosting",
         )
 
     def test_edits_that_can_not_be_tried(self) -> None:
@@ -137,13 +138,13 @@ class Reading(InTemporary):
             ["old: nowhere", "new: 1"],
             ["new: 1"],
         ):
-            with self.subTest(lines=lines), self.assertRaises(edits.BadEdit):
-                self.read(*lines)
+            with self.subTest(lines=lines), self.assertRaises(edits.EditError):
+                self.read_edit(*lines)
 
 
 def has_bodies(crate: str) -> bool:
-    """Whether a function of a crate has a contract and a body: in a crate of laws each
-    body is empty."""
+    """Returns whether a function of a crate has a contract and a body: in a crate of
+    laws each body is empty."""
     body = re.compile(r"\bensures\b(?:(?!\bfn ).)*?^ *\{$", re.M | re.S)
     sources = (prover.CRATES / crate / "src").rglob("*.rt")
     return any(body.search(path.read_text()) for path in sources)
@@ -159,7 +160,9 @@ class Kept(unittest.TestCase):
                     edit = edits.read_edit(path, prover.CRATES / name)
                     self.assertTrue(all(old != new for _, old, new in edit.changes))
                     # that a proof does not fit another definition shows nothing
-                    self.assertEqual({it[0][:4] for it in edit.changes}, {"src/"})
+                    self.assertEqual(
+                        {change[0][:4] for change in edit.changes}, {"src/"}
+                    )
 
     def test_the_gate_tries_one_to_ten_of_a_crate_with_code(self) -> None:
         for name in prover.libraries_of():
@@ -169,7 +172,7 @@ class Kept(unittest.TestCase):
 
 
 class Answers(unittest.TestCase):
-    def told(self, only: str, whole: str, old: str = "2 * number\n}") -> str:
+    def output(self, only: str, whole: str, old: str = "2 * number\n}") -> str:
         """What is printed of an edit of a crate whose checks end so."""
         folder = pathlib.Path(self.enterContext(tempfile.TemporaryDirectory()))
         for name, text in (("only", only), ("whole", whole), ("lib.rt", CODE)):
@@ -182,18 +185,18 @@ class Answers(unittest.TestCase):
         )
         self.enterContext(
             unittest.mock.patch.object(
-                edits, "words_of", lambda *_: [sys.executable, "-c", PROVER]
+                edits, "prover_command", lambda *_: [sys.executable, "-c", PROVER]
             )
         )
-        answers, printed, _ = ran(
-            list, edits.tried({"low": []}, "low", [pathlib.Path("one.edit")])
+        answers, output, _ = run_call(
+            list, edits.try_edits({"low": []}, "low", [pathlib.Path("one.edit")])
         )
-        self.assertEqual(answers, ["refused: " in printed])
-        return printed.strip()
+        self.assertEqual(answers, ["refused: " in output])
+        return output.strip()
 
     def test_the_function_is_refused(self) -> None:
         self.assertEqual(
-            self.told(
+            self.output(
                 "./src/lib.rt:9:5: error: it is not proved\nonly=1 proved=0",
                 "logic=proved",
             ),
@@ -203,23 +206,23 @@ class Answers(unittest.TestCase):
     def test_another_function_is_refused(self) -> None:
         self.assertIn(
             "refused: the whole crate",
-            self.told("only=1 proved=1", "logic=not-proved functions=2"),
+            self.output("only=1 proved=1", "logic=not-proved functions=2"),
         )
         self.assertIn(
             "refused: the whole crate",
-            self.told("", "logic=not-proved functions=2", "MOST"),
+            self.output("", "logic=not-proved functions=2", "MOST"),
         )
 
     def test_a_crate_that_is_still_proved_is_not_refused(self) -> None:
         self.assertIn(
-            "NOT REFUSED", self.told("only=1 proved=1", "logic=proved functions=2")
+            "NOT REFUSED", self.output("only=1 proved=1", "logic=proved functions=2")
         )
 
     def test_a_function_that_the_crate_lacks_is_named_wrongly(self) -> None:
         lacks = "rattle: error: `low` has no function `double`: help: write the name that a check prints after `fn`"
         self.assertIn(
             "BAD EDIT: a line `only: PATH` must name",
-            self.told(lacks, "logic=not-proved functions=2"),
+            self.output(lacks, "logic=not-proved functions=2"),
         )
 
     def test_a_remark_is_no_reason(self) -> None:
@@ -233,11 +236,11 @@ class Answers(unittest.TestCase):
 
     def test_what_is_not_read_is_not_tried(self) -> None:
         self.assertIn(
-            "BAD EDIT", self.told("only=0 proved=0", "error: expected an expression")
+            "BAD EDIT", self.output("only=0 proved=0", "error: expected an expression")
         )
         self.assertIn(
             "BAD EDIT",
-            self.told(
+            self.output(
                 "src/lib.rt:3:1: error: `MOST`: it is not in scope\nonly=1 proved=0", ""
             ),
         )
@@ -288,35 +291,35 @@ class Together(unittest.TestCase):
         write(self.folder / "src" / "lib.rt", CODE)
         self.enterContext(unittest.mock.patch.object(edits, "CRATES", crates))
 
-    def refused(self, *said: str):
+    def refusals(self, *texts: str):
         """What is refused of two edits that are made at once, by a prover that says
         this."""
-        with tempfile.TemporaryDirectory() as kept:
+        with tempfile.TemporaryDirectory() as record:
             words = [
                 sys.executable,
                 "-c",
                 "import sys; print(sys.argv[1])",
-                "\n".join(said),
+                "\n".join(texts),
             ]
             return edits.refused_together(
-                edits.Prover("low", words, kept), [self.DOUBLE, self.TOLD]
+                edits.Prover("low", words, record), [self.DOUBLE, self.TOLD]
             )
 
     def test_edits_of_different_functions_are_made_at_once(self) -> None:
-        chosen, left = edits.together(
+        chosen, remaining = edits.together(
             [self.MOST, self.DOUBLE, self.OTHER, self.TOLD], self.folder
         )
         self.assertEqual(chosen, [self.DOUBLE, self.TOLD])
-        self.assertEqual(left, [self.MOST, self.OTHER])
+        self.assertEqual(remaining, [self.MOST, self.OTHER])
 
     def test_each_is_refused_by_its_own_function(self) -> None:
-        told = self.refused(
+        message = self.refusals(
             "fn low::double: no proof: `search` did not prove `ensures`",
             "fn low::Hall::told: not proved",
             "only=2 proved=0",
         )
         self.assertEqual(
-            told,
+            message,
             {
                 "triples": "double: no proof: `search` did not prove `ensures`",
                 "counts_no_more": "Hall::told: not proved",
@@ -326,7 +329,7 @@ class Together(unittest.TestCase):
     def test_a_caller_is_not_refused_for_what_it_calls(self) -> None:
         self.assertEqual(
             list(
-                self.refused(
+                self.refusals(
                     "fn low::double: no proof: `search` did not prove `ensures`",
                     "fn low::Hall::told: not proved; it calls `double`, which is not proved",
                     "only=2 proved=0",
@@ -341,15 +344,15 @@ class Together(unittest.TestCase):
         )
         error = "./proofs/Hall/told/Answers.antt:7:5: error: `returns`: the two types differ"
         self.assertEqual(
-            self.refused(error, caller, "only=2 proved=0"),
+            self.refusals(error, caller, "only=2 proved=0"),
             {"counts_no_more": f"Hall::told: {error}"},
         )
-        for other in (
+        for second in (
             "./proofs/Hall/told/Answers.antt:7:5: error: `met` was not admitted",
             "./proofs/double/Answers.antt:7:5: error: `returns`: the two types differ",
             "./proofs/Hall/told/more/Answers.antt:7:5: error: `returns`: the two types differ",
         ):
-            self.assertEqual(self.refused(other, caller, "only=2 proved=0"), {})
+            self.assertEqual(self.refusals(second, caller, "only=2 proved=0"), {})
 
     def test_one_edit_that_is_not_tried_leaves_the_others_together(self) -> None:
         bad = edits.Edit(
@@ -357,18 +360,18 @@ class Together(unittest.TestCase):
             [("src/lib.rt", "Fault::Broken\n", "MOST\n")],
             "FaultFromBroken::from",
         )
-        with tempfile.TemporaryDirectory() as kept:
+        with tempfile.TemporaryDirectory() as record:
             prover_of_it = edits.Prover(
-                "low", [sys.executable, "-c", PROVER_OF_MANY], kept
+                "low", [sys.executable, "-c", PROVER_OF_MANY], record
             )
             with unittest.mock.patch.object(
                 edits.Prover, "lines", autospec=True, side_effect=edits.Prover.lines
             ) as lines:
-                told = edits.refused_together(
+                message = edits.refused_together(
                     prover_of_it, [self.DOUBLE, self.TOLD, self.IMPORT, bad]
                 )
         self.assertEqual(
-            told,
+            message,
             {
                 "triples": "double: not proved",
                 "counts_no_more": "Hall::told: not proved",
@@ -380,13 +383,13 @@ class Together(unittest.TestCase):
 
     def test_a_check_that_does_not_end_refuses_nothing(self) -> None:
         self.assertEqual(
-            self.refused(
+            self.refusals(
                 "fn low::double: no proof: `search` did not prove `ensures`", "killed"
             ),
             {},
         )
         self.assertEqual(
-            self.refused(
+            self.refusals(
                 "src/lib.rt:3:1: error: `MOST`: it is not in scope", "only=2 proved=0"
             ),
             {},

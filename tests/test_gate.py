@@ -12,7 +12,7 @@ import unittest.mock
 from typing import List, Tuple
 
 from tests import TOP
-from tests.support.output import ran, write
+from tests.support.output import run_call, write
 from tools import parts
 from tools.prove import prover
 
@@ -20,11 +20,11 @@ from tools.prove import prover
 def module(path: pathlib.Path):
     """A program without the ending of a module."""
     loader = importlib.machinery.SourceFileLoader(path.name, str(path))
-    made = importlib.util.module_from_spec(
+    module = importlib.util.module_from_spec(
         importlib.util.spec_from_loader(path.name, loader)
     )
-    loader.exec_module(made)
-    return made
+    loader.exec_module(module)
+    return module
 
 
 gate = module(TOP / "tools" / "gate")
@@ -32,44 +32,48 @@ gate = module(TOP / "tools" / "gate")
 
 def files_of(folder: pathlib.Path) -> List[str]:
     return sorted(
-        str(it.relative_to(folder)) for it in folder.rglob("*") if it.is_file()
+        str(path.relative_to(folder)) for path in folder.rglob("*") if path.is_file()
     )
 
 
 class Gate(unittest.TestCase):
-    def told(self, text: str) -> Tuple[Tuple, str]:
-        found, printed, _ = ran(gate.run, [sys.executable, "-c", text])
-        return found, printed
+    def run_part(self, text: str) -> Tuple[Tuple, str]:
+        result, output, _ = run_call(gate.run, [sys.executable, "-c", text])
+        return result, output
 
     def test_the_last_line_is_held_back(self) -> None:
         text = "print('1 passed, 0 failed'); print('more'); print('2 passed, 3 failed'); exit(1)"
         self.assertEqual(
-            self.told(text), ((1, (2, 3), False), "1 passed, 0 failed\nmore\n")
+            self.run_part(text), ((1, (2, 3), False), "1 passed, 0 failed\nmore\n")
         )
-        self.assertEqual(self.told("print('more')"), ((0, None, False), "more\n"))
+        self.assertEqual(self.run_part("print('more')"), ((0, None, False), "more\n"))
 
     def test_a_command_that_fails_counts_so(self) -> None:
-        for status, counts, wanted in (
+        for status, counts, expectation in (
             (0, None, (1, 0)),
             (1, None, (0, 1)),
             (1, (5, 0), (5, 1)),
             (1, (5, 2), (5, 2)),
         ):
-            self.assertEqual(gate.counted(parts.Ran(status, counts)), wanted)
+            self.assertEqual(
+                gate.count_tests(parts.CommandEnd(status, counts)), expectation
+            )
 
     def test_a_command_that_plays_nothing_and_skips_nothing_fails(self) -> None:
-        self.assertEqual(gate.counted(parts.Ran(0, (0, 0))), (0, 1))
-        self.assertEqual(gate.counted(parts.Ran(0, (0, 0), has_skipped=True)), (0, 0))
+        self.assertEqual(gate.count_tests(parts.CommandEnd(0, (0, 0))), (0, 1))
+        self.assertEqual(
+            gate.count_tests(parts.CommandEnd(0, (0, 0), has_skipped=True)), (0, 0)
+        )
 
     def test_what_was_skipped_is_kept_for_the_end(self) -> None:
-        with unittest.mock.patch.object(parts, "skipped", []):
-            said = "print('skipped: one: no spin'); print('2 passed, 0 failed')"
-            self.assertEqual(self.told(said), ((0, (2, 0), True), ""))
+        with unittest.mock.patch.object(parts, "skip_reasons", []):
+            output = "print('skipped: one: no spin'); print('2 passed, 0 failed')"
+            self.assertEqual(self.run_part(output), ((0, (2, 0), True), ""))
             with unittest.mock.patch.object(gate.shutil, "which", return_value=None):
                 self.assertTrue(gate.lacks_compiler(["examples/contest.py"]))
                 self.assertFalse(gate.lacks_compiler(["-m", "tests.hostile.spoilers"]))
             self.assertEqual(
-                parts.skipped,
+                parts.skip_reasons,
                 ["one: no spin", "examples/contest.py: Debian's gcc is not installed"],
             )
 
@@ -124,11 +128,15 @@ class Gate(unittest.TestCase):
             records = [
                 prover.record_of(tree / "crates", name) for name in ("low", "bhs_main")
             ]
-            self.assertEqual([prover.is_current(it) for it in records], [True, True])
+            self.assertEqual(
+                [prover.is_current(record) for record in records], [True, True]
+            )
             (tree / "crates" / "low" / "src" / "lib.rt").write_text(
                 "changed while the copy was proved\n"
             )
-            self.assertEqual([prover.is_current(it) for it in records], [False, False])
+            self.assertEqual(
+                [prover.is_current(record) for record in records], [False, False]
+            )
 
     def edits_after(self, *lines: str):
         """What is tried, and counted, of the edits of two crates after these lines of
@@ -136,10 +144,10 @@ class Gate(unittest.TestCase):
         crates = pathlib.Path(self.enterContext(tempfile.TemporaryDirectory()))
         for name in ("low", "high"):
             write(crates / name / "must-fail" / "one.edit", "")
-        tried = []
+        trial = []
 
         def tries(words, **_):
-            tried.append(words[-1])
+            trial.append(words[-1])
             return subprocess.CompletedProcess(
                 words, 0, f"edit {words[-1]}/one: refused\n1 passed, 0 failed\n"
             )
@@ -151,38 +159,38 @@ class Gate(unittest.TestCase):
             gate.subprocess, "run", tries
         ), contextlib.redirect_stdout(
             io.StringIO()
-        ) as printed:
+        ) as output:
             background = gate.Background()
             edits = gate.Edits(background, crates)
             for line in lines:
                 edits.hear(line)
             background.has_all.set()
-            counts = edits.ended()
-        return sorted(tried), counts, printed.getvalue()
+            counts = edits.wait()
+        return sorted(trial), counts, output.getvalue()
 
     def test_edits_are_tried_once_what_their_crate_stands_on_is_proved(self) -> None:
         self.assertEqual(
             self.edits_after("rt: low proved")[:2], (["high", "low"], (2, 0))
         )
-        tried, counts, printed = self.edits_after(
+        trial, counts, output = self.edits_after(
             "rt: low NOT PROVED", "rt: low: its tests are proved"
         )
-        self.assertEqual((tried, counts), (["low"], (1, 1)))
-        self.assertIn("edit low/one: refused\n", printed)
-        self.assertIn("the edits of high are not tried", printed)
+        self.assertEqual((trial, counts), (["low"], (1, 1)))
+        self.assertIn("edit low/one: refused\n", output)
+        self.assertIn("the edits of high are not tried", output)
 
     def test_what_an_earlier_run_proved_is_proved(self) -> None:
-        kept = "is kept: an earlier run on this machine proved the same files over the same libraries"
+        record = "is kept: an earlier run on this machine proved the same files over the same libraries"
         self.assertEqual(
-            self.edits_after(f"rt: low {kept}")[:2], (["high", "low"], (2, 0))
+            self.edits_after(f"rt: low {record}")[:2], (["high", "low"], (2, 0))
         )
 
     def test_all_is_proved_anew_where_something_is_kept(self) -> None:
-        for kept, last in ((gate.TOP, "--anew"), (gate.TOP / "nowhere", "ci")):
-            with unittest.mock.patch.object(gate, "KEPT", kept):
+        for kept_folder, last in ((gate.TOP, "--anew"), (gate.TOP / "nowhere", "ci")):
+            with unittest.mock.patch.object(gate, "KEPT_FOLDER", kept_folder):
                 self.assertEqual(gate.words_of_ci(["--anew"])[-1], last)
 
     def test_other_words_run_nothing(self) -> None:
-        status, said, _ = ran(gate.main, ["anew"])
+        status, output, _ = run_call(gate.main, ["anew"])
         self.assertEqual(status, 2)
-        self.assertIn("tools/gate [--anew | --played]", said)
+        self.assertIn("tools/gate [--anew | --played]", output)

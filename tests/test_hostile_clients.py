@@ -13,7 +13,7 @@ from tests.hostile import hostile_clients
 from tests.hostile.hostile_attacks import (
     ATTACKS,
     Sizes,
-    Wrong,
+    FailedCheckError,
     has_heard,
     hear,
     hear_end,
@@ -28,7 +28,7 @@ from tests.hostile.hostile_clients import (
     check_table,
     match_of,
 )
-from tests.support.output import InTemporary, ran
+from tests.support.output import InTemporary, run_call
 
 STAND_IN = f"{sys.executable} -m arena_lab"
 SMALL = Sizes(
@@ -46,16 +46,16 @@ CHECKS = 7
 class Attacks(unittest.TestCase):
     def test_the_stand_in_stands_them(self) -> None:
         for attacks in ATTACKS.values():
-            printed = io.StringIO()
+            output = io.StringIO()
             with tempfile.TemporaryDirectory() as name, mock.patch.dict(
                 os.environ, ARENA=STAND_IN
             ):
-                results, printed, _ = ran(
+                results, output, _ = run_call(
                     hostile_clients.besiege, SMALL, attacks, pathlib.Path(name)
                 )
-            self.assertEqual(results.failed, 0, printed)
+            self.assertEqual(results.failed, 0, output)
             self.assertEqual(results.count, len(attacks) + CHECKS)
-            self.assertEqual(printed.count("\n"), results.count)
+            self.assertEqual(output.count("\n"), results.count)
 
 
 class Hearing(unittest.TestCase):
@@ -71,18 +71,18 @@ class Hearing(unittest.TestCase):
         wait_for_lines(self.client, 2)
         self.assertTrue(has_heard(self.client))
         hear(self.client, b"one\n")
-        self.assertRaises(Wrong, hear, self.client, b"one\n")
+        self.assertRaises(FailedCheckError, hear, self.client, b"one\n")
 
     def test_silence_and_the_end_are_told_apart(self) -> None:
-        self.assertRaises(Wrong, hear, self.client, b"one\n")
-        self.assertRaises(Wrong, hear_end, self.client)
+        self.assertRaises(FailedCheckError, hear, self.client, b"one\n")
+        self.assertRaises(FailedCheckError, hear_end, self.client)
         self.server.close()
         hear_end(self.client)
-        self.assertRaises(Wrong, hear, self.client, b"one\n")
+        self.assertRaises(FailedCheckError, hear, self.client, b"one\n")
 
     def test_an_answer_that_is_late_is_wrong(self) -> None:
         self.server.sendall(b"one\n")
-        self.assertRaises(Wrong, hear, self.client, b"one\n", -1.0)
+        self.assertRaises(FailedCheckError, hear, self.client, b"one\n", -1.0)
 
 
 class Checks(InTemporary):
@@ -90,31 +90,33 @@ class Checks(InTemporary):
 
     def test_the_end(self) -> None:
         check_end(self.ENDING)
-        self.assertRaises(Wrong, check_end, self.ENDING._replace(status=-9))
-        self.assertRaises(Wrong, check_end, self.ENDING._replace(is_over=False))
+        self.assertRaises(FailedCheckError, check_end, self.ENDING._replace(status=-9))
+        self.assertRaises(
+            FailedCheckError, check_end, self.ENDING._replace(is_over=False)
+        )
 
     def test_memory_is_bounded_by_the_sessions(self) -> None:
         bound = 64 * 1024 + 96 * 100
         sizes = Sizes(sessions=100)
         check_memory(self.ENDING._replace(peak=bound), sizes)
         self.assertRaises(
-            Wrong, check_memory, self.ENDING._replace(peak=bound + 1), sizes
+            FailedCheckError, check_memory, self.ENDING._replace(peak=bound + 1), sizes
         )
 
     def test_replays_and_the_table(self) -> None:
         match = Match(
             Setup(3, [(0, 0, 1, 0), (1, 1, 2, 0), (2, 1, 0, 1)], 0, [2], 2, 10, 8)
         )
-        match.tell(0, {"do": "enter"})
+        match.reply_to(0, {"do": "enter"})
         match.close()
         for number, text in enumerate(
             (match.replay(), match.replay().replace('"ports":2', '"ports":3'), "{}\n")
         ):
             (self.folder / f"match{number}.jsonl").write_text(text)
-        found = [match_of(self.folder, 0)]
+        results = [match_of(self.folder, 0)]
         for number in (1, 2, 3):
-            self.assertRaises(Wrong, match_of, self.folder, number)
-        self.assertEqual(check_replays(found), "1 of 2 events")
+            self.assertRaises(FailedCheckError, match_of, self.folder, number)
+        self.assertEqual(check_replays(results), "1 of 2 events")
         row = "  1 team-0           silent          0    0\n"
-        check_table("  # team             outcome     moves lost\n" + row, found)
-        self.assertRaises(Wrong, check_table, row, found)
+        check_table("  # team             outcome     moves lost\n" + row, results)
+        self.assertRaises(FailedCheckError, check_table, row, results)

@@ -1,4 +1,4 @@
-"""The kills that are drawn, and what is counted in a replay."""
+"""Checks the drawn kill times and the counting of a replay's events."""
 import unittest
 
 from tests import TOP
@@ -19,9 +19,9 @@ class Kills(unittest.TestCase):
         self.assertNotEqual(kills(10, 3), kills(10, 4))
 
     def test_contests_are_short_and_long_in_turn(self) -> None:
-        drawn = kills(6, 1)
-        self.assertEqual([kill.turns for kill in drawn], [SHORT_TURNS, LONG_TURNS] * 3)
-        for kill in drawn:
+        draw = kills(6, 1)
+        self.assertEqual([kill.turns for kill in draw], [SHORT_TURNS, LONG_TURNS] * 3)
+        for kill in draw:
             self.assertLessEqual(
                 kill.after, SHORT if kill.turns == SHORT_TURNS else LONG
             )

@@ -11,8 +11,8 @@ from typing import Dict, Iterator, List, Set, Tuple
 
 from arena_lab.support.built import LAB, TOP
 
-# from the ground up: a package imports from itself and from packages below it; so do
-# the modules that stand in no package
+# in order: a package imports from itself and from lower packages only; the same holds
+# for modules outside of packages
 PACKAGES = (
     "support",
     "rules",
@@ -54,22 +54,22 @@ def modules() -> Dict[str, pathlib.Path]:
     }
 
 
-def imported(text: str, names: Set[str]) -> Iterator[str]:
+def imports_of(text: str, names: Set[str]) -> Iterator[str]:
     """Which of the modules a file's text imports, when it is loaded or later."""
     for node in ast.walk(ast.parse(text)):
-        found = []
+        results = []
         if isinstance(node, ast.Import):
-            found = [it.name for it in node.names]
+            results = [it.name for it in node.names]
         elif isinstance(node, ast.ImportFrom) and node.module:
-            found = [node.module, *(f"{node.module}.{it.name}" for it in node.names)]
+            results = [node.module, *(f"{node.module}.{it.name}" for it in node.names)]
         yield from names.intersection(
             name.removeprefix("arena_lab.")
-            for name in found
+            for name in results
             if name.startswith("arena_lab.")
         )
 
 
-def others() -> Iterator[pathlib.Path]:
+def other_programs() -> Iterator[pathlib.Path]:
     """Programs in Python beside the lab, which no type checker reads."""
     for folder in ("bench", "examples", "experiments", "tests", "tools"):
         for path in (TOP / folder).rglob("*"):
@@ -85,10 +85,10 @@ def row_of(module: str) -> Tuple[int, str]:
     """Where a module stands in FOLDERS, by the longest name of a folder that has it,
     and that folder."""
     _, row, folder = max(
-        (len(it), row, it)
+        (len(folder), row, folder)
         for row, folders in enumerate(FOLDERS)
-        for it in folders
-        if f"{module}.".startswith(f"{it}.")
+        for folder in folders
+        if f"{module}.".startswith(f"{folder}.")
     )
     return row, folder
 
@@ -98,7 +98,7 @@ def folder_of(path: pathlib.Path) -> str:
     return ".".join(path.relative_to(TOP).parent.parts[:2])
 
 
-def needed(text: str) -> Iterator[str]:
+def modules_needed(text: str) -> Iterator[str]:
     """The modules of the repository that a file's text imports, when it is loaded or
     later."""
     tops = {it.partition(".")[0] for row in FOLDERS for it in row}
@@ -119,7 +119,7 @@ def needed(text: str) -> Iterator[str]:
                 ).exists() else node.module
 
 
-def taken(text: str) -> Iterator[Tuple[str, str]]:
+def names_taken(text: str) -> Iterator[Tuple[str, str]]:
     """What a file takes out of the lab: modules, and names in them."""
     for node in ast.walk(ast.parse(text)):
         if (
@@ -130,7 +130,7 @@ def taken(text: str) -> Iterator[Tuple[str, str]]:
             yield from ((node.module, it.name) for it in node.names)
 
 
-def defined(module: str) -> Set[str]:
+def names_defined(module: str) -> Set[str]:
     """The names that a module defines or imports, by its text."""
     spec = importlib.util.find_spec(module)
     text = (
@@ -138,22 +138,22 @@ def defined(module: str) -> Set[str]:
         if spec and spec.origin
         else ""
     )
-    found: Set[str] = set()
+    results: Set[str] = set()
     for node in ast.parse(text).body:
         if isinstance(node, (ast.FunctionDef, ast.ClassDef)):
-            found.add(node.name)
+            results.add(node.name)
         elif isinstance(node, (ast.Import, ast.ImportFrom)):
-            found.update(it.asname or it.name for it in node.names)
+            results.update(it.asname or it.name for it in node.names)
         else:
-            found.update(
-                it.id
-                for it in ast.walk(node)
-                if isinstance(it, ast.Name) and isinstance(it.ctx, ast.Store)
+            results.update(
+                node.id
+                for node in ast.walk(node)
+                if isinstance(node, ast.Name) and isinstance(node.ctx, ast.Store)
             )
-    return found
+    return results
 
 
-def listed() -> List[str]:
+def packages_of_table() -> List[str]:
     """The packages in the table of the lab's page."""
     table = (
         (LAB / "README.md")
@@ -168,23 +168,25 @@ class Folders(unittest.TestCase):
     def setUp(self) -> None:
         self.needed = [
             (path, name)
-            for path in others()
-            for name in needed(path.read_text(encoding="utf-8"))
+            for path in other_programs()
+            for name in modules_needed(path.read_text(encoding="utf-8"))
         ]
         self.assertGreater(len(self.needed), 500)
 
     def test_a_folder_stands_on_those_before_it(self) -> None:
         for path, name in self.needed:
             (row, folder) = row_of(folder_of(path))
-            (other_row, other) = row_of(name)
+            (other_row, second) = row_of(name)
             with self.subTest(str(path.relative_to(TOP)), imports=name):
-                self.assertTrue(other_row < row or other == folder)
+                self.assertTrue(other_row < row or second == folder)
 
     def test_no_folder_needs_one_that_needs_it(self) -> None:
         graph: Dict[str, Set[str]] = {}
         for path, name in self.needed:
-            other = folder_of((TOP / name.replace(".", "/")).with_suffix(".py"))
-            graph.setdefault(folder_of(path), set()).update({other} - {folder_of(path)})
+            folder = folder_of((TOP / name.replace(".", "/")).with_suffix(".py"))
+            graph.setdefault(folder_of(path), set()).update(
+                {folder} - {folder_of(path)}
+            )
         self.assertIn(
             "tests.runners", list(graphlib.TopologicalSorter(graph).static_order())
         )
@@ -195,7 +197,7 @@ class Packages(unittest.TestCase):
         paths = modules()
         # a package's own file says what it is for, and imports nothing
         self.graph = {
-            name: set(imported(path.read_text(encoding="utf-8"), set(paths)))
+            name: set(imports_of(path.read_text(encoding="utf-8"), set(paths)))
             - set(PACKAGES[:8])
             for name, path in paths.items()
         }
@@ -205,12 +207,12 @@ class Packages(unittest.TestCase):
         self.assertIn("rules.model", self.graph["rules.rehearsal"])
 
     def test_a_package_stands_on_those_below(self) -> None:
-        for name, others in self.graph.items():
-            for other in others:
+        for name, rest in self.graph.items():
+            for second in rest:
                 packages = [
-                    PACKAGES.index(it.partition(".")[0]) for it in (name, other)
+                    PACKAGES.index(it.partition(".")[0]) for it in (name, second)
                 ]
-                with self.subTest(name, imports=other):
+                with self.subTest(name, imports=second):
                     self.assertGreaterEqual(packages[0], packages[1])
 
     def test_no_module_imports_one_that_imports_it(self) -> None:
@@ -218,7 +220,9 @@ class Packages(unittest.TestCase):
         self.assertEqual(set(order), set(self.graph))
 
     def test_the_page_of_the_lab_lists_the_packages_in_order(self) -> None:
-        self.assertEqual(listed(), list(PACKAGES[: PACKAGES.index("commands") + 1]))
+        self.assertEqual(
+            packages_of_table(), list(PACKAGES[: PACKAGES.index("commands") + 1])
+        )
 
     def test_the_head_of_each_module_says_what_it_has(self) -> None:
         silent = [
@@ -231,12 +235,12 @@ class Packages(unittest.TestCase):
 
     def test_what_others_take_out_of_the_lab_is_there(self) -> None:
         count = 0
-        for path in others():
-            for module, name in taken(path.read_text(encoding="utf-8")):
+        for path in other_programs():
+            for module, name in names_taken(path.read_text(encoding="utf-8")):
                 count += 1
                 with self.subTest(str(path.relative_to(TOP)), module=module, name=name):
                     is_there = (
-                        name in defined(module)
+                        name in names_defined(module)
                         if module.startswith(HALL)
                         else hasattr(importlib.import_module(module), name)
                     )
@@ -249,10 +253,12 @@ class Packages(unittest.TestCase):
         names = {"rules.model", "commands.run", "api"}
         self.assertEqual(
             list(
-                imported("def late():\n    from arena_lab.commands import run\n", names)
+                imports_of(
+                    "def late():\n    from arena_lab.commands import run\n", names
+                )
             ),
             ["commands.run"],
         )
         self.assertEqual(
-            list(imported("import arena_lab.api as lab\n", names)), ["api"]
+            list(imports_of("import arena_lab.api as lab\n", names)), ["api"]
         )

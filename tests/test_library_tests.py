@@ -6,7 +6,7 @@ import sys
 
 from tests import TOP, needs
 from tests.runners import library_tests
-from tests.support.output import InTemporary, ran
+from tests.support.output import InTemporary, run_call
 
 LINES = "print('test a ... ok'); print('test result: ok. {passed} passed; {failed} failed; 0 ignored'); exit({status})"
 
@@ -64,17 +64,19 @@ class LibraryTests(InTemporary):
             {"std", "core", "std_alloc", "hex", "toml", "toml_parser"}, set(sources)
         )
         self.assertNotIn("high", sources)
-        linked = [word for before, word in zip(words, words[1:]) if before == "--link"]
+        linked_value = [
+            word for before, word in zip(words, words[1:]) if before == "--link"
+        ]
         self.assertEqual(
-            [pathlib.Path(it).name for it in linked],
+            [pathlib.Path(it).name for it in linked_value],
             ["a.o", "libos_c.a", "liblibc_c.a"],
         )
 
     @needs("gcc", "gcc")
     def test_the_program_that_refuses_wraps_requests_alone(self) -> None:
-        made = library_tests.refusing(self.folder, self.folder / "kept")
+        path = library_tests.refusing(self.folder, self.folder / "kept")
         names = subprocess.run(
-            ["nm", made], stdout=subprocess.PIPE, text=True, check=True
+            ["nm", path], stdout=subprocess.PIPE, text=True, check=True
         ).stdout
         for name in (
             "T __wrap_malloc",
@@ -86,20 +88,20 @@ class LibraryTests(InTemporary):
             self.assertIn(f" {name}\n", names)
         self.assertNotRegex(names, r" T (read|write|calloc)\n")
 
-    def counted(self, passed: int, failed: int, status: int):
+    def counts(self, passes: int, failures: int, status: int):
         words = [
             sys.executable,
             "-c",
-            LINES.format(passed=passed, failed=failed, status=status),
+            LINES.format(passed=passes, failed=failures, status=status),
         ]
-        counts, said, _ = ran(library_tests.run, words, self.folder)
-        self.assertIn("test a ... ok\n", said)
+        counts, output, _ = run_call(library_tests.run, words, self.folder)
+        self.assertIn("test a ... ok\n", output)
         return counts
 
     def test_tests_are_counted(self) -> None:
-        self.assertEqual(self.counted(67, 0, 0), (67, 0))
-        self.assertEqual(self.counted(65, 2, 1), (65, 2))
+        self.assertEqual(self.counts(67, 0, 0), (67, 0))
+        self.assertEqual(self.counts(65, 2, 1), (65, 2))
 
     def test_a_run_that_fails_or_counts_none_is_a_failure(self) -> None:
-        self.assertEqual(self.counted(67, 0, 4), (67, 1))
-        self.assertEqual(self.counted(0, 0, 0), (0, 1))
+        self.assertEqual(self.counts(67, 0, 4), (67, 1))
+        self.assertEqual(self.counts(0, 0, 0), (0, 1))

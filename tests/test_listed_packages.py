@@ -28,29 +28,29 @@ class Listed(unittest.TestCase):
         depends = re.findall(
             r"^(?:Depends|Recommends|Suggests):((?:.|\n )*)", CONTROL, re.M
         )
-        named = {
+        names = {
             word.split()[0]
             for words in depends
             for word in re.sub(r"\(.*?\)", "", words).split(",")
         }
-        named |= {*PACKAGES.values(), *sandboxes.PACKAGES.split()[2:]}
-        named |= {package for kit in KITS.values() for package in kit.packages}
+        names |= {*PACKAGES.values(), *sandboxes.PACKAGES.split()[2:]}
+        names |= {package for kit in KITS.values() for package in kit.packages}
         readme = (TOP / "arena_lab" / "README.md").read_text().replace("\\\n", "")
-        named |= {
+        names |= {
             word
             for line in re.findall(r"apt-get install (.*)", readme)
             for word in line.split()
         }
         self.assertEqual(
-            named - {*packages.listed("gate", "nightly")} - UNTESTED, set()
+            names - {*packages.package_names("gate", "nightly")} - UNTESTED, set()
         )
 
     def test_nothing_is_listed_twice(self) -> None:
-        listed = packages.listed("gate", "nightly")
-        self.assertEqual(len(listed), len({*listed}))
+        listing = packages.package_names("gate", "nightly")
+        self.assertEqual(len(listing), len({*listing}))
 
     def test_nothing_else_of_the_tests_installs(self) -> None:
-        found = [
+        results = [
             str(path.relative_to(TOP))
             for top in ("tools", "tests", "bench", ".ci")
             for path in (TOP / top).rglob("*")
@@ -62,11 +62,11 @@ class Listed(unittest.TestCase):
                 re.M,
             )
         ]
-        self.assertEqual(sorted(found), INSTALL)
+        self.assertEqual(sorted(results), INSTALL)
 
 
 class Installing(unittest.TestCase):
-    def installed(self, user: int, works: bool) -> str:
+    def install(self, user: int, works: bool) -> str:
         """What is said of a machine that lacks spin; the commands of apt-get go to
         `self.ran`."""
         self.ran: List[str] = []
@@ -86,13 +86,13 @@ class Installing(unittest.TestCase):
             return packages.install(["strace", "spin"])
 
     def test_what_is_missing_is_installed(self) -> None:
-        self.assertEqual(self.installed(0, True), "")
+        self.assertEqual(self.install(0, True), "")
         self.assertEqual(self.ran, ["install --no-install-recommends spin"])
 
     def test_who_is_not_root_or_has_no_network_is_told_what_to_install(self) -> None:
-        told = "not installed, and tests that need it are skipped; as root: apt-get install spin"
-        self.assertEqual((self.installed(1000, True), self.ran), (told, []))
-        self.assertEqual(self.installed(0, False), told)
+        text = "not installed, and tests that need it are skipped; as root: apt-get install spin"
+        self.assertEqual((self.install(1000, True), self.ran), (text, []))
+        self.assertEqual(self.install(0, False), text)
         self.assertEqual(self.ran, ["install --no-install-recommends spin", "update"])
 
     def test_what_dpkg_does_not_know_is_missing(self) -> None:

@@ -14,7 +14,7 @@ ROWS = ("tests/program/*.rows",)
 
 
 class Example(NamedTuple):
-    """What is looked for, and in which files."""
+    """A pattern and the files to search."""
 
     pattern: str
     globs: List[str]
@@ -68,10 +68,10 @@ def files_in(text: str) -> Set[str]:
 
 class Map(unittest.TestCase):
     def test_each_file_that_names_a_command_of_agents_is_on_the_map(self) -> None:
-        named = files_in(section("To add a rule of the model"))
-        found = list(files_with(r"\bAccuse\b", list(CRATES)))
-        self.assertGreater(len(found), 20)
-        self.assertEqual([file for file in found if file not in named], [])
+        names = files_in(section("To add a rule of the model"))
+        results = list(files_with(r"\bAccuse\b", list(CRATES)))
+        self.assertGreater(len(results), 20)
+        self.assertEqual([file for file in results if file not in names], [])
 
     def test_each_file_that_names_an_example_is_in_its_row(self) -> None:
         rows = [
@@ -82,9 +82,9 @@ class Map(unittest.TestCase):
         self.assertEqual([row[1] for row in rows], list(EXAMPLES))
         for _, like, files in rows:
             with self.subTest(like):
-                found = set(files_with(*EXAMPLES[like]))
-                self.assertGreater(len(found), 1)
-                self.assertEqual(sorted(found - files_in(files)), [])
+                results = set(files_with(*EXAMPLES[like]))
+                self.assertGreater(len(results), 1)
+                self.assertEqual(sorted(results - files_in(files)), [])
 
     def test_what_is_on_the_map_is_there(self) -> None:
         for head in ("To add a rule of the model", "To add something else"):

@@ -3,7 +3,7 @@ out by hand."""
 import collections
 import unittest
 
-from tests.program.network_faults import drawn, fault_of
+from tests.program.network_faults import draw_links, fault_of
 
 TRIANGLE = [[0, 0, 1, 0], [1, 1, 2, 0], [2, 1, 0, 1]]
 BOW_TIE = TRIANGLE + [[0, 2, 3, 0], [3, 1, 4, 0], [4, 1, 0, 3]]
@@ -31,8 +31,8 @@ class Faults(unittest.TestCase):
                 self.assertEqual(fault_of(nodes, links), fault)
 
     def test_lists_by_chance_have_each_fault(self) -> None:
-        found = collections.Counter(
-            fault_of(*drawn(number)).rstrip("0123456789 ") for number in range(600)
+        counts = collections.Counter(
+            fault_of(*draw_links(number)).rstrip("0123456789 ") for number in range(600)
         )
-        self.assertEqual(len(found), 9)
-        self.assertGreaterEqual(found["none"], 300)
+        self.assertEqual(len(counts), 9)
+        self.assertGreaterEqual(counts["none"], 300)

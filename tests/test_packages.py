@@ -16,7 +16,7 @@ import unittest
 import zipfile
 from typing import Dict, List
 
-from arena_lab import INSTALLED
+from arena_lab import INSTALLED_COMMAND
 from arena_lab.__main__ import COMMANDS, parser
 from arena_lab.commands import statuses
 from tests import TOP, needs
@@ -82,11 +82,11 @@ Exit status:
 
 
 def files() -> Dict[str, object]:
-    found = {
+    results = {
         path: wheel.File(text.encode(), READABLE) for path, text in RELEASED.items()
     }
     programs = {f"bin/{name}": wheel.File(b"\x7fELF", RUNNABLE) for name in PROGRAMS}
-    return {**found, **programs, "arena": wheel.File(b"#!/bin/sh\n", RUNNABLE)}
+    return {**results, **programs, "arena": wheel.File(b"#!/bin/sh\n", RUNNABLE)}
 
 
 def helps() -> List[object]:
@@ -105,9 +105,9 @@ class Manuals(InTemporary):
 
     def test_the_commands_of_a_program_are_found(self) -> None:
         text = f"#!/bin/sh\n[ $1 = --help ] && cat <<'E' || cat <<'F'\n{FIRST}E\n{SERVE}F\n"
-        found = manual.of_program(str(write(self.folder / "arena", text, 0o755)))
+        helps = manual.of_program(str(write(self.folder / "arena", text, 0o755)))
         self.assertEqual(
-            [(it.words, it.about) for it in found[1:]],
+            [(it.words, it.about) for it in helps[1:]],
             [
                 ("arena serve", "Serves a tournament"),
                 ("arena check", "Reads a tournament"),
@@ -115,9 +115,9 @@ class Manuals(InTemporary):
         )
 
     def test_a_page_has_the_whole_help_text(self) -> None:
-        found = manual.pages(helps(), "1.2.3", "2026-11-26")
-        self.assertEqual(sorted(found), ["arena-serve.1", "arena.1"])
-        page = found["arena-serve.1"]
+        result = manual.pages(helps(), "1.2.3", "2026-11-26")
+        self.assertEqual(sorted(result), ["arena-serve.1", "arena.1"])
+        page = result["arena-serve.1"]
         self.assertIn('.TH ARENA\\-SERVE 1 "2026-11-26" "arena 1.2.3"', page)
         for line in (
             "arena\\-serve \\- Serves a tournament\n",
@@ -129,82 +129,85 @@ class Manuals(InTemporary):
             ".SH SEE ALSO\n.BR arena (1)\n",
         ):
             self.assertIn(line, page)
-        self.assertIn(".BR arena-serve (1)", found["arena.1"])
+        self.assertIn(".BR arena-serve (1)", result["arena.1"])
 
     @needs("groff", "groff-base")
     def test_a_page_is_laid_out_without_a_warning(self) -> None:
         for text in manual.pages(
             [*helps(), *manual.of_lab()], "1.2.3", "2026-11-26"
         ).values():
-            ran = subprocess.run(
+            result = subprocess.run(
                 ["groff", "-man", "-Tutf8", "-ww", "-rLL=120n"],
                 input=text.encode(),
                 capture_output=True,
             )
-            self.assertEqual((ran.returncode, ran.stderr), (0, b""), text[:40])
+            self.assertEqual((result.returncode, result.stderr), (0, b""), text[:40])
 
     def test_each_option_of_the_lab_has_its_place(self) -> None:
-        found = {it.words: it for it in manual.of_lab()}
+        results = {it.words: it for it in manual.of_lab()}
         self.assertEqual(
-            set(found), {INSTALLED, *(f"{INSTALLED} {name}" for name in COMMANDS)}
+            set(results),
+            {INSTALLED_COMMAND, *(f"{INSTALLED_COMMAND} {name}" for name in COMMANDS)},
         )
-        commands = next(it for it in parser()._actions if it.dest == "command").choices
-        pages = manual.pages(list(found.values()), "1", "d")
-        completion = manual.completion(list(found.values()))
+        commands = next(
+            action for action in parser()._actions if action.dest == "command"
+        ).choices
+        pages = manual.pages(list(results.values()), "1", "d")
+        completion = manual.completion(list(results.values()))
         for name, command in commands.items():
-            one = found[f"{INSTALLED} {name}"]
+            first = results[f"{INSTALLED_COMMAND} {name}"]
             options = {
                 option
                 for action in command._actions
                 for option in action.option_strings
                 if option[1] == "-" and action.help != argparse.SUPPRESS
             }
-            self.assertEqual(set(one.options()), options, name)
+            self.assertEqual(set(first.options()), options, name)
             case = re.search(rf'^        {name}\) options="(.*)" ;;$', completion, re.M)
             self.assertEqual(set(case[1].split()), options, name)
             for option in options:
                 self.assertIn(
-                    option.replace("-", "\\-"), pages[f"{INSTALLED}-{name}.1"]
+                    option.replace("-", "\\-"), pages[f"{INSTALLED_COMMAND}-{name}.1"]
                 )
-            self.assertNotIn("./arena\\-lab", pages[f"{INSTALLED}-{name}.1"])
+            self.assertNotIn("./arena\\-lab", pages[f"{INSTALLED_COMMAND}-{name}.1"])
 
     def test_bash_completes(self) -> None:
         script = self.folder / "arena"
         script.write_text(manual.completion([*helps(), *manual.of_lab()]))
 
-        def completed(command: str, *words: str) -> List[str]:
+        def complete(command: str, *words: str) -> List[str]:
             ask = (
                 f'. {script}; COMP_WORDS=({command} {" ".join(map(repr, words))}); '
                 f'COMP_CWORD={len(words)}; _{command.replace("-", "_")}; echo "${{COMPREPLY[@]}}"'
             )
-            ran = subprocess.run(
+            result = subprocess.run(
                 ["bash", "-c", ask],
                 cwd=self.folder,
                 capture_output=True,
                 text=True,
                 check=True,
             )
-            return ran.stdout.split()
+            return result.stdout.split()
 
-        self.assertEqual(completed("arena", "se"), ["serve"])
-        self.assertEqual(completed("arena", "serve", "--p"), ["--port"])
-        self.assertEqual(completed("arena", "serve", "are"), ["arena"])
-        self.assertEqual(completed("arena-lab", "hunt", "--any"), ["--any-home"])
-        self.assertEqual(completed("arena-lab", "repl"), ["replay"])
+        self.assertEqual(complete("arena", "se"), ["serve"])
+        self.assertEqual(complete("arena", "serve", "--p"), ["--port"])
+        self.assertEqual(complete("arena", "serve", "are"), ["arena"])
+        self.assertEqual(complete("arena-lab", "hunt", "--any"), ["--any-home"])
+        self.assertEqual(complete("arena-lab", "repl"), ["replay"])
 
     def completed_by(self, shell: str, *words: str) -> str:
         """What a shell prints that is given the completions of a program."""
         for path, text in manual.completions([*helps(), *manual.of_lab()]).items():
             write(self.folder / pathlib.PurePath(path).name, text)
-        ran = subprocess.run(
+        result = subprocess.run(
             [shell, *words], cwd=self.folder, capture_output=True, text=True
         )
-        self.assertEqual(ran.stderr, "")
-        return ran.stdout
+        self.assertEqual(result.stderr, "")
+        return result.stdout
 
     @needs("fish", "fish")
     def test_fish_completes(self) -> None:
-        for line, wanted in (
+        for line, expectation in (
             ("arena se", "serve\tServes a tournament\n"),
             ("arena serve --p", "--port\n"),
             ("arena-lab hunt --any", "--any-home\n"),
@@ -215,12 +218,12 @@ class Manuals(InTemporary):
         ):
             program = line.split(" ")[0]
             ask = f"source {program}.fish; complete -C '{line}'"
-            self.assertEqual(self.completed_by("fish", "-c", ask), wanted)
+            self.assertEqual(self.completed_by("fish", "-c", ask), expectation)
 
     @needs("zsh", "zsh")
     def test_zsh_completes(self) -> None:
         # what the functions of zsh would be given
-        for line, wanted in (
+        for line, expectation in (
             ("arena se", "serve:Serves a tournament"),
             ("arena serve --p", "--port"),
             ("arena-lab hunt --any", "--any-home"),
@@ -231,27 +234,27 @@ class Manuals(InTemporary):
                 f"words=({line}); CURRENT=$#words; PREFIX=$words[-1];"
                 "service=$words[1]; . ./_arena"
             )
-            found = self.completed_by("zsh", "-f", "-c", ask)
-            self.assertIn(wanted, found.splitlines())
+            result = self.completed_by("zsh", "-f", "-c", ask)
+            self.assertIn(expectation, result.splitlines())
 
     def test_each_status_of_a_command_of_the_lab_is_told(self) -> None:
-        self.assertEqual({*statuses.OWN}, {*COMMANDS})
-        found = {it.words: it.text for it in manual.of_lab()}
+        self.assertEqual({*statuses.EXIT_MEANINGS}, {*COMMANDS})
+        results = {it.words: it.text for it in manual.of_lab()}
         for name in COMMANDS:
-            text = found[f"{INSTALLED} {name}"]
-            told = text.rpartition("exit status:\n")[2]
+            text = results[f"{INSTALLED_COMMAND} {name}"]
+            message = text.rpartition("exit status:\n")[2]
             self.assertEqual(
-                [int(line.split()[0]) for line in told.splitlines()],
+                [int(line.split()[0]) for line in message.splitlines()],
                 [*statuses.statuses(name)],
             )
 
 
 class Wheels(unittest.TestCase):
-    def packed(self) -> bytes:
+    def pack(self) -> bytes:
         extra = {
             wheel.data("1.2.3", "share/man/man1/arena.1"): wheel.File(b"page", READABLE)
         }
-        made: bytes = wheel.packed(
+        made: bytes = wheel.pack(
             wheel.files_of(files(), extra), PROJECT, "1.2.3", "2.34", 1_700_000_000
         )
         return made
@@ -261,7 +264,7 @@ class Wheels(unittest.TestCase):
             wheel.name_of("1.2.3", "2.34"),
             "arena_lab-1.2.3-py3-none-manylinux_2_34_x86_64.whl",
         )
-        with zipfile.ZipFile(io.BytesIO(self.packed())) as archive:
+        with zipfile.ZipFile(io.BytesIO(self.pack())) as archive:
             self.assertEqual(
                 archive.namelist(),
                 [
@@ -286,7 +289,7 @@ class Wheels(unittest.TestCase):
                     archive.getinfo(f"arena_lab/program/{name}").external_attr >> 16,
                     0o100755,
                 )
-            told = archive.read("arena_lab-1.2.3.dist-info/METADATA").decode()
+            message = archive.read("arena_lab-1.2.3.dist-info/METADATA").decode()
             for line in (
                 "Name: arena-lab",
                 "Version: 1.2.3",
@@ -295,45 +298,45 @@ class Wheels(unittest.TestCase):
                 'Requires-Dist: hypothesis; extra == "hunt"',
                 "Provides-Extra: sweep",
             ):
-                self.assertIn(line, told.split("\n"))
+                self.assertIn(line, message.split("\n"))
             for path, digest, size in csv.reader(
                 archive.read("arena_lab-1.2.3.dist-info/RECORD").decode().split()
             ):
                 if not path.endswith("RECORD"):
                     text = archive.read(path)
-                    found = (
+                    sha256 = (
                         base64.urlsafe_b64encode(hashlib.sha256(text).digest())
                         .rstrip(b"=")
                         .decode()
                     )
                     self.assertEqual(
-                        (f"sha256={found}", str(len(text))), (digest, size)
+                        (f"sha256={sha256}", str(len(text))), (digest, size)
                     )
 
     def test_two_are_alike(self) -> None:
-        self.assertEqual(self.packed(), self.packed())
+        self.assertEqual(self.pack(), self.pack())
 
 
 @needs("dpkg-deb", "dpkg")
 class DebianPackages(InTemporary):
-    def packed(self, is_proved: bool = True) -> bytes:
-        found = debian.files_of(
+    def pack(self, is_proved: bool = True) -> bytes:
+        result = debian.files_of(
             files(),
             {"arena.1": "page\n"},
             {"bash-completion/completions/arena": "completes\n"},
             {"docs/MODEL.html": wheel.File(b"a page", READABLE)},
         )
-        told = debian.control(found, "1.2.3", "2.34", is_proved)
-        made: bytes = debian.packed({**found, **told}, debian.LINKS, 1_700_000_000)
+        message = debian.control(result, "1.2.3", "2.34", is_proved)
+        made: bytes = debian.pack({**result, **message}, debian.LINKS, 1_700_000_000)
         return made
 
-    def unpacked(self, made: bytes) -> pathlib.Path:
+    def unpack(self, made: bytes) -> pathlib.Path:
         (self.folder / "a.deb").write_bytes(made)
         subprocess.run(["dpkg-deb", "-R", "a.deb", "a"], cwd=self.folder, check=True)
         return self.folder / "a"
 
     def test_it_has_both_commands_and_the_record_of_the_proof(self) -> None:
-        top = self.unpacked(self.packed())
+        top = self.unpack(self.pack())
         self.assertEqual((top / "usr/bin/arena").resolve(), top / "usr/lib/arena/arena")
         for name in PROGRAMS:
             self.assertEqual(
@@ -354,21 +357,21 @@ class DebianPackages(InTemporary):
             gzip.decompress((top / "usr/share/man/man1/arena.1.gz").read_bytes()),
             b"page\n",
         )
-        told = (top / "DEBIAN/control").read_text()
+        text = (top / "DEBIAN/control").read_text()
         for line in (
             "Package: arena\n",
             "Version: 1.2.3\n",
             "Depends: libc6 (>= 2.34), python3 (>= 3.11),",
             "is proved: /usr/share/doc/arena/PROVED.txt says by what",
         ):
-            self.assertIn(line, told)
+            self.assertIn(line, text)
         subprocess.run(
             ["md5sum", "--quiet", "-c", "DEBIAN/md5sums"], cwd=top, check=True
         )
 
     def test_one_without_a_proof_says_so(self) -> None:
-        told = (self.unpacked(self.packed(False)) / "DEBIAN/control").read_text()
-        self.assertIn("this build of it is not proved", told)
+        text = (self.unpack(self.pack(False)) / "DEBIAN/control").read_text()
+        self.assertIn("this build of it is not proved", text)
 
     def test_two_are_alike(self) -> None:
-        self.assertEqual(self.packed(), self.packed())
+        self.assertEqual(self.pack(), self.pack())

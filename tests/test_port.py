@@ -1,15 +1,15 @@
-"""What tests/port leaves out of sources, what its engine says of matches that are worked
+"""What tools/port leaves out of sources, what its engine says of matches that are worked
 out by hand, and that it does not take a wrong finding."""
-import pathlib
 import random
 import unittest
 from typing import Dict, List
 
-from tests.port import drawn_modules, stripped, teams
+from tests.port import drawn_modules, teams
 from tests.port.engine import All, Game, Match, Memory, Words
 from tests.port.teams import DrawnMachines, agrees, drawn_match
-from tests.support.output import ran
+from tests.support.output import run_call
 from tests.support.wasm_encoding import sections_of
+from tools.port import compiler, crates, rules, sources, stripped
 
 SOURCE = """//! Counts.
 #![tactic(auto)]
@@ -73,14 +73,14 @@ class Scripts:
     def start(self, agent: int) -> Memory:
         return agent % len(self.scripts), 0
 
-    def after(self, memory: Memory, seen: Words) -> Memory:
-        script, place = memory
-        return script, place if seen in (("gone",), ("over",)) else place + 1
+    def after(self, memory: Memory, words: Words) -> Memory:
+        script, position = memory
+        return script, position if words in (("gone",), ("over",)) else position + 1
 
     def does(self, memory: Memory) -> Words:
-        script, place = memory
+        script, position = memory
         steps = self.scripts[script]
-        return steps[place] if place < len(steps) else ("stops",)
+        return steps[position] if position < len(steps) else ("stops",)
 
 
 def game(*scripts: List[Words], agents: int = 1) -> Game:
@@ -103,7 +103,7 @@ class Stripped(unittest.TestCase):
 
     def test_no_source_has_a_contract_afterwards(self) -> None:
         # what is built has sources of other crates
-        paths = sorted(stripped.TOP.glob("crates/bhs_wasm_team/src/**/*.rt"))
+        paths = sorted(crates.TOP.glob("crates/bhs_wasm_team/src/**/*.rt"))
         self.assertTrue(paths)
         for path in paths:
             with self.subTest(path.name):
@@ -117,22 +117,50 @@ class Stripped(unittest.TestCase):
 
 class Compiled(unittest.TestCase):
     @unittest.skipUnless(
-        pathlib.Path(stripped.RUSTC).exists(), "Debian's rustc is not installed"
+        compiler.rustc_path() is not None, "Debian's rustc is not installed"
     )
     def test_all_that_the_crates_have_compiles(self) -> None:
         """A form that Rattle has and Rust has not would be seen in nightly alone."""
-        answers, printed, _ = ran(teams.main, ["--teams", "20"])
-        self.assertEqual(
-            (answers, printed.splitlines()[-1]), (0, "20 passed, 0 failed")
-        )
+        answers, output, _ = run_call(teams.main, ["--teams", "20"])
+        self.assertEqual((answers, output.splitlines()[-1]), (0, "20 passed, 0 failed"))
+
+
+class Sources(unittest.TestCase):
+    @unittest.skipUnless(
+        crates.kit_source("toml").is_dir(), "the Rattle toolchain is not installed"
+    )
+    def test_each_rule_for_a_library_matches(self) -> None:
+        for library in filter(crates.is_library, crates.LIBRARIES):
+            with self.subTest(library):
+                source = crates.kit_source(library)
+                self.assertTrue([*sources.plain_files(library, source)])
+
+    def test_each_rule_has_a_reason_and_still_matches(self) -> None:
+        for crate, several in rules.RULES.items():
+            for rule in several:
+                self.assertGreater(len(rule.reason.split()), 3, (crate, rule.pattern))
+            if crate in crates.crate_rows():
+                source = crates.TOP / "crates" / crate / "src"
+                self.assertTrue([*sources.plain_files(crate, source)])
+
+    def test_a_rule_that_no_longer_matches_stops_the_build(self) -> None:
+        with self.assertRaisesRegex(
+            sources.StaleRuleError, "bhs_wasm: memories.rt has no"
+        ):
+            sources.apply_rules("bhs_wasm", "memories.rt", "fn other() {}")
+
+    def test_features_are_asked_for_only_where_they_are_not_stable(self) -> None:
+        self.assertEqual(compiler.feature_flags((1, 90)), [])
+        self.assertIn("let_else", compiler.feature_flags((1, 63))[0])
+        self.assertNotIn("let_else", compiler.feature_flags((1, 70))[0])
 
 
 class Engine(unittest.TestCase):
     def test_what_schedules_spend(self) -> None:
-        looked = All(game(WALKS))
-        self.assertEqual((looked.failures, looked.whole), (set(), (1, 4, (2,), 0)))
-        looked = All(game(WALKS, [ENTER, ("depart", 1)], agents=2))
-        self.assertEqual((looked.failures, looked.whole), (set(), (2, 6, (2, 1), 1)))
+        all = All(game(WALKS))
+        self.assertEqual((all.failures, all.whole), (set(), (1, 4, (2,), 0)))
+        all = All(game(WALKS, [ENTER, ("depart", 1)], agents=2))
+        self.assertEqual((all.failures, all.whole), (set(), (2, 6, (2, 1), 1)))
 
     def test_how_they_fail(self) -> None:
         failing: Dict[str, List[Words]] = {
@@ -147,17 +175,17 @@ class Engine(unittest.TestCase):
 
     def test_a_cycle_is_met(self) -> None:
         class Looks(Scripts):
-            def after(self, memory: Memory, seen: Words) -> Memory:
+            def after(self, memory: Memory, words: Words) -> Memory:
                 return 0, 1
 
-        one = game()
-        looks = one._replace(machines=Looks([ENTER, ("look",)]))
+        first = game()
+        looks = first._replace(machines=Looks([ENTER, ("look",)]))
         self.assertEqual(All(looks).failures, {"endless"})
 
     def test_a_wrong_finding_is_not_taken(self) -> None:
         solves = game(WALKS)
         fails = game([ENTER, ("depart", 0)])
-        for one, found, is_so in (
+        for first, result, is_so in (
             (solves, "solves 1 0 4 2 states", True),
             (solves, "solves 2 0 4 2 states", False),
             (solves, "solves 1 1 4 2 states", False),
@@ -171,17 +199,17 @@ class Engine(unittest.TestCase):
             (fails, "breaks 0 program 0", False),
             (fails, "endless true 0 0", False),
         ):
-            with self.subTest(found):
-                self.assertEqual(agrees(one, found.split(" ")), is_so)
+            with self.subTest(result):
+                self.assertEqual(agrees(first, result.split(" ")), is_so)
 
     def test_drawn_teams_are_the_same_each_time(self) -> None:
-        found = []
+        results = []
         for _ in range(2):
-            chance = random.Random(7)
-            match = drawn_match(chance)
-            machines = DrawnMachines(7, match, chance)
-            found.append((match, machines.scripts))
-        self.assertEqual(found[0], found[1])
+            rng = random.Random(7)
+            match = drawn_match(rng)
+            machines = DrawnMachines(7, match, rng)
+            results.append((match, machines.scripts))
+        self.assertEqual(results[0], results[1])
 
 
 class Modules(unittest.TestCase):

@@ -13,7 +13,7 @@ from tests.program.program_contests import (
     Rule,
     Side,
     made_by,
-    words_of,
+    draws_of,
 )
 
 COMMANDS = {
@@ -29,21 +29,21 @@ def match_of(side: Side) -> Match:
     return Match(Setup(side.nodes, links, 0, [side.hole], len(side.agents), 20, 8))
 
 
-def steps_of(match: Match, left: List[str], chance: random.Random) -> None:
+def steps_of(match: Match, remaining: List[str], rng: random.Random) -> None:
     """Lets some of the agents that wait for nothing take their next step."""
-    for agent, steps in enumerate(left):
-        if match.agents[agent].standing == PRESENT and steps and chance.random() < 0.7:
-            match.tell(agent, COMMANDS[steps[0]])
-            left[agent] = steps[1:]
+    for agent, steps in enumerate(remaining):
+        if match.agents[agent].standing == PRESENT and steps and rng.random() < 0.7:
+            match.reply_to(agent, COMMANDS[steps[0]])
+            remaining[agent] = steps[1:]
 
 
-def turn(match: Match, held: Set[Place], word: int, rule: Rule) -> None:
+def turn(match: Match, held_links: Set[Place], word: int, rule: Rule) -> None:
     among = match.pool if rule is ADAPTIVE else range(len(match.agents))
     if among:
         agent = among[word % len(among)]
         if (
             agent in match.pool
-            and (match.agents[agent].node, match.agents[agent].port) not in held
+            and (match.agents[agent].node, match.agents[agent].port) not in held_links
         ):
             match.deliver(agent)
 
@@ -51,23 +51,23 @@ def turn(match: Match, held: Set[Place], word: int, rule: Rule) -> None:
 def replay(
     side: Side,
     words: Sequence[int],
-    held: Set[Place],
+    held_links: Set[Place],
     seed: int,
     idle: int = 7,
     rule: Rule = ADAPTIVE,
 ) -> str:
     """The replay of a match whose agents come after some turns, with these words."""
-    chance = random.Random(seed)
+    rng = random.Random(seed)
     match = match_of(side)
-    left = list(side.agents)
+    agents = list(side.agents)
     for word in words[:idle]:
-        turn(match, held, word, rule)
-    for agent in range(len(left)):
-        match.tell(agent, {"do": "enter"})
-    steps_of(match, left, chance)
+        turn(match, held_links, word, rule)
+    for agent in range(len(agents)):
+        match.reply_to(agent, {"do": "enter"})
+    steps_of(match, agents, rng)
     for word in words[idle:]:
-        turn(match, held, word, rule)
-        steps_of(match, left, chance)
+        turn(match, held_links, word, rule)
+        steps_of(match, agents, rng)
     match.close()
     return match.replay()
 
@@ -77,11 +77,11 @@ class Words(unittest.TestCase):
         for number, side in enumerate(SIDES):
             for seed in range(3):
                 text = replay(
-                    side, words_of(number), {side.held}, seed, idle=seed * 100
+                    side, draws_of(number), {side.held}, seed, idle=seed * 100
                 )
-                self.assertTrue(made_by(ADAPTIVE, text, {side.held}, words_of(number)))
+                self.assertTrue(made_by(ADAPTIVE, text, {side.held}, draws_of(number)))
                 self.assertFalse(
-                    made_by(ADAPTIVE, text, {side.held}, words_of(1 - number))
+                    made_by(ADAPTIVE, text, {side.held}, draws_of(1 - number))
                 )
                 self.assertFalse(
                     made_by(ADAPTIVE, text, {side.held}, [0] * program_contests.TURNS)
@@ -89,17 +89,17 @@ class Words(unittest.TestCase):
 
     def test_each_schedule_makes_its_own(self) -> None:
         for number, side in enumerate(SIDES):
-            for rule, other in ((ADAPTIVE, OBLIVIOUS), (OBLIVIOUS, ADAPTIVE)):
-                text = replay(side, words_of(number), {side.held}, 1, rule=rule)
-                self.assertTrue(made_by(rule, text, {side.held}, words_of(number)))
-                self.assertFalse(made_by(other, text, {side.held}, words_of(number)))
+            for rule, second in ((ADAPTIVE, OBLIVIOUS), (OBLIVIOUS, ADAPTIVE)):
+                text = replay(side, draws_of(number), {side.held}, 1, rule=rule)
+                self.assertTrue(made_by(rule, text, {side.held}, draws_of(number)))
+                self.assertFalse(made_by(second, text, {side.held}, draws_of(number)))
 
     def test_wrong_bodies_make_others(self) -> None:
         for number, side in enumerate(SIDES):
-            words = words_of(number)
-            for name, used, held in (
+            words = draws_of(number)
+            for name, usage, held_links in (
                 ("one word for all", [0] * len(words), {side.held}),
-                ("another stream", words_of(1 - number), {side.held}),
+                ("another stream", draws_of(1 - number), {side.held}),
                 ("backwards", words[::-1], {side.held}),
                 ("no link is held", words, set()),
                 ("the other match's link is held", words, {SIDES[1 - number].held}),
@@ -107,6 +107,9 @@ class Words(unittest.TestCase):
                 with self.subTest(body=name, team=side.team):
                     self.assertFalse(
                         made_by(
-                            ADAPTIVE, replay(side, used, held, 1), {side.held}, words
+                            ADAPTIVE,
+                            replay(side, usage, held_links, 1),
+                            {side.held},
+                            words,
                         )
                     )

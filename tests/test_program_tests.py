@@ -7,7 +7,7 @@ from typing import List
 
 from tests.program import program_cases
 from tests.runners import program_tests
-from tests.support.output import InTemporary, ran, write
+from tests.support.output import InTemporary, run_call, write
 from tests.support.program_rows import Step, fault_of, play, rows_of
 
 # prints its script, or tells its words and fails
@@ -92,7 +92,8 @@ class Played(InTemporary):
         ):
             self.assertIn(old, RIGHT)
             self.assertEqual(
-                [it for it in self.faults(RIGHT.replace(old, new)) if it], [fault]
+                [fault for fault in self.faults(RIGHT.replace(old, new)) if fault],
+                [fault],
             )
 
     def test_a_program_that_is_not_there_is_told(self) -> None:
@@ -106,13 +107,13 @@ class Played(InTemporary):
 
     def test_failures_are_printed_and_counted(self) -> None:
         (self.folder / "some.rows").write_text(RIGHT.replace("? 4", "? 3"))
-        failed, printed, _ = ran(
+        failures, output, _ = run_call(
             program_tests.try_all,
             str(self.program),
             [*program_tests.tests_of(self.folder)],
         )
-        lines = printed.splitlines()
-        self.assertEqual((failed, lines[-1]), (1, "1 passed, 1 failed"))
+        lines = output.splitlines()
+        self.assertEqual((failures, lines[-1]), (1, "1 passed, 1 failed"))
         self.assertTrue(
             lines[0].startswith(
                 "FAILED some.rows: Words are quoted, and what is printed is kept.: $ tell"
@@ -129,7 +130,14 @@ match x¶last => bad¶  what helps => bad
 """
         self.assertEqual(self.faults(first + table.format("match x"))[:2], ["", ""])
         self.assertEqual(
-            len([it for it in self.faults(first + table.format("another")) if it]), 1
+            len(
+                [
+                    fault
+                    for fault in self.faults(first + table.format("another"))
+                    if fault
+                ]
+            ),
+            1,
         )
         self.assertRaises(
             ValueError, rows_of, first + "Changes:\n~ old cup.toml\nnone => y => z\n"
@@ -141,7 +149,7 @@ class Read(unittest.TestCase):
         text = "Play WHAT\n$ WHAT\n> TEXT\n* TEXT\n| a\n|  b=WHAT\n* WHAT => MORE\n| x => 1\n| y TEXT => 2\n"
         self.assertEqual(
             [
-                (row.title, row.steps[0].rest, row.steps[0].given)
+                (row.title, row.steps[0].rest, row.steps[0].stdin)
                 for row in rows_of(text)
             ],
             [
@@ -168,5 +176,7 @@ class Read(unittest.TestCase):
     def test_all_files_have_rows(self) -> None:
         tests = [*program_tests.tests_of(program_tests.ROWS)]
         self.assertGreater(len(tests), 250)
-        self.assertEqual(len({(test.place, test.title) for test in tests}), len(tests))
+        self.assertEqual(
+            len({(test.location, test.title) for test in tests}), len(tests)
+        )
         self.assertNotIn(None, program_cases.CASES.values())

@@ -14,8 +14,8 @@ class Places(unittest.TestCase):
 
     def test_a_text_is_found_however_its_lines_are_broken(self) -> None:
         mutant = Mutant("a.py", "f(a, not b)", "f(a, b)", MODEL)
-        found = [
+        results = [
             len(mutant.places(it))
             for it in ("f(a, not b)", "f(\n    a, not b)", "f(a, b)")
         ]
-        self.assertEqual(found, [1, 1, 0])
+        self.assertEqual(results, [1, 1, 0])

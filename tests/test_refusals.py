@@ -13,8 +13,8 @@ from tests.hostile import (
     refused_tests,
 )
 from tests.hostile.commands import COMMANDS, Lab, Run
-from tests.support.counts import Wrong
-from tests.support.output import InTemporary, ran
+from tests.support.counts import FailedCheckError
+from tests.support.output import InTemporary, run_call
 from tests.support.session_lines import HERE
 
 # asks for memory five times, reads a line and writes it, and says which request was
@@ -97,8 +97,8 @@ int main(int count_of_words, char **words) {
 """
 
 
-# lists tests, and runs one that asks for memory before the call that it tests and in
-# it, with a mark before and behind it, or another that asks between a play and its end
+# lists tests; one requests memory before the call under test and in it, with marks
+# around, and another one requests memory between a play and its end
 TESTS = """
 #include <stdio.h>
 #include <stdlib.h>
@@ -159,17 +159,17 @@ class ShimTest(InTemporary):
         self.program = built(self.folder, "calls", CALLS)
         self.shim = refused_calls.Shim.built(self.folder)
 
-    def run_with(self, mode="", place=0, words=()):
+    def run_with(self, mode="", position=0, words=()):
         """The status, what is printed, and the numbers of calls."""
         numbers = {}
-        with self.shim.counting(numbers, mode, place) as variables:
-            ran = subprocess.run(
+        with self.shim.counting(numbers, mode, position) as variables:
+            result = subprocess.run(
                 [self.program, *words],
                 input=b"abc",
                 env=variables,
                 stdout=subprocess.PIPE,
             )
-        return ran.returncode, ran.stdout, numbers
+        return result.returncode, result.stdout, numbers
 
     def test_calls_are_counted(self):
         for words in ([], ["parts"]):
@@ -179,13 +179,13 @@ class ShimTest(InTemporary):
             )
 
     def test_one_request_is_refused(self):
-        for place in (1, 2, 3, 4, 5):
-            status, printed, numbers = self.run_with("memory", place)
+        for position in (1, 2, 3, 4, 5):
+            status, output, numbers = self.run_with("memory", position)
             self.assertEqual(
-                (status, printed, numbers["refused"]), (0, b"%dabc" % place, 1)
+                (status, output, numbers["refused"]), (0, b"%dabc" % position, 1)
             )
-        status, printed, numbers = self.run_with("memory", 6)
-        self.assertEqual((status, printed, numbers["refused"]), (0, b"nabc", 0))
+        status, output, numbers = self.run_with("memory", 6)
+        self.assertEqual((status, output, numbers["refused"]), (0, b"nabc", 0))
 
     def test_reads_and_writes_fail_or_are_short(self):
         for words in ([], ["parts"]):
@@ -196,8 +196,8 @@ class ShimTest(InTemporary):
             self.assertEqual(self.run_with("short-write", 2, words)[:2], (7, b"na"))
 
     def test_what_is_no_refusal_runs_nothing(self):
-        for mode, place in (("memory", 0), ("memories", 1), ("short", 1)):
-            self.assertEqual(self.run_with(mode, place)[:2], (125, b""))
+        for mode, position in (("memory", 0), ("memories", 1), ("short", 1)):
+            self.assertEqual(self.run_with(mode, position)[:2], (125, b""))
 
 
 @needs("gcc", "gcc")
@@ -209,8 +209,8 @@ class CommandTest(InTemporary):
         trials = refused_calls.Trials(
             lab, refused_calls.Shim.built(self.folder), 0, 0, 2
         )
-        said = ran(refusals.refuse_command, trials, COMMANDS[0]).said
-        self.said = said
+        output = run_call(refusals.refuse_command, trials, COMMANDS[0]).output
+        self.said = output
         return lab.faults
 
     def test_a_program_that_tells_its_faults(self):
@@ -259,19 +259,19 @@ class TestsTest(InTemporary):
     PLAY = "memory::playing::playing_takes_no_memory"
 
     def faults_of(self, *options):
-        place = self.folder / "".join(options)
-        place.mkdir(exist_ok=True)
-        lab = Lab(built(place, "prints", PRINTS), place)
-        self.kept = place / "kept"
+        folder = self.folder / "".join(options)
+        folder.mkdir(exist_ok=True)
+        lab = Lab(built(folder, "prints", PRINTS), folder)
+        self.kept = folder / "kept"
         tests = built(
-            place, "tests", TESTS, f'-DKEPT="{self.kept}"', *self.LINKED, *options
+            folder, "tests", TESTS, f'-DKEPT="{self.kept}"', *self.LINKED, *options
         )
-        said = ran(
+        output = run_call(
             refused_tests.refuse_tests,
             refused_calls.Trials(lab, refused_calls.Shim(), 0, 0, 2),
             tests,
-        ).said
-        self.said = said
+        ).output
+        self.said = output
         return lab.faults
 
     def test_calls_that_are_made_again(self):
@@ -288,11 +288,11 @@ class TestsTest(InTemporary):
         self.assertEqual(self.kept.read_bytes(), (self.folder / "tests").read_bytes())
 
     def test_what_no_test_may_do(self):
-        told = ", memory 2: in the call that is tested: status"
+        text = ", memory 2: in the call that is tested: status"
         for option, fault in (
-            ("GIVES_UP", f"{told} -6, ``"),
-            ("ENDS_OTHERWISE", f"{told} 1, `alloc`"),
-            ("ANSWERS_MEMORY_AGAIN", f"{told} 101, `Memory`"),
+            ("GIVES_UP", f"{text} -6, ``"),
+            ("ENDS_OTHERWISE", f"{text} 1, `alloc`"),
+            ("ANSWERS_MEMORY_AGAIN", f"{text} 101, `Memory`"),
             ("SETS_NO_MARK", ": no request is one of a call that is tested"),
         ):
             with self.subTest(option):
@@ -324,11 +324,11 @@ class OutcomeTest(unittest.TestCase):
     )
     MAY_NAME = {"cup.toml", "output", "kept0.jsonl"}
 
-    def outcome(self, mode, *found, whole=WHOLE, replays=None, refused=1):
+    def outcome(self, mode, *args, whole=WHOLE, replays=None, refusal=1):
         attempt = refused_calls.Attempt(
-            Run(*found),
+            Run(*args),
             whole.replays if replays is None else replays,
-            {"refused": refused},
+            {"refused": refusal},
         )
         return refusals.outcome(
             mode, self.MAY_NAME, whole, attempt, lambda text: text.endswith(b"end\n")
@@ -347,7 +347,7 @@ class OutcomeTest(unittest.TestCase):
             self.outcome(
                 "write",
                 6,
-                self.WHOLE.run.printed,
+                self.WHOLE.run.stdout,
                 "kept0.jsonl: write\n",
                 replays={"kept0.jsonl": b"head\n"},
             ),
@@ -355,22 +355,22 @@ class OutcomeTest(unittest.TestCase):
         )
 
     def test_a_fault_line_that_could_not_be_written(self):
-        refused = self.WHOLE._replace(run=Run(3, b"two", "cup.toml: toml\n"))
-        self.assertEqual(self.outcome("write", 3, b"two", "", whole=refused), "untold")
+        refusal = self.WHOLE._replace(run=Run(3, b"two", "cup.toml: toml\n"))
+        self.assertEqual(self.outcome("write", 3, b"two", "", whole=refusal), "untold")
         self.assertEqual(
-            self.outcome("write", 3, b"two", "cup.toml: ", whole=refused), "untold"
+            self.outcome("write", 3, b"two", "cup.toml: ", whole=refusal), "untold"
         )
-        for mode, *found in (
+        for mode, *result in (
             ("write", 3, b"tw", ""),
             ("write", 0, b"two", ""),
             ("read", 3, b"two", ""),
         ):
-            with self.assertRaises(Wrong):
-                self.outcome(mode, *found, whole=refused)
+            with self.assertRaises(FailedCheckError):
+                self.outcome(mode, *result, whole=refusal)
 
     def test_what_must_not_come(self):
-        printed = self.WHOLE.run.printed
-        for mode, *found in (
+        output = self.WHOLE.run.stdout
+        for mode, *result in (
             ("memory", 5, b"one", "cup.toml: memory\n"),
             ("memory", 6, b"two", "cup.toml: memory\n"),
             ("memory", -11, b"two", ""),
@@ -382,20 +382,22 @@ class OutcomeTest(unittest.TestCase):
             ("write", 0, b"two lines\n", ""),
             ("write", 6, b"two", "kept0.jsonl: write\n"),
         ):
-            with self.subTest(mode=mode, found=found), self.assertRaises(Wrong):
-                self.outcome(mode, *found)
-        with self.assertRaises(Wrong):
-            self.outcome("memory", 0, printed, "", refused=0)
-        with self.assertRaises(Wrong):
+            with self.subTest(mode=mode, found=result), self.assertRaises(
+                FailedCheckError
+            ):
+                self.outcome(mode, *result)
+        with self.assertRaises(FailedCheckError):
+            self.outcome("memory", 0, output, "", refusal=0)
+        with self.assertRaises(FailedCheckError):
             self.outcome(
                 "memory",
                 5,
-                printed,
+                output,
                 "kept0.jsonl: memory\n",
                 replays={"kept0.jsonl": b"end\n"},
             )
-        with self.assertRaises(Wrong):
-            self.outcome("memory", 0, printed, "", replays={})
+        with self.assertRaises(FailedCheckError):
+            self.outcome("memory", 0, output, "", replays={})
 
     def test_places_are_spread(self):
         self.assertEqual(list(refused_calls.places(5, 0)), [1, 2, 3, 4, 5])
@@ -434,7 +436,7 @@ class ServedTest(unittest.TestCase):
         )
         with unittest.mock.patch.object(
             refused_servers,
-            "judged",
+            "judge",
             lambda lab, text, *words: self.TABLE if b'{"end":' in text else None,
         ):
             return refused_servers.served_outcome(mode, contest, None)
@@ -460,7 +462,7 @@ class ServedTest(unittest.TestCase):
 
     def test_what_must_not_come(self):
         short = Run(0, b"listening N\n", "")
-        for mode, given in (
+        for mode, arguments in (
             ("memory", {"seconds": refused_servers.SOON + 1.0}),
             ("memory", {"heard": [b"", b""]}),
             ("short-read", {"heard": [HERE, self.KEY]}),
@@ -482,5 +484,7 @@ class ServedTest(unittest.TestCase):
             ),
             ("memory", {"run": Run(-6, b"listening N\n", "")}),
         ):
-            with self.subTest(mode=mode, given=given), self.assertRaises(Wrong):
-                self.outcome(mode, **given)
+            with self.subTest(mode=mode, given=arguments), self.assertRaises(
+                FailedCheckError
+            ):
+                self.outcome(mode, **arguments)

@@ -1,5 +1,5 @@
-"""What a release has, that it says whether its program is proved, and that its bytes
-are the same each time."""
+"""Checks the contents of a release, that it says whether its program is proved, and
+that builds are reproducible."""
 import contextlib
 import json
 import os
@@ -19,7 +19,7 @@ from arena_lab import api  # noqa: F401
 from arena_lab.__main__ import COMMANDS
 from arena_lab.support import built, missing
 from tests import TOP, needs
-from tests.support.output import ran, write
+from tests.support.output import run_call, write
 from tests.test_gate import module
 from tools import packages
 from tools.prove import prover, version
@@ -80,11 +80,13 @@ class Repositories(unittest.TestCase):
         self.proved = write(self.top / "out" / "proved", "", 0o755)
         self.proved.write_bytes(pathlib.Path("/bin/true").read_bytes())
         self.unproved = write(self.top / "out" / "unproved", "", 0o755)
-        self.unproved.write_bytes(self.proved.read_bytes() + built.SAID.encode())
+        self.unproved.write_bytes(
+            self.proved.read_bytes() + built.UNPROVED_LINE.encode()
+        )
         crates = self.top / "crates"
         kit = self.top / "kit"
         site = write(self.top / "out" / "site.py", SITE)
-        for owner, found in (
+        for owner, result in (
             (
                 release,
                 {
@@ -99,11 +101,11 @@ class Repositories(unittest.TestCase):
             (built, {}),
         ):
             self.enterContext(
-                unittest.mock.patch.multiple(owner, TOP=self.top, **found)
+                unittest.mock.patch.multiple(owner, TOP=self.top, **result)
             )
         self.enterContext(
             unittest.mock.patch.object(
-                release.unproved, "compiled", lambda _: self.unproved
+                release.unproved, "compiled_program", lambda _: self.unproved
             )
         )
 
@@ -114,19 +116,19 @@ class Repositories(unittest.TestCase):
 
 @needs("git", "git")
 class Releases(Repositories):
-    def made(self, *words: str, status: int = 0) -> Tuple[str, str]:
+    def make_release(self, *words: str, status: int = 0) -> Tuple[str, str]:
         """What making a release says on standard output and on standard error."""
-        found, said, errors = ran(
+        result, output, errors = run_call(
             release.main, [*words, "--out", str(self.top / "out" / "release")]
         )
-        self.assertEqual(found, status)
-        return said, errors
+        self.assertEqual(result, status)
+        return output, errors
 
-    def unpacked(self, name: str) -> Dict[str, Tuple[str, int]]:
+    def archive_files(self, name: str) -> Dict[str, Tuple[str, int]]:
         """The texts and modes of the files of an archive, by their paths."""
         with tarfile.open(self.top / "out" / "release" / f"{name}.tar.gz") as archive:
             self.assertEqual(archive.getnames(), sorted(archive.getnames()))
-            found = {}
+            results = {}
             for entry in archive.getmembers():
                 self.assertEqual(
                     (entry.uid, entry.gid, entry.uname, entry.gname),
@@ -134,17 +136,17 @@ class Releases(Repositories):
                 )
                 folder, _, path = entry.name.partition("/")
                 self.assertEqual(folder, name)
-                found[path] = (
+                results[path] = (
                     archive.extractfile(entry).read().decode(errors="replace"),
                     entry.mode,
                 )
-        return found
+        return results
 
     def test_it_has_what_plays_and_what_was_proved(self) -> None:
-        self.assertIn(f"{NAME}.tar.gz: ", self.made()[0])
-        found = self.unpacked(NAME)
+        self.assertIn(f"{NAME}.tar.gz: ", self.make_release()[0])
+        result = self.archive_files(NAME)
         self.assertEqual(
-            sorted(found),
+            sorted(result),
             sorted(
                 [
                     "BUILD",
@@ -166,38 +168,38 @@ class Releases(Repositories):
                 ]
             ),
         )
-        runnable = {path for path, (_, mode) in found.items() if mode == 0o755}
+        runnable = {path for path, (_, mode) in result.items() if mode == 0o755}
         self.assertEqual(runnable, {"arena", "bin/arena", "bin/bhs_player", "bin/ring"})
-        build = found["BUILD"][0]
-        facts = found["PROVED.txt"][0]
+        build = result["BUILD"][0]
+        facts = result["PROVED.txt"][0]
         self.assertRegex(
             build,
             r"^arena 1\.2\.3, proved\ncommit [0-9a-f]{40}, tree clean\ntoolchain kit 1\n"
             r"needs Linux on x86-64 with glibc 2\.\d+ or newer, and Python 3\.11 or newer\n$",
         )
         self.assertTrue(facts.startswith(build))
-        for said in (
+        for message in (
             release.digest_of(self.proved.read_bytes()),
             "compiler 2",
             "  bhs_main\n",
             "once each was proved",
         ):
-            self.assertIn(said, facts)
+            self.assertIn(message, facts)
 
     def test_no_test_of_the_tree_is_taken(self) -> None:
         """The wheel and the Debian package have what the archive has, and the wheel of
         pip has arena_lab alone."""
-        tests = {str(it.relative_to(TOP)) for it in (TOP / "tests").rglob("*.py")}
+        tests = {str(path.relative_to(TOP)) for path in (TOP / "tests").rglob("*.py")}
         self.assertGreater(len(tests), 150)
-        self.assertEqual([it for it in tests if release.is_taken(it)], [])
+        self.assertEqual([test for test in tests if release.is_taken(test)], [])
         self.assertEqual([*(TOP / "arena_lab").rglob("test_*.py")], [])
 
     def test_what_it_takes_is_there(self) -> None:
-        for path in release.TAKEN:
+        for path in release.RELEASE_FILES:
             self.assertTrue((TOP / path).exists(), path)
 
     def test_the_checksums_are_those_of_the_files(self) -> None:
-        self.made()
+        self.make_release()
         folder = self.top / "out" / "release"
         subprocess.run(
             ["sha256sum", "--quiet", "-c", f"{NAME}.tar.gz.sha256"],
@@ -212,16 +214,16 @@ class Releases(Repositories):
 
     def test_two_archives_of_one_commit_are_alike(self) -> None:
         archive = self.top / "out" / "release" / f"{NAME}.tar.gz"
-        found = []
+        results = []
         for seconds in (1, 2_000_000_000):
             for path in FILES:
                 os.utime(self.top / path, (seconds, seconds))
             with unittest.mock.patch("time.time", return_value=float(seconds)):
-                self.made()
-            found.append(archive.read_bytes())
-        self.assertEqual(*found)
+                self.make_release()
+            results.append(archive.read_bytes())
+        self.assertEqual(*results)
 
-    def packed(self, top: pathlib.Path, **variables: str) -> Dict[str, str]:
+    def release_digests(self, top: pathlib.Path, **variables: str) -> Dict[str, str]:
         """The digests of a release that is made in a folder, with these variables."""
         owners = (release, prover, version, built)
         with contextlib.ExitStack() as stack:
@@ -232,8 +234,8 @@ class Releases(Repositories):
             stack.callback(os.umask, os.umask(int(variables["UMASK"], 8)))
             time.tzset()
             out = top / "out" / "release"
-            found, _, errors = ran(release.main, ["--out", str(out)])
-        self.assertEqual((found, errors), (0, ""))
+            result, _, errors = run_call(release.main, ["--out", str(out)])
+        self.assertEqual((result, errors), (0, ""))
         return {
             path.name: release.digest_of(path.read_bytes())
             for path in out.iterdir()
@@ -242,19 +244,25 @@ class Releases(Repositories):
 
     @needs("dpkg-deb", "dpkg")
     def test_releases_are_alike_in_any_folder_zone_and_locale(self) -> None:
-        other = self.top.with_name(f"{self.top.name} elsewhere")
-        shutil.copytree(self.top, other, symlinks=True)
-        self.addCleanup(shutil.rmtree, other)
-        one = self.packed(self.top, TZ="UTC", LC_ALL="C", COLUMNS="80", UMASK="022")
-        two = self.packed(
-            other, TZ="Pacific/Kiritimati", LC_ALL="C.UTF-8", COLUMNS="200", UMASK="077"
+        second = self.top.with_name(f"{self.top.name} elsewhere")
+        shutil.copytree(self.top, second, symlinks=True)
+        self.addCleanup(shutil.rmtree, second)
+        first = self.release_digests(
+            self.top, TZ="UTC", LC_ALL="C", COLUMNS="80", UMASK="022"
         )
-        self.assertEqual(len(one), 3)
-        self.assertEqual(one, two)
+        two = self.release_digests(
+            second,
+            TZ="Pacific/Kiritimati",
+            LC_ALL="C.UTF-8",
+            COLUMNS="200",
+            UMASK="077",
+        )
+        self.assertEqual(len(first), 3)
+        self.assertEqual(first, two)
 
     @needs("dpkg-deb", "dpkg")
     def test_the_debian_package_has_the_site(self) -> None:
-        self.made()
+        self.make_release()
         folder = self.top / "out" / "release"
         words = ["dpkg-deb", "-R", str(folder / "arena_1.2.3_amd64.deb"), "there"]
         subprocess.run(words, cwd=self.top, check=True)
@@ -263,7 +271,9 @@ class Releases(Repositories):
 
     def test_without_the_site_there_is_no_release(self) -> None:
         write(self.top / "out" / "site.py", "raise SystemExit(1)")
-        self.assertIn("release: the site was not built: ", self.made(status=1)[1])
+        self.assertIn(
+            "release: the site was not built: ", self.make_release(status=1)[1]
+        )
         self.assertFalse((self.top / "out" / "release").exists())
 
     def test_the_bill_names_what_is_linked(self) -> None:
@@ -276,7 +286,7 @@ class Releases(Repositories):
         )
         whole = json.loads(release.bill.bill_of(kit, libraries, "2.34"))
         self.assertEqual(
-            [it["name"] for it in whole["components"]],
+            [component["name"] for component in whole["components"]],
             ["quoting", "std", "thiserror", "glibc"],
         )
         self.assertEqual(
@@ -288,61 +298,64 @@ class Releases(Repositories):
     def test_one_without_a_proof_never_says_proved(self) -> None:
         write(self.top / "README.md", "changed\n")
         name = f"{NAME}-unproved"
-        self.assertIn(f"{name}.tar.gz: ", self.made("--unproved")[0])
-        found = self.unpacked(name)
-        self.assertNotIn("PROVED.txt", found)
+        self.assertIn(f"{name}.tar.gz: ", self.make_release("--unproved")[0])
+        result = self.archive_files(name)
+        self.assertNotIn("PROVED.txt", result)
         self.assertRegex(
-            found["BUILD"][0],
+            result["BUILD"][0],
             r"^arena 1\.2\.3, unproved\ncommit [0-9a-f]{40}, tree changed\n",
         )
-        said = found["UNPROVED.txt"][0]
-        self.assertIn("Nothing that this archive has was proved.", said)
-        self.assertNotIn(", proved", said)
-        self.assertNotIn("once each was proved", said)
+        output = result["UNPROVED.txt"][0]
+        self.assertIn("Nothing that this archive has was proved.", output)
+        self.assertNotIn(", proved", output)
+        self.assertNotIn("once each was proved", output)
 
     def test_a_tree_that_has_changed_is_refused(self) -> None:
         write(self.top / "README.md", "changed\n")
         self.assertIn(
-            "release: the tree has changed since its commit", self.made(status=1)[1]
+            "release: the tree has changed since its commit",
+            self.make_release(status=1)[1],
         )
         self.git("checkout", "-q", ".")
         write(self.top / "new", "")
         self.assertIn(
-            "release: the tree has changed since its commit", self.made(status=1)[1]
+            "release: the tree has changed since its commit",
+            self.make_release(status=1)[1],
         )
 
     def test_the_program_is_proved_first(self) -> None:
-        for status, said in (
+        for status, message in (
             (0, "says that it is not proved"),
             (1, "the program was not proved"),
         ):
             write(self.top / "tools" / "build", f"#!/bin/sh\nexit {status}\n", 0o755)
             self.git("add", ".")
             self.git("commit", "-q", "-m", "two")
-            write(built.ARENA.proved, f"one that says {built.SAID}")
+            write(built.ARENA.proved_path, f"one that says {built.UNPROVED_LINE}")
             with unittest.mock.patch.object(release, "proved_program", PROVED_PROGRAM):
-                self.assertIn(said, self.made(status=1)[1])
+                self.assertIn(message, self.make_release(status=1)[1])
 
     def test_the_other_program_is_refused(self) -> None:
         with unittest.mock.patch.object(
             release, "proved_program", lambda _: self.unproved
         ):
             self.assertIn(
-                "this program says that it is not proved", self.made(status=1)[1]
+                "this program says that it is not proved",
+                self.make_release(status=1)[1],
             )
         with unittest.mock.patch.object(
-            release.unproved, "compiled", lambda _: self.proved
+            release.unproved, "compiled_program", lambda _: self.proved
         ):
             self.assertIn(
                 "this program does not say that it is not proved",
-                self.made("--unproved", status=1)[1],
+                self.make_release("--unproved", status=1)[1],
             )
         self.assertFalse((self.top / "out" / "release").exists())
 
     def test_without_a_repository_it_says_what_to_do(self) -> None:
         (self.top / ".git").rename(self.top / "git")
         self.assertIn(
-            "run it in a git repository", self.made("--unproved", status=1)[1]
+            "run it in a git repository", self.make_release("--unproved", status=1)[1]
         )
 
 
@@ -357,7 +370,7 @@ class Versions(Repositories):
             text=True,
         )
         commit = f"commit {head.stdout.strip()}, tree"
-        for is_proved, word, more in (
+        for is_proved, word, extra in (
             (True, "proved", ""),
             (False, "unproved", f"{version.HOW_TO_PROVE}\n"),
         ):
@@ -366,7 +379,7 @@ class Versions(Repositories):
             ):
                 self.assertEqual(
                     version.text(),
-                    f"arena 1.2.3, {word}\n{commit} clean\ntoolchain kit 1\n{more}",
+                    f"arena 1.2.3, {word}\n{commit} clean\ntoolchain kit 1\n{extra}",
                 )
         write(self.top / "new", "")
         self.assertEqual(version.commit(), f"{commit} changed")
@@ -378,11 +391,11 @@ class Versions(Repositories):
     def test_the_toolchain_is_the_one_that_built_the_program(self) -> None:
         write(self.top / "kit" / "KIT-ID", "kit 2\n")
         self.assertEqual(
-            (version.recorded(), version.installed()),
+            (version.recorded_version(), version.installed_version()),
             ("toolchain kit 1", "toolchain kit 2"),
         )
-        built.ARENA.proved.with_name(built.RECORD).unlink()
-        self.assertEqual(version.recorded(), "toolchain not known")
+        built.ARENA.proved_path.with_name(built.RECORD).unlink()
+        self.assertEqual(version.recorded_version(), "toolchain not known")
 
     def test_a_release_says_what_it_was_made_of(self) -> None:
         write(self.top / "BUILD", "arena 1.2.3, proved\n")
@@ -399,7 +412,9 @@ class SourcePackage(unittest.TestCase):
         text = (TOP / "debian" / "control").read_text().replace("\n ", " ")
         (line,) = re.findall("^Build-Depends: (.*)$", text, re.M)
         needs = {word.split(" ")[0] for word in line.split(", ")}
-        site = {it for it in packages.listed("gate") if it.startswith("mkdocs")}
-        pages = {missing.PACKAGES[it] for it in COMMANDS["page"].needs}
-        others = {"binutils", "git", "libc6-dev", "python3"}
-        self.assertEqual(needs, site | pages | others)
+        site = {
+            name for name in packages.package_names("gate") if name.startswith("mkdocs")
+        }
+        pages = {missing.PACKAGES[need] for need in COMMANDS["page"].needs}
+        rest = {"binutils", "git", "libc6-dev", "python3"}
+        self.assertEqual(needs, site | pages | rest)

@@ -5,7 +5,7 @@ import re
 import unittest
 
 from arena_lab.search.ring_bounds import least_moves, more_moves, most_moves
-from bench.ring_bounds import AGENTS, explored
+from bench.ring_bounds import AGENTS, explore_moves
 
 PROTOCOLS = pathlib.Path(__file__).resolve().parents[1] / "docs" / "PROTOCOLS.md"
 
@@ -17,9 +17,11 @@ class Bounds(unittest.TestCase):
             PROTOCOLS.read_text(encoding="utf-8"),
             re.M,
         )
-        found = [tuple(int(number.replace(",", "")) for number in row) for row in rows]
+        results = [
+            tuple(int(number.replace(",", "")) for number in row) for row in rows
+        ]
         self.assertEqual(
-            found, [(n, more_moves(n), most_moves(n)) for n in (8, 16, 64, 256, 1024)]
+            results, [(n, more_moves(n), most_moves(n)) for n in (8, 16, 64, 256, 1024)]
         )
 
     def test_halves_on_small_rings(self) -> None:
@@ -30,7 +32,7 @@ class Bounds(unittest.TestCase):
 
     def test_what_was_explored_lies_between_the_bounds(self) -> None:
         for agent in AGENTS:
-            points = explored(agent)
+            points = explore_moves(agent)
             self.assertGreater(len(points), 5, agent)
             for nodes, moves in points.items():
                 with self.subTest(agent, nodes=nodes):
@@ -40,5 +42,5 @@ class Bounds(unittest.TestCase):
                     self.assertLessEqual(moves, most_moves(nodes))
 
     def test_halves_make_as_many_moves_as_they_may(self) -> None:
-        found = explored("ring_step.py")
-        self.assertEqual(found, {nodes: most_moves(nodes) for nodes in found})
+        result = explore_moves("ring_step.py")
+        self.assertEqual(result, {nodes: most_moves(nodes) for nodes in result})

@@ -12,7 +12,7 @@ from unittest import mock
 from tests import needs
 from bench import serve
 from bench.serve import Bench, Figures, Load, load_of
-from tests.support.counts import Wrong
+from tests.support.counts import FailedCheckError
 from tests.support.servers import Server
 
 STAND_IN = f"{sys.executable} -m arena_lab"
@@ -72,12 +72,12 @@ class Rows(unittest.TestCase):
     def test_a_row_stands_under_its_head(self) -> None:
         for mode in ("one", "many"):
             load = Load("looks", mode, 1, 2, 10)
-            found = (
+            result = (
                 self.FOUND
                 if mode == "many"
                 else {name: self.FOUND[name] for name in ("arena", "all")}
             )
-            line = serve.row(load, found)
+            line = serve.row(load, result)
             self.assertEqual(
                 line.split()[:7], ["looks", mode, "1", "20", "50", "100", "0.500"]
             )
@@ -86,15 +86,17 @@ class Rows(unittest.TestCase):
 
     def test_a_ratio_is_judged(self) -> None:
         self.assertTrue(
-            serve.judged(Load("looks", "one", 1, 1, 2), self.FOUND).endswith(
+            serve.verdict(Load("looks", "one", 1, 1, 2), self.FOUND).endswith(
                 "wanted: holds"
             )
         )
         slow = {**self.FOUND, "arena": Figures(19.0, 0, 0)}
         self.assertTrue(
-            serve.judged(Load("looks", "many", 1, 1, 2), slow).endswith("does not hold")
+            serve.verdict(Load("looks", "many", 1, 1, 2), slow).endswith(
+                "does not hold"
+            )
         )
-        self.assertIsNone(serve.judged(Load("moves", "one", 1, 1, 2), self.FOUND))
+        self.assertIsNone(serve.verdict(Load("moves", "one", 1, 1, 2), self.FOUND))
 
     def test_the_median_is_taken_of_each_figure(self) -> None:
         figures = [Figures(1, 5, 9), Figures(3, 4, 8), Figures(2, 6, 7)]
@@ -107,7 +109,7 @@ class Programs(unittest.TestCase):
     def setUpClass(cls) -> None:
         folder = tempfile.TemporaryDirectory()
         cls.addClassCleanup(folder.cleanup)
-        cls.bench = Bench.made(pathlib.Path(folder.name))
+        cls.bench = Bench.build(pathlib.Path(folder.name))
 
     def test_each_load_on_the_echo(self) -> None:
         for writes in ("all", "each"):
@@ -140,7 +142,7 @@ class Programs(unittest.TestCase):
         with socket.create_server(("127.0.0.1", 0)) as listener:
             thread = threading.Thread(target=self.deny, args=(listener,))
             thread.start()
-            with self.assertRaisesRegex(Wrong, "another answer"):
+            with self.assertRaisesRegex(FailedCheckError, "another answer"):
                 self.bench.figures(
                     listener.getsockname()[1], Load("looks", "one", 1, 1, 1)
                 )
@@ -152,7 +154,7 @@ class Programs(unittest.TestCase):
             client.sendall(b'{"no":"key"}\n')
 
     def test_a_server_that_does_not_listen_has_failed(self) -> None:
-        with self.assertRaisesRegex(Wrong, "no such words"):
+        with self.assertRaisesRegex(FailedCheckError, "no such words"):
             with Server(
                 ["sh", "-c", "echo no such words >&2; exit 2"],
                 port=1,

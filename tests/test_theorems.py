@@ -237,16 +237,16 @@ PREMISES: Dict[str, str] = {
 }
 
 
-def definition(one: Theorem) -> str:
+def definition(theorem: Theorem) -> str:
     """The text of a definition, on one line and without comments."""
-    text = (TOP / SPECS.format(one.crate, one.file)).read_text(encoding="utf-8")
+    text = (TOP / SPECS.format(theorem.crate, theorem.file)).read_text(encoding="utf-8")
     block = re.search(
-        rf"^(?:abbrev )?pub (?:record )?{one.name}\b.*?(?=\n\n|\Z)|^abbrev pub {one.name} .*?(?=\n\n|\Z)",
+        rf"^(?:abbrev )?pub (?:record )?{theorem.name}\b.*?(?=\n\n|\Z)|^abbrev pub {theorem.name} .*?(?=\n\n|\Z)",
         text,
         re.DOTALL | re.MULTILINE,
     )
     if block is None:
-        raise ValueError(f"{one.name} is not in {one.file}")
+        raise ValueError(f"{theorem.name} is not in {theorem.file}")
     return re.sub(r"\s+", " ", re.sub(r"--.*", "", block[0]))
 
 
@@ -265,15 +265,15 @@ def parts_of(text: str) -> Iterator[str]:
 
 
 def is_binder(part: str) -> bool:
-    """Whether a part names what the statement is about, as `(net : Network) (hole : ℕ)`
-    does."""
+    """Returns whether a part names what the statement is about, as `(net : Network)
+    (hole : ℕ)` does."""
     return bool(re.fullmatch(r"(\([^()]* : [^()]*(\([^()]*\))?[^()]*\) ?)+", part))
 
 
-def premises(one: Theorem) -> List[str]:
+def premises(theorem: Theorem) -> List[str]:
     """The premises of a definition: what stands before its last arrow, of each field if
     it is a record."""
-    text = definition(one)
+    text = definition(theorem)
     if " where " in text:
         bodies = [
             field.partition(" : ")[2]
@@ -319,8 +319,8 @@ def laws() -> Iterator[Tuple[pathlib.Path, str]]:
     """The functions that do nothing, and the file of each: their contracts are laws."""
     law = re.compile(r"^pub fn (\w+)(?:(?!^(?:pub )?fn ).)*?^\{\}$", re.M | re.S)
     for path in sorted(TOP.glob("crates/*/src/**/*.rt")):
-        for found in law.finditer(path.read_text(encoding="utf-8")):
-            yield path, found[1]
+        for match in law.finditer(path.read_text(encoding="utf-8")):
+            yield path, match[1]
 
 
 def shown_of(root: str, module: str) -> Set[str]:
@@ -330,7 +330,7 @@ def shown_of(root: str, module: str) -> Set[str]:
 
 
 def is_public(path: pathlib.Path, name: str) -> bool:
-    """Whether other crates may call a function. Nothing stands on a program."""
+    """Returns whether other crates may call a function. Nothing stands on a program."""
     root = path.parent / "lib.rt"
     if path == root or not root.exists():
         return True
@@ -341,9 +341,9 @@ def is_public(path: pathlib.Path, name: str) -> bool:
 
 class Theorems(unittest.TestCase):
     def test_each_law_is_the_contract_of_a_public_call(self) -> None:
-        found = list(laws())
-        self.assertGreater(len(found), 80)
-        for path, name in found:
+        results = list(laws())
+        self.assertGreater(len(results), 80)
+        for path, name in results:
             with self.subTest(crate=path.parts[-3], law=name):
                 self.assertTrue(is_public(path, name))
 
@@ -376,10 +376,10 @@ class Theorems(unittest.TestCase):
             for pattern in NAMES
             for name in re.findall(pattern, text, re.MULTILINE)
         }
-        named = {name for name in clauses() if not re.fullmatch(r"bhs_\w+", name)}
-        self.assertGreater(len(named), 80)
+        names = {name for name in clauses() if not re.fullmatch(r"bhs_\w+", name)}
+        self.assertGreater(len(names), 80)
         self.assertEqual(
-            sorted(name for name in named if name.rpartition("::")[2] not in there), []
+            sorted(name for name in names if name.rpartition("::")[2] not in there), []
         )
 
     def test_the_sizes_are_those_up_to_which_a_file_has_the_quota(self) -> None:

@@ -32,28 +32,28 @@ f = uses
 @needs("git", "git")
 class Unnamed(InTemporary):
     def test_what_is_unnamed_is_known(self) -> None:
-        found = unnamed.unnamed()
-        known = unnamed.known()
+        result = unnamed.unnamed_names()
+        facts = unnamed.known_rows()
         self.assertEqual(
-            [row for row in found if row not in known], [], "delete it, or name it"
+            [row for row in result if row not in facts], [], "delete it, or name it"
         )
         self.assertEqual(
-            [row for row in known if row not in found],
+            [row for row in facts if row not in result],
             [],
             "delete the row of tools/prove/known_unnamed",
         )
 
     def test_a_lemma_that_only_its_own_lines_name_is_found(self) -> None:
         file = self.folder / "one" / "proofs" / "Lemmas.antt"
-        other = self.folder / "two" / "proofs" / "Other.antt"
-        for path, text in ((file, LEMMAS), (other, IMPORTS)):
+        second = self.folder / "two" / "proofs" / "Other.antt"
+        for path, text in ((file, LEMMAS), (second, IMPORTS)):
             write(path, text)
         with unittest.mock.patch.object(unnamed, "CRATES", self.folder):
             self.assertEqual(
                 list(unnamed.definitions(file)), ["uses", "never_used", "Named"]
             )
             self.assertEqual(
-                set(unnamed.named_in(other)),
+                set(unnamed.named_in(second)),
                 {("one.proofs.Lemmas", "uses"), ("one.proofs.Lemmas", "Named")},
             )
 

@@ -20,17 +20,17 @@ class Versions(unittest.TestCase):
 
     def test_the_newest_changes_have_it(self) -> None:
         headings = re.findall(r"^## (\S+)", (TOP / "CHANGELOG.md").read_text(), re.M)
-        released = [it for it in headings if it != "Unreleased"]
-        self.assertEqual(released[0].rstrip(","), VERSION)
+        release = [heading for heading in headings if heading != "Unreleased"]
+        self.assertEqual(release[0].rstrip(","), VERSION)
         self.assertRegex(VERSION, r"^\d+\.\d+\.\d+$")
         self.assertEqual(version.version(), VERSION)
 
     def test_who_cites_it_names_it(self) -> None:
-        cited = re.findall(
+        cited_value = re.findall(
             r"^version: (\S+)$", (TOP / "CITATION.cff").read_text(), re.M
         )
-        self.assertEqual(cited, [VERSION])
-        noted = re.findall(
+        self.assertEqual(cited_value, [VERSION])
+        noted_value = re.findall(
             r"Version (\S+)}", (TOP / "docs" / "PROTOCOLS.md").read_text()
         )
-        self.assertEqual(noted, [VERSION])
+        self.assertEqual(noted_value, [VERSION])

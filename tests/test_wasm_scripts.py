@@ -9,7 +9,7 @@ import unittest.mock
 from typing import Any, Dict, List
 
 from tests.program import wasm_scripts
-from tests.program.wasm_scripts import Module, Scripts, Told
+from tests.program.wasm_scripts import Module, Scripts, ModuleVerdict
 from tests.support.program_rows import Stage
 from tests.support.wasm_encoding import Function, module, with_run
 
@@ -48,90 +48,96 @@ PLAYED = """(module
 
 
 def command(
-    kind: str, field: str, *expected: Dict[str, str], **more: str
+    kind: str, field: str, *args: Dict[str, str], **extra: str
 ) -> Dict[str, Any]:
     action = {"type": "invoke", "field": field, "args": [{"type": "i32", "value": "7"}]}
-    return {"type": kind, "line": 1, "action": action, "expected": [*expected], **more}
+    return {"type": kind, "line": 1, "action": action, "expected": [*args], **extra}
 
 
 class Texts(unittest.TestCase):
     def test_what_agents_do_without_is_replaced_or_traps(self) -> None:
-        found = Module(TEXT)
-        self.assertEqual(found.running(found.first), PLAYED)
+        result = Module(TEXT)
+        self.assertEqual(result.running(result.first), PLAYED)
         self.assertEqual(
-            (found.stubs, found.exports),
+            (result.stubs, result.exports),
             ([1], {"run": ("func", "1"), 'a"f32': ("func", "2")}),
         )
 
     def test_a_check_traps_if_a_result_is_another(self) -> None:
-        found = Module(TEXT)
-        one, two = (
+        result = Module(TEXT)
+        first, two = (
             {"type": kind, "value": value}
             for kind, value in (("i32", "1"), ("i64", "2"))
         )
         self.assertEqual(
-            found.check(command("assert_return", "run", one, two)),
+            result.check(command("assert_return", "run", first, two)),
             "i32.const 7 call 1 i64.const 2 "
             "i64.ne if unreachable end i32.const 1 i32.ne if unreachable end",
         )
         self.assertEqual(
-            found.check(command("assert_trap", "run", {"type": "i32"})),
+            result.check(command("assert_trap", "run", {"type": "i32"})),
             "i32.const 7 call 1 drop",
         )
         self.assertIsNone(
-            found.check(command("assert_return", "run", {"type": "f32", "value": "0"}))
+            result.check(command("assert_return", "run", {"type": "f32", "value": "0"}))
         )
 
     def test_run_is_added_behind_all_others(self) -> None:
-        other = Function([0x7F], [], b"\x01", "other")
+        function = Function([0x7F], [], b"\x01", "other")
         nothing = Function([], [], b"", "run")
-        self.assertEqual(with_run(module([other])), module([other, nothing]))
+        self.assertEqual(with_run(module([function])), module([function, nothing]))
 
 
 class Counted(unittest.TestCase):
     """What is counted of a program that says the same of every module."""
 
-    def failed(self, told: Told, *calls: Dict[str, Any]) -> List[str]:
+    def failures(self, verdict: ModuleVerdict, *calls: Dict[str, Any]) -> List[str]:
         """The lines of what failed."""
-        found = Module(TEXT)
-        found.calls = [*calls]
+        result = Module(TEXT)
+        result.calls = [*calls]
         scripts = Scripts(
             Stage(
                 "none", pathlib.Path(self.enterContext(tempfile.TemporaryDirectory()))
             )
         )
         (scripts.stage.folder / "file").write_bytes(module([]))
-        printed = io.StringIO()
+        output = io.StringIO()
         with unittest.mock.patch.object(
             wasm_scripts, "wabt", lambda *_: False
         ), unittest.mock.patch.multiple(
-            Scripts, told=lambda *_: told, run=lambda *_: told
+            Scripts, verdict_of=lambda *_: verdict, run=lambda *_: verdict
         ), contextlib.redirect_stdout(
-            printed
+            output
         ):
-            scripts.call("one", found)
+            scripts.call("one", result)
             scripts.refuse(
                 scripts.stage.folder / "file", "two", {"type": "assert_invalid"}
             )
-        return [line.split()[1] for line in printed.getvalue().splitlines()]
+        return [line.split()[1] for line in output.getvalue().splitlines()]
 
     def test_a_program_that_takes_all_and_runs_nothing_fails(self) -> None:
         self.assertEqual(
-            self.failed(Told(), command("assert_trap", "run")), ["one:1", "two:"]
+            self.failures(ModuleVerdict(), command("assert_trap", "run")),
+            ["one:1", "two:"],
         )
 
     def test_a_trap_fails_a_call_that_returns_and_counts_only_in_the_module(
         self,
     ) -> None:
         calls = command("assert_return", "run"), command("assert_trap", "run")
-        self.assertEqual(self.failed(Told("", "trap", 2), *calls), ["one:1", "two:"])
         self.assertEqual(
-            self.failed(Told("", "trap", 3), *calls), ["one:1", "one:1", "two:"]
+            self.failures(ModuleVerdict("", "trap", 2), *calls), ["one:1", "two:"]
         )
-        self.assertEqual(self.failed(Told("", "trap", 1), *calls), ["two:"])
+        self.assertEqual(
+            self.failures(ModuleVerdict("", "trap", 3), *calls),
+            ["one:1", "one:1", "two:"],
+        )
+        self.assertEqual(self.failures(ModuleVerdict("", "trap", 1), *calls), ["two:"])
 
     def test_a_fault_is_no_trap(self) -> None:
         self.assertEqual(
-            self.failed(Told("index at byte 9"), command("assert_trap", "run")),
+            self.failures(
+                ModuleVerdict("index at byte 9"), command("assert_trap", "run")
+            ),
             ["one:1"],
         )

@@ -23,7 +23,7 @@ WHOLE = ("|", "![", "    ")
 
 def files() -> List[pathlib.Path]:
     """The files of code and prose, but for what tools put into folders `out`."""
-    found = [
+    results = [
         *TOP.glob("*.md"),
         *(
             file
@@ -34,13 +34,13 @@ def files() -> List[pathlib.Path]:
     ]
     return [
         file
-        for file in found
+        for file in results
         if file.suffix in CODE | {".md"} and "out" not in file.relative_to(TOP).parts
     ]
 
 
 def lines_of(file: pathlib.Path) -> Iterator[Tuple[int, str]]:
-    """The lines of a file that can be broken, with their numbers."""
+    """Yields the lines of a file that could be wrapped, with their numbers."""
     is_fenced = False
     for number, line in enumerate(file.read_text().splitlines(), 1):
         is_fenced ^= file.suffix == ".md" and line.startswith("```")
@@ -52,10 +52,10 @@ class Width(unittest.TestCase):
     def test_lines_are_not_too_wide(self) -> None:
         chosen = files()
         self.assertGreater(len(chosen), 1000)
-        found = [
+        results = [
             f"{file.relative_to(TOP)}:{number}"
             for file in chosen
             for number, line in lines_of(file)
             if len(line) > WIDTH
         ]
-        self.assertEqual(found, [])
+        self.assertEqual(results, [])

@@ -7,7 +7,7 @@ import tomllib
 from typing import Dict, List, Optional, Sequence
 
 LIST = pathlib.Path(__file__).resolve().with_name("packages.toml")
-# does not wait for long where there is no network, but for another that installs
+# fails quickly without a network, but waits while another process installs
 APT = [
     "apt-get",
     "-q",
@@ -23,11 +23,13 @@ APT = [
 
 def groups(table: str) -> Dict[str, List[str]]:
     """The groups of a table of the list."""
-    found: Dict[str, List[str]] = tomllib.loads(LIST.read_text(encoding="utf-8"))[table]
-    return found
+    packages: Dict[str, List[str]] = tomllib.loads(LIST.read_text(encoding="utf-8"))[
+        table
+    ]
+    return packages
 
 
-def listed(*tables: str) -> List[str]:
+def package_names(*tables: str) -> List[str]:
     """The packages of these tables."""
     return [
         package
@@ -38,9 +40,9 @@ def listed(*tables: str) -> List[str]:
 
 
 def missing(packages: Sequence[str]) -> List[str]:
-    """Which of these packages are not installed."""
+    """Returns the packages that are not installed."""
     try:
-        ran = subprocess.run(
+        result = subprocess.run(
             ["dpkg-query", "-W", "-f", "${Package} ${db:Status-Status}\n", *packages],
             capture_output=True,
             text=True,
@@ -49,7 +51,7 @@ def missing(packages: Sequence[str]) -> List[str]:
         return list(packages)
     there = {
         line.split()[0]
-        for line in ran.stdout.splitlines()
+        for line in result.stdout.splitlines()
         if line.endswith(" installed")
     }
     return [package for package in packages if package not in there]
@@ -79,8 +81,8 @@ def apt(*words: str, folder: Optional[pathlib.Path] = None) -> bool:
 
 
 def install(packages: Sequence[str]) -> str:
-    """Installs those of these packages that are missing. Gives nothing if all are there
-    then, else a line that says what to install."""
+    """Installs missing packages, if run as root. Returns "" on success, else a line
+    that names the packages to install."""
     absent = missing(packages)
     if absent and os.geteuid() == 0:
         words = ["install", "--no-install-recommends", *absent]
@@ -93,21 +95,21 @@ def install(packages: Sequence[str]) -> str:
     )
 
 
-def fetched(package: str, folder: pathlib.Path) -> Optional[pathlib.Path]:
+def fetch_source(package: str, folder: pathlib.Path) -> Optional[pathlib.Path]:
     """The archive of a package's sources, fetched into a folder from where this machine
     has its packages: nothing if it cannot be. No list of apt-get's own is changed."""
-    written = folder / "sources.list"
+    source_list = folder / "sources.list"
     places = {
         "Dir::State::Lists": folder / "lists",
         "Dir::Cache": folder / "cache",
-        "Dir::Etc::SourceList": written,
+        "Dir::Etc::SourceList": source_list,
         "Dir::Etc::SourceParts": "/dev/null",
         "APT::Sandbox::User": "root",
     }
-    for place in ("lists/partial", "cache/archives/partial"):
-        (folder / place).mkdir(parents=True)
+    for folder_name in ("lists/partial", "cache/archives/partial"):
+        (folder / folder_name).mkdir(parents=True)
     try:
-        ran = subprocess.run(
+        result = subprocess.run(
             [
                 APT[0],
                 "indextargets",
@@ -121,7 +123,7 @@ def fetched(package: str, folder: pathlib.Path) -> Optional[pathlib.Path]:
         )
     except FileNotFoundError:
         return None
-    written.write_text(ran.stdout.partition("\n")[0])
+    source_list.write_text(result.stdout.partition("\n")[0])
     options = [
         word for name, value in places.items() for word in ("-o", f"{name}={value}")
     ]

@@ -9,7 +9,7 @@ import sys
 from typing import Callable, Iterable, List, NamedTuple, Optional, Sequence
 
 from arena_lab.support.missing import DEBIANS_PYTHON
-from tests.support.counts import SKIPPED, Counts, concluded, counts_in
+from tests.support.counts import SKIPPED, Counts, report_counts, counts_in
 
 TOP = pathlib.Path(__file__).resolve().parents[1]
 # Debian's Python sees Debian's packages
@@ -22,12 +22,12 @@ FAILURE = re.compile(
 PASSED = (1, 0)
 FAILED = (0, 1)
 NONE = (0, 0)
-# what was skipped, and why, and what failed
-skipped: List[str] = []
+# reasons for skipped tests, and names of failures
+skip_reasons: List[str] = []
 failures: List[str] = []
 
 
-class Ran(NamedTuple):
+class CommandEnd(NamedTuple):
     """How a command ended: its exit status, what its last line counts, and whether it
     said that it skipped something."""
 
@@ -37,9 +37,10 @@ class Ran(NamedTuple):
 
 
 def is_skipped(line: str) -> bool:
-    """Whether a line says that something was skipped; it is kept for the end then."""
+    """Returns whether a line says that something was skipped; it is kept for the end
+    then."""
     if line.startswith(SKIPPED):
-        skipped.append(line[len(SKIPPED) :])
+        skip_reasons.append(line[len(SKIPPED) :])
     return line.startswith(SKIPPED)
 
 
@@ -54,10 +55,10 @@ def run(
     hear: Callable[[str], None] = lambda line: None,
     folder: pathlib.Path = TOP,
     **variables: str,
-) -> Ran:
-    """Runs a command. All lines are passed on but the last, if it counts, and those
-    that say what was skipped."""
-    held = ""
+) -> CommandEnd:
+    """Runs a command and passes its lines on, except the last line if it has counts,
+    and lines about skipped tests."""
+    last_line = ""
     has_skipped = False
     with subprocess.Popen(
         words,
@@ -70,23 +71,23 @@ def run(
     ) as child:
         assert child.stdout is not None
         for line in child.stdout:
-            print(held, end="", flush=True)
-            held = line if counts_in(line) else ""
+            print(last_line, end="", flush=True)
+            last_line = line if counts_in(line) else ""
             if is_skipped(line.strip()):
                 has_skipped = True
-            elif not held:
+            elif not last_line:
                 print(line, end="", flush=True)
                 note(line.strip())
             hear(line.strip())
-    return Ran(child.returncode, counts_in(held), has_skipped)
+    return CommandEnd(child.returncode, counts_in(last_line), has_skipped)
 
 
-def counted(ran: Ran) -> Counts:
+def count_tests(result: CommandEnd) -> Counts:
     """What counts for a command: its own numbers, with one failed if it failed and does
     not say so, and if it counts none and skipped none: then it played nothing."""
-    passed, failed = ran.counts or (FAILED if ran.status else PASSED)
-    has_played = ran.has_skipped or (passed, failed) != NONE
-    return passed, max(failed, int(ran.status != 0 or not has_played))
+    passes, failed_count = result.counts or (FAILED if result.status else PASSED)
+    has_played = result.has_skipped or (passes, failed_count) != NONE
+    return passes, max(failed_count, int(result.status != 0 or not has_played))
 
 
 def say(name: str, counts: Counts) -> None:
@@ -98,15 +99,15 @@ def say(name: str, counts: Counts) -> None:
         failures.append(line)
 
 
-def conclude(found: Iterable[Counts], lacking: str) -> int:
+def conclude(counts: Iterable[Counts], lacking: str) -> int:
     """Prints what was skipped, which packages are lacking, what failed, and the sum:
     gives how many failed."""
     for line in [
-        *([f"{len(skipped)} skipped:", *skipped] if skipped else []),
+        *([f"{len(skip_reasons)} skipped:", *skip_reasons] if skip_reasons else []),
         *([lacking] if lacking else []),
         *(["failed:", *failures] if failures else []),
     ]:
         print(line)
-    passed, failed = map(sum, zip(*found))
-    concluded(passed, failed)
-    return failed
+    passes, failed_count = map(sum, zip(*counts))
+    report_counts(passes, failed_count)
+    return failed_count

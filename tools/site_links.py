@@ -7,7 +7,7 @@ from typing import Dict, Iterator, List, NamedTuple, Set, Tuple
 
 LINK = re.compile(r"\]\(([^)\s#]+)")
 # what a browser requests by itself when it shows a page
-REQUESTED = {"img", "script", "link", "iframe", "source"}
+REQUESTING_TAGS = {"img", "script", "link", "iframe", "source"}
 
 
 def links_of(text: str) -> Iterator[str]:
@@ -15,13 +15,13 @@ def links_of(text: str) -> Iterator[str]:
     return (link for link in LINK.findall(text) if "://" not in link)
 
 
-def with_links(text: str, others: Dict[str, str]) -> str:
+def with_links(text: str, new_links: Dict[str, str]) -> str:
     """The text with these links instead."""
-    return LINK.sub(lambda found: f"]({others.get(found[1], found[1])}", text)
+    return LINK.sub(lambda match: f"]({new_links.get(match[1], match[1])}", text)
 
 
 class Page(html.parser.HTMLParser):
-    """The places of a page, where it leads, and what it requests."""
+    """Collects anchors, links and requested resources of a page."""
 
     def __init__(self, text: str) -> None:
         super().__init__()
@@ -29,12 +29,12 @@ class Page(html.parser.HTMLParser):
         self.links: List[Tuple[str, bool]] = []
         self.feed(text)
 
-    def handle_starttag(self, tag: str, given: List[Tuple[str, object]]) -> None:
-        for name, value in given:
+    def handle_starttag(self, tag: str, attributes: List[Tuple[str, object]]) -> None:
+        for name, value in attributes:
             if name in ("id", "name"):
                 self.places.add(str(value))
             elif name in ("href", "src") and value:
-                self.links.append((str(value), tag in REQUESTED))
+                self.links.append((str(value), tag in REQUESTING_TAGS))
 
 
 class Link(NamedTuple):
@@ -61,19 +61,19 @@ def faults_in(folder: pathlib.Path) -> Iterator[str]:
 
 
 def fault_of(link: Link, pages: Dict[pathlib.Path, Page]) -> str:
-    """What is wrong with a link, if anything is."""
-    found = urllib.parse.urlsplit(link.to)
-    if found.scheme == "data":
+    """Returns the error of a broken link, or ""."""
+    url = urllib.parse.urlsplit(link.to)
+    if url.scheme == "data":
         return ""
-    if found.scheme or found.netloc:
+    if url.scheme or url.netloc:
         return "is requested of another machine" if link.is_requested else ""
-    name = urllib.parse.unquote(found.path)
+    name = urllib.parse.unquote(url.path)
     target = (link.page.parent / name).resolve() if name else link.page
     if target.is_dir():
         target /= "index.html"
     if not target.is_file():
         return "leads nowhere"
-    place = urllib.parse.unquote(found.fragment)
-    if place and target in pages and place not in pages[target].places:
+    anchor = urllib.parse.unquote(url.fragment)
+    if anchor and target in pages and anchor not in pages[target].places:
         return "leads to no heading"
     return ""

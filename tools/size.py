@@ -7,8 +7,9 @@ tests/size.toml.
 The figures are: in how many files of crates/ each command of an agent is named; how
 many names of types two crates or more have, and names of classes two modules of the
 lab; how many modules `arena-lab --help` imports; the statements of Python, docstrings
-aside; the lines of .rt and .antt; and the words of README.md and of all documents. A
-commit that raises one says what it is worth.
+aside; the lines of .rt and .antt; the words of README.md and of all documents; and the
+vague sentences, names and functions of each folder (tools/words.py). A commit that
+raises one says what it is worth.
 """
 import ast
 import collections
@@ -19,28 +20,31 @@ import sys
 import tomllib
 from typing import Dict, Iterable, Iterator, List, Set, Tuple
 
+from tools import words
+
 TOP = pathlib.Path(__file__).resolve().parents[1]
-KEPT = TOP / "tests" / "size.toml"
+RECORD = TOP / "tests" / "size.toml"
 COMMANDS = ("Enter", "Look", "Write", "Depart", "Accuse", "Leave")
 TYPE = re.compile(
     r"^\s*(?:pub(?:\(\w+\))? )?(?:struct|enum|trait|record|data) (?:pub )?(\w+)", re.M
 )
 HELP = (
-    "import sys; import arena_lab.__main__ as lab; lab.parser(called=()).format_help(); "
+    "import sys; import arena_lab.__main__ as lab; lab.parser(names=()).format_help(); "
     "print(sum(it.split('.')[0] == 'arena_lab' for it in sys.modules))"
 )
 
 # these are kept as the next multiple, so that mending a sentence takes no edit
 STEPS = {"statements": 100, "lines": 100, "words": 50}
 README = TOP / "README.md"
+FOLDERS = ("arena_lab", "tests", "tools", "bench", "examples", "crates")
 
 Figures = Dict[str, Dict[str, float]]
 
 
-def tracked(*patterns: str) -> List[pathlib.Path]:
-    """The files of the repository that match one of these patterns of git; all that are
-    there if this is no clone."""
-    ran = subprocess.run(
+def tracked_files(*patterns: str) -> List[pathlib.Path]:
+    """Lists the repository's files that match git patterns; outside of a clone, all
+    existing files."""
+    result = subprocess.run(
         [
             "git",
             "-C",
@@ -57,21 +61,21 @@ def tracked(*patterns: str) -> List[pathlib.Path]:
         text=True,
     )
     return [
-        TOP / it
-        for it in sorted(set(ran.stdout.split("\n")))
-        if it and (TOP / it).is_file()
+        TOP / line
+        for line in sorted(set(result.stdout.split("\n")))
+        if line and (TOP / line).is_file()
     ]
 
 
 def documents() -> List[pathlib.Path]:
-    return tracked("*.md")
+    return tracked_files("*.md")
 
 
 def programs() -> List[pathlib.Path]:
-    """The files in Python, also those of tools/ that have no ending."""
+    """Lists Python files, including scripts in tools/ without an ending."""
     return [
         path
-        for path in tracked("*.py", "tools/*")
+        for path in tracked_files("*.py", "tools/*")
         if path.suffix == ".py"
         or path.read_bytes().startswith(b"#!/usr/bin/env python3")
     ]
@@ -83,63 +87,87 @@ def texts(paths: Iterable[pathlib.Path]) -> Iterator[Tuple[pathlib.Path, str]]:
 
 def files_that_name(words: Iterable[str]) -> Dict[str, float]:
     """In how many files of crates/ each word stands."""
-    found = {word: 0.0 for word in words}
-    for _, text in texts(tracked("crates/*.rt", "crates/*.antt", "crates/*.edit")):
+    counts = {word: 0.0 for word in words}
+    for _, text in texts(
+        tracked_files("crates/*.rt", "crates/*.antt", "crates/*.edit")
+    ):
         names = set(re.findall(r"\w+", text))
-        for word in found:
-            found[word] += word in names
-    return found
+        for word in counts:
+            counts[word] += word in names
+    return counts
 
 
-def shared(owners: Dict[str, Set[str]]) -> float:
-    """How many names have two owners or more."""
-    return sum(len(it) > 1 for it in owners.values())
+def shared_names(owners: Dict[str, Set[str]]) -> float:
+    """Returns how many names have two owners or more."""
+    return sum(len(owner) > 1 for owner in owners.values())
 
 
 def shared_types() -> float:
-    """How many names of types stand in two crates or more."""
+    """Returns how many names of types stand in two crates or more."""
     owners: Dict[str, Set[str]] = collections.defaultdict(set)
-    for path, text in texts(tracked("crates/*/src/*.rt", "crates/*/specs/*.antt")):
+    for path, text in texts(
+        tracked_files("crates/*/src/*.rt", "crates/*/specs/*.antt")
+    ):
         for name in TYPE.findall(text):
             owners[name].add(path.relative_to(TOP).parts[1])
-    return shared(owners)
+    return shared_names(owners)
 
 
 def shared_classes() -> float:
-    """How many names of classes stand in two modules of the lab or more; the tables of
-    the hall's pages aside."""
+    """Returns how many names of classes stand in two modules of the lab or more; the
+    tables of the hall's pages aside."""
     owners: Dict[str, Set[str]] = collections.defaultdict(set)
-    for path, text in texts(tracked("arena_lab/*.py")):
+    for path, text in texts(tracked_files("arena_lab/*.py")):
         name = str(path.relative_to(TOP))
         if not re.search("/mutants/|/migrations/", name):
             for node in ast.walk(ast.parse(text)):
                 if isinstance(node, ast.ClassDef) and node.name != "Meta":
                     owners[node.name].add(name)
-    return shared(owners)
+    return shared_names(owners)
 
 
 def modules_of_help() -> float:
-    """How many modules of the lab the help of all commands imports."""
+    """Returns how many modules of the lab the help of all commands imports."""
     return float(
         subprocess.check_output([sys.executable, "-c", HELP], cwd=TOP, text=True)
     )
 
 
 def lines(*patterns: str) -> float:
-    return sum(text.count("\n") for _, text in texts(tracked(*patterns)))
+    return sum(text.count("\n") for _, text in texts(tracked_files(*patterns)))
 
 
 def statements(text: str) -> int:
-    """How many statements a file of Python has, docstrings aside."""
-    found = [node for node in ast.walk(ast.parse(text)) if isinstance(node, ast.stmt)]
+    """Returns how many statements a file of Python has, docstrings aside."""
+    nodes = [node for node in ast.walk(ast.parse(text)) if isinstance(node, ast.stmt)]
     return sum(
-        not (isinstance(it, ast.Expr) and isinstance(it.value, ast.Constant))
-        for it in found
+        not (isinstance(node, ast.Expr) and isinstance(node.value, ast.Constant))
+        for node in nodes
     )
 
 
-def words(paths: Iterable[pathlib.Path]) -> float:
+def word_count(paths: Iterable[pathlib.Path]) -> float:
     return sum(len(text.split()) for _, text in texts(paths))
+
+
+def vague_words() -> Figures:
+    """Counts the vague sentences, names and functions of each folder. Counts, and not
+    shares, because a share rises where clear sentences are deleted."""
+    counts: Figures = {
+        f"vague {kind}": {} for kind in ("sentences", "names", "functions")
+    }
+    for folder in FOLDERS:
+        files = words.source_files(TOP / folder)
+        repository_files = {
+            path for path in tracked_files(folder) if path.suffix in words.COMMENT_LINE
+        }
+        vague = words.measure(
+            path for path in files if path in repository_files
+        ).vague()
+        for table, count in zip(counts.values(), vague):
+            table[folder] = count
+    del counts["vague names"]["crates"], counts["vague functions"]["crates"]
+    return counts
 
 
 def figures() -> Figures:
@@ -153,17 +181,20 @@ def figures() -> Figures:
         "imports": {"modules of arena-lab --help": modules_of_help()},
         "statements": {"py": sum(statements(text) for _, text in texts(programs()))},
         "lines": {"rt": lines("*.rt"), "antt": lines("*.antt")},
-        "words": {"README.md": words([README]), "all documents": words(documents())},
+        "words": {
+            "README.md": word_count([README]),
+            "all documents": word_count(documents()),
+        },
+        **vague_words(),
     }
 
 
-def kept() -> Figures:
-    return tomllib.loads(KEPT.read_text(encoding="utf-8"))
+def recorded_figures() -> Figures:
+    return tomllib.loads(RECORD.read_text(encoding="utf-8"))
 
 
 def risen(now: Figures, then: Figures) -> List[str]:
-    """A line for each figure that is greater than the one that is kept, or that is kept
-    nowhere."""
+    """Returns a line for each figure that exceeds its recorded value or has none."""
     return [
         f"{table}, {name}: {value:g}, and {then[table][name]:g} is kept"
         if name in then.get(table, {})
@@ -174,27 +205,27 @@ def risen(now: Figures, then: Figures) -> List[str]:
     ]
 
 
-def rounded(table: str, value: float) -> float:
+def round_up(table: str, value: float) -> float:
     """The figure that is kept for a value."""
     step = STEPS.get(table)
     return -(-value // step) * step if step else value
 
 
-def lowered(text: str, now: Figures) -> str:
-    """The text of the kept figures, with those that have fallen and without those of
-    files that are gone. Comments stay."""
+def lower_figures(text: str, now: Figures) -> str:
+    """Returns the text of the recorded figures with lower values, and without deleted
+    files. Comments stay."""
     table = ""
-    found = []
+    lines_kept = []
     for line in text.split("\n"):
         head = re.fullmatch(r"\[\"?([^\"]*)\"?\]", line)
         row = re.fullmatch(r"\"([^\"]+)\" = ([\d.]+)(.*)", line)
         table = head[1] if head else table
         if row and row[1] not in now[table]:
             continue
-        if row and rounded(table, now[table][row[1]]) < float(row[2]):
-            line = f'"{row[1]}" = {rounded(table, now[table][row[1]]):g}{row[3]}'
-        found.append(line)
-    return "\n".join(found)
+        if row and round_up(table, now[table][row[1]]) < float(row[2]):
+            line = f'"{row[1]}" = {round_up(table, now[table][row[1]]):g}{row[3]}'
+        lines_kept.append(line)
+    return "\n".join(lines_kept)
 
 
 def main() -> int:
@@ -202,10 +233,10 @@ def main() -> int:
         print((__doc__ or "").strip())
         return 0 if sys.argv[1:] in (["-h"], ["--help"]) else 2
     now = figures()
-    then = kept()
+    then = recorded_figures()
     if sys.argv[1:]:
-        KEPT.write_text(
-            lowered(KEPT.read_text(encoding="utf-8"), now), encoding="utf-8"
+        RECORD.write_text(
+            lower_figures(RECORD.read_text(encoding="utf-8"), now), encoding="utf-8"
         )
     for table, names in now.items():
         for name, value in names.items():

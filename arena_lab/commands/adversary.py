@@ -22,12 +22,12 @@ from typing import Optional
 
 from arena_lab.commands.words import add_engine, add_match, game_of, program_of
 from arena_lab.play import kept_matches
-from arena_lab.search.adversary import Adversary, Arcs, Beaten, Phase
+from arena_lab.search.adversary import Adversary, Arcs, BeatenError, Phase
 from arena_lab.search.ring_bounds import least_moves
 
 
-def add_words(parser: argparse.ArgumentParser) -> None:
-    """The words of the command `adversary`."""
+def add_arguments(parser: argparse.ArgumentParser) -> None:
+    """Adds the arguments of `adversary`."""
     add_match(parser)
     parser.add_argument(
         "--keep",
@@ -39,17 +39,17 @@ def add_words(parser: argparse.ArgumentParser) -> None:
     add_engine(parser)
 
 
-def run(words: argparse.Namespace) -> int:
-    program = program_of(words)
-    adversary = Adversary(game_of(words))
+def run(args: argparse.Namespace) -> int:
+    program = program_of(args)
+    adversary = Adversary(game_of(args))
     try:
-        arcs = played(adversary)
-    except Beaten as fault:
-        return report_failure(adversary, fault, words.keep, program)
-    return report_moves(adversary, arcs, words.keep, program)
+        arcs = play_phases(adversary)
+    except BeatenError as fault:
+        return report_failure(adversary, fault, args.keep, program)
+    return report_moves(adversary, arcs, args.keep, program)
 
 
-def played(adversary: Adversary) -> Arcs:
+def play_phases(adversary: Adversary) -> Arcs:
     """Plays all phases, and prints a line for each. Gives where the last one has
     led."""
     arcs = None
@@ -63,19 +63,20 @@ def played(adversary: Adversary) -> Arcs:
 def line_of(phase: Phase, before: Optional[Arcs]) -> str:
     """A phase in a line."""
     arcs = phase.arcs
-    said = f"{arcs.moves} moves, {arcs.new} new nodes"
+    text = f"{arcs.moves} moves, {arcs.new} new nodes"
     if before is None:
-        return f"{said}: the agents are on links to nodes {arcs.ends()[0]} and {arcs.ends()[1]}"
-    return f"{said}: agent {phase.agent} came back over {phase.back} of {before.explored} explored nodes and went on"
+        return f"{text}: the agents are on links to nodes {arcs.ends()[0]} and {arcs.ends()[1]}"
+    way = f"{phase.back} of {before.arc_explored} explored nodes"
+    return f"{text}: agent {phase.agent} came back over {way} and went on"
 
 
 def report_failure(
-    adversary: Adversary, fault: Beaten, keep: pathlib.Path, program: Optional[str]
+    adversary: Adversary, fault: BeatenError, keep: pathlib.Path, program: Optional[str]
 ) -> int:
     """Says why the team fails, and keeps the schedule."""
-    played, schedule = adversary.at_rest(fault.hole, fault.turns)
+    match, schedule = adversary.at_rest(fault.hole, fault.turns)
     print(
-        f"the team fails with the black hole at node {fault.hole}: {fault.why}; {played.verdict()}"
+        f"the team fails with the black hole at node {fault.hole}: {fault.why}; {match.verdict()}"
     )
     kept_matches.keep(keep, schedule, program)
     return 1
@@ -87,15 +88,15 @@ def report_moves(
     """Makes one of the last two nodes the black hole, with which the team moves more,
     and keeps the schedule."""
     ends = [adversary.at_rest(hole, arcs.turns) for hole in arcs.ends()]
-    played, schedule = max(
-        ends, key=lambda it: (it[0].has_failed(), it[0].verdict().moves)
+    match, schedule = max(
+        ends, key=lambda end: (end[0].has_failed(), end[0].verdict().moves)
     )
     print(
         f"{arcs.moves} moves were forced, and every two agents that find the black hole must make "
         f"{least_moves(adversary.nodes)} on this ring"
     )
     print(
-        f"at rest with the black hole at node {schedule.fixture.setup.holes[0]}: {played.verdict()}"
+        f"at rest with the black hole at node {schedule.fixture.setup.holes[0]}: {match.verdict()}"
     )
     kept_matches.keep(keep, schedule, program)
-    return 1 if played.has_failed() else 0
+    return 1 if match.has_failed() else 0

@@ -6,34 +6,35 @@ import time
 from typing import Any, List, NamedTuple, Optional, Tuple
 
 from arena_lab import api
-from arena_lab.course.checked import Alarm, Tried
+from arena_lab.course.checked import Alarm, CheckBudget
 from arena_lab.course.exercises import Exercise
-from arena_lab.play.agent_files import NoAgent
+from arena_lab.play.agent_files import AgentError
 from arena_lab.play.games import Record, maker_of
 from arena_lab.play.kept_matches import played_under
 from arena_lab.play.schedules import schedule_of
 from arena_lab.play.teams import AgentWords, Game
 from arena_lab.rules import networks
 from arena_lab.rules.engines import MODEL
-from arena_lab.search.history_tree import NoFunction
+from arena_lab.search.history_tree import NoFunctionError
 
-# seconds for a line, and what is said of an agent whose first line does not enter
+# seconds for a line, and the beginning of the fault of an agent whose first line was
+# denied
 LINE = 5
-DENIED = "was not let in"
-# seconds of a search of every schedule, if nothing else is said, and its states
+DENIED_PREFIX = "was not let in"
+# defaults of a search of every schedule: seconds and states
 SECONDS = 60
-MOST = 100_000
+MAX_STATES = 100_000
 
 
 class Answer(NamedTuple):
-    """What came of an answer to an exercise: the last match that was played, and what is
-    to be mended; nothing if the answer is right."""
+    """The check of an answer to an exercise: the last match played, and the advice; no
+    advice if the answer is right."""
 
     record: Record
-    said: List[str]
+    lines: List[str]
 
 
-def answered(
+def check_answer(
     exercise: Exercise,
     agent: AgentWords,
     program: Optional[str] = None,
@@ -46,21 +47,21 @@ def answered(
     `inside` the lab."""
     until = time.monotonic() + seconds
     record: Optional[Record] = None
-    for one in exercise.matches:
-        fixture = exercise.fixture(one)
+    for match in exercise.matches:
+        fixture = exercise.fixture(match)
         agents = [agent] * exercise.agents
         empty = schedule_of(fixture, agents, f"exercise {exercise.name}", [], LINE)
-        chosen = maker_of(one.scheduler)(one.seed)
+        chosen = maker_of(match.scheduler)(match.seed)
         record = Record(*played_under(chosen, empty, program), program)
-        said = to_mend(exercise, record)
-        if said:
-            return Answer(record, [f"{said[0]} (on {one})", *said[1:]])
+        lines = to_mend(exercise, record)
+        if lines:
+            return Answer(record, [f"{lines[0]} (on {match})", *lines[1:]])
     assert record is not None
     if not exercise.every:
         return Answer(record, [])
-    searched = agent if program or inside is None else inside
-    failed, said = every_schedule(exercise, searched, program, until)
-    return Answer(failed or record, said)
+    explored_agent = agent if program or inside is None else inside
+    failure, lines = every_schedule(exercise, explored_agent, program, until)
+    return Answer(failure or record, lines)
 
 
 def every_schedule(
@@ -68,41 +69,41 @@ def every_schedule(
 ) -> Tuple[Optional[Record], List[str]]:
     """Tries every schedule of the exercise's network, with each black hole, until this
     time: the match of a schedule that fails, and what is to be mended."""
-    network = networks.named(exercise.every)
+    network = networks.network_named(exercise.every)
     agents = [agent] * exercise.agents
     game = Game(exercise.every, network, agents, limit=LINE)
     of_all = f"every schedule of {exercise.every}"
-    alarm = Alarm(Tried(max(0.0, until - time.monotonic())))
+    alarm = Alarm(CheckBudget(max(0.0, until - time.monotonic())))
     try:
         with alarm, contextlib.redirect_stderr(io.StringIO()):
-            found: Any = api.explore_games([game], MOST, program or MODEL)
-    except (NoAgent, NoFunction) as fault:
+            result: Any = api.explore_games([game], MAX_STATES, program or MODEL)
+    except (AgentError, NoFunctionError) as fault:
         return None, [f"{of_all} cannot be tried: {fault}"]
     except KeyboardInterrupt:
         if not alarm.has_rung:
             raise
-        found = None
-    if found is not None and found.fails and found.worst is not None:
+        result = None
+    if result is not None and result.fails and result.worst is not None:
         where = f"under a schedule of {exercise.every}"
-        said = to_mend(exercise, found.worst) or [str(found.worst.judged())]
-        return found.worst, [f"{said[0]} ({where})", *said[1:]]
-    if found is None:
+        lines = to_mend(exercise, result.worst) or [str(result.worst.judge())]
+        return result.worst, [f"{lines[0]} ({where})", *lines[1:]]
+    if result is None:
         return None, [f"{of_all} could not be tried in the time of a trial"]
-    if not found.solves:
+    if not result.solves:
         return None, [
-            f"{of_all} cannot be tried: there are more than {MOST} states, or an agent may use up its commands"
+            f"{of_all} cannot be tried: there are more than {MAX_STATES} states, or an agent may use up its commands"
         ]
     return None, []
 
 
 def to_mend(exercise: Exercise, record: Record) -> List[str]:
-    """What is to be mended in a match: programs that crashed or hung, then what the
-    exercise is about, then what was refused."""
-    faults = record.played.faults
-    denied = [it for it in faults if DENIED in it]
+    """Returns the advice for a match: crashed or hung programs first, then what the
+    exercise checks, then rejected lines."""
+    faults = record.match.faults
+    denials = [fault for fault in faults if DENIED_PREFIX in fault]
     return [
-        *(it for it in faults if it not in denied),
-        *exercise.check(record.played.match),
-        *denied,
-        *record.played.refused,
+        *(fault for fault in faults if fault not in denials),
+        *exercise.check(record.match.match),
+        *denials,
+        *record.match.refusals,
     ]

@@ -49,15 +49,15 @@ from arena_lab.commands.words import (
 )
 from arena_lab.course.checked import (
     Alarm,
-    Checked,
+    CheckJob,
     TimedProgress,
-    Tried,
+    CheckBudget,
     because,
     conditions_of,
-    listed,
-    place,
+    join_words,
+    match_place,
 )
-from arena_lab.play.agent_files import NoAgent
+from arena_lab.play.agent_files import AgentError
 from arena_lab.play.games import Record, Row, play_again, rows_of
 from arena_lab.play.late_arrivals import LATE, kept_waiting
 from arena_lab.play.schedules import Schedule
@@ -65,47 +65,47 @@ from arena_lab.play.teams import INSIDE, OUTSIDE, agent_named
 from arena_lab.rules import draws
 from arena_lab.rules.engines import MODEL
 from arena_lab.search.hunt import Hunt, Hunter
-from arena_lab.search.history_tree import NoFunction
+from arena_lab.search.history_tree import NoFunctionError
 from arena_lab.support import fields
 from arena_lab.support.progress import bar
 from arena_lab.sweep.grid import Case, text_in
 
 NETWORKS = ("ring:3", "ring:4", "ring:5", "ring:6", "ring:7", "ring:8", "ring:12")
-# what a hall's hand-ins have if nothing is said, with one match for two
-USUAL = {"holes": 1, "schedulers": ["fair", "slow-agents"], "seeds": 1}
+# default conditions of hand-ins, with one match for two agents
+DEFAULT_CONDITIONS = {"holes": 1, "schedulers": ["fair", "slow-agents"], "seeds": 1}
 # the networks of drawn and hunted schedules, and those of all schedules; and who draws
-SEARCHED = ("ring:5", "ring:6", "ring:8")
-EXPLORED = ("ring:4", "ring:5")
+SEARCH_NETWORKS = ("ring:5", "ring:6", "ring:8")
+EXPLORE_NETWORKS = ("ring:4", "ring:5")
 BY_TURNS = ("slow-links", "fair", "slow-agents")
 NOT_SAID = -1
 FOLDER = pathlib.Path("out/check")
 # how long it may take, where the program plays and where the Python model does
 SECONDS = 60
 MODEL_SECONDS = 90
-MOST = 100_000
+MAX_STATES = 100_000
 # how many schedules are drawn, and how many of these in any case, and how many hunted
 DRAWS = 100
 LEAST = 24
-HUNTS = 40
+HUNT_RUNS = 40
 
 
-class ToMend(NamedTuple):
+class Finding(NamedTuple):
     """The first thing to mend: what is wrong, fact by fact, and the match that shows
     it; and whether the match shows it again when it is played without a clock."""
 
-    said: List[str]
+    lines: List[str]
     record: Record
     is_repeatable: bool = True
 
 
-# what an agent is right on, as a part of the last line, and what is to be mended first,
-# if anything is
-Step = Tuple[str, Optional[ToMend]]
-CheckStep = Callable[[Checked, Tried], Step]
+# phrase for the last line of a check ("" if the step was left out), and the first
+# failure
+Step = Tuple[str, Optional[Finding]]
+CheckStep = Callable[[CheckJob, CheckBudget], Step]
 
 
-def add_words(parser: argparse.ArgumentParser) -> None:
-    """The words of the command `check`."""
+def add_arguments(parser: argparse.ArgumentParser) -> None:
+    """Adds the arguments of `check`."""
     parser.add_argument(
         "agent",
         metavar="AGENT",
@@ -181,25 +181,25 @@ def add_limits(parser: argparse.ArgumentParser) -> None:
     )
 
 
-def run(words: argparse.Namespace) -> int:
-    if words.agent.endswith(".toml"):
-        raise NoAgent(
-            f"{words.agent}: that is no agent; of a tournament it is `arena check {words.agent}`"
+def run(args: argparse.Namespace) -> int:
+    if args.agent.endswith(".toml"):
+        raise AgentError(
+            f"{args.agent}: that is no agent; of a tournament it is `arena check {args.agent}`"
         )
-    asked = asked_by(words)
+    job = job_of(args)
     with contextlib.redirect_stdout(
         sys.stderr
-    ) if words.json else contextlib.nullcontext():
-        right, wrong = checked(asked)
+    ) if args.json else contextlib.nullcontext():
+        right, wrong = check_agent(job)
         if wrong is not None:
-            print(wrong.record.keep(words.keep)[-1])
-    if words.json:
+            print(wrong.record.keep(args.keep)[-1])
+    if args.json:
         print(
             json.dumps(
                 {
                     "right": wrong is None,
-                    "said": [right] if wrong is None else wrong.said,
-                    "kept": None if wrong is None else str(words.keep),
+                    "said": [right] if wrong is None else wrong.lines,
+                    "kept": None if wrong is None else str(args.keep),
                 }
             )
         )
@@ -207,8 +207,8 @@ def run(words: argparse.Namespace) -> int:
     if wrong is None:
         print(right)
         return 0
-    again = f"{arena_lab.called()} replay {words.keep}{'' if asked.program else f' --engine {MODEL}'}"
-    print("\n  ".join([f"To mend first: {wrong.said[0]}", *wrong.said[1:]]))
+    again = f"{arena_lab.command_name()} replay {args.keep}{'' if job.program else f' --engine {MODEL}'}"
+    print("\n  ".join([f"To mend first: {wrong.lines[0]}", *wrong.lines[1:]]))
     print(
         f"See it again by `{again}`, and try a mended agent by `{again} --follow`"
         if wrong.is_repeatable
@@ -217,250 +217,264 @@ def run(words: argparse.Namespace) -> int:
     return 1
 
 
-def asked_by(words: argparse.Namespace) -> Checked:
-    """What the words ask for."""
-    agent = agent_named(OUTSIDE if "{port}" in words.agent else INSIDE, words.agent)
-    program = program_of(words)
-    path = words.conditions
-    found: Dict[str, Any] = {"networks": list(NETWORKS), **USUAL}
+def job_of(args: argparse.Namespace) -> CheckJob:
+    """Returns the check that the arguments ask for."""
+    agent = agent_named(OUTSIDE if "{port}" in args.agent else INSIDE, args.agent)
+    program = program_of(args)
+    path = args.conditions
+    conditions: Dict[str, Any] = {"networks": list(NETWORKS), **DEFAULT_CONDITIONS}
     if path:
         try:
-            found = fields.table_of(text_in(path))
-        except fields.WrongFile as fault:
-            raise fields.WrongFile(f"{path}: {fault}") from None
-    found.update({"networks": words.network} if words.network else {})
-    found.update({} if words.ports is None else {"ports": words.ports})
-    if words.home is None:
-        found.pop("home", None)
-    elif words.home != NOT_SAID:
-        found["home"] = words.home
-    usual = SECONDS if program else MODEL_SECONDS
-    return Checked(
+            conditions = fields.table_of(text_in(path))
+        except fields.FileFormatError as fault:
+            raise fields.FileFormatError(f"{path}: {fault}") from None
+    conditions.update({"networks": args.network} if args.network else {})
+    conditions.update({} if args.ports is None else {"ports": args.ports})
+    if args.home is None:
+        conditions.pop("home", None)
+    elif args.home != NOT_SAID:
+        conditions["home"] = args.home
+    default = SECONDS if program else MODEL_SECONDS
+    return CheckJob(
         agent,
         conditions_of(
-            found, path.parent if path else pathlib.Path(), agent, words.agents
+            conditions, path.parent if path else pathlib.Path(), agent, args.agents
         ),
-        words.limit,
+        args.limit,
         program,
-        words.seconds or usual,
-        not words.no_repeat,
+        args.seconds or default,
+        not args.no_repeat,
     )
 
 
-def checked(asked: Checked) -> Step:
-    """What the agent is right on, and what is to be mended first, if anything is."""
-    tried = Tried(asked.seconds)
-    right, wrong = by_steps(asked, (matches, wait, search, every), tried)
+def check_agent(job: CheckJob) -> Step:
+    """Runs all steps of a check. Returns the last line to print, and the first failure,
+    if any."""
+    budget = CheckBudget(job.seconds)
+    right, wrong = by_steps(job, (matches, wait, search, every), budget)
     if wrong is not None:
         return "", wrong
-    over = f"; left out after {asked.seconds:g} s: {listed(tried.left_out)}"
-    return f"Right {listed(right)}: {tried}{over if tried.left_out else ''}", None
+    over = f"; left out after {job.seconds:g} s: {join_words(budget.left_out)}"
+    return f"Right {join_words(right)}: {budget}{over if budget.left_out else ''}", None
 
 
 def by_steps(
-    asked: Checked, steps: Sequence[CheckStep], tried: Tried
-) -> Tuple[List[str], Optional[ToMend]]:
-    """What the agent is right on by these steps, up to the first that finds what is to
-    be mended."""
+    job: CheckJob, steps: Sequence[CheckStep], budget: CheckBudget
+) -> Tuple[List[str], Optional[Finding]]:
+    """Runs steps in order up to the first failure. Returns the phrases of the steps
+    that passed."""
     right: List[str] = []
     for step in steps:
-        said, wrong = step(asked, tried)
+        text, wrong = step(job, budget)
         if wrong is not None:
             return [], wrong
-        right += [said] if said else []
+        right += [text] if text else []
     return right, None
 
 
-def matches(asked: Checked, tried: Tried) -> Step:
+def matches(job: CheckJob, budget: CheckBudget) -> Step:
     """Plays the matches."""
     rows: List[Row] = []
-    for case in asked.conditions.cases():
-        row = next(iter(rows_of([asked.asked(case, True)])))
-        tried.add(case.network, asked.conditions.fixture(case), case.scheduler)
+    for case in job.conditions.cases():
+        row = next(iter(rows_of([job.request(case, True)])))
+        budget.add(case.network, job.conditions.fixture(case), case.scheduler)
         if row["failed"]:
-            where = f"on {place(case)} under {case.scheduler}"
-            said = failure(row.match(), where)
-            return "", ToMend([*said, *because(asked, case)], row.match())
+            where = f"on {match_place(case)} under {case.scheduler}"
+            lines = failure(row.match(), where)
+            return "", Finding([*lines, *because(job, case)], row.match())
         rows.append(row)
-    refused = next((row for row in rows if row["refused"]), None)
-    print(f"{len(rows)} matches on {', '.join(asked.networks)}: all solved")
-    if refused is None:
+    row_with_refusals = next((row for row in rows if row["refused"]), None)
+    print(f"{len(rows)} matches on {', '.join(job.networks)}: all solved")
+    if row_with_refusals is None:
         return f"on all {len(rows)} matches", None
-    return "", ToMend(
-        ["lines are refused, which cost commands", *refused["refused"]], refused.match()
+    return "", Finding(
+        ["lines are refused, which cost commands", *row_with_refusals["refused"]],
+        row_with_refusals.match(),
     )
 
 
 def failure(record: Record, where: str) -> List[str]:
-    """What is wrong with a match, fact by fact."""
+    """Returns the facts of a failed match, one per line."""
     return [
         f"{where} the match came to {record.verdict}",
-        *record.told(),
+        *record.report(),
         *record.faults(),
-        *record.played.refused,
+        *record.match.refusals,
     ]
 
 
-def wait(asked: Checked, _: Tried) -> Step:
-    """Keeps programs waiting for their first arrivals. An agent inside the lab has no
-    clock that could run out."""
-    if asked.agent.kind == INSIDE:
+def wait(job: CheckJob, _: CheckBudget) -> Step:
+    """Delays the first arrivals, so that programs with a timeout fail. Agents inside
+    the lab have no clock, so they are skipped."""
+    if job.agent.kind == INSIDE:
         return "", None
-    name = asked.smallest(EXPLORED)[-1]
-    game = asked.game(name)
-    record = kept_waiting(game._replace(home=game.home or 0, ports=None), asked.program)
+    name = job.smallest(EXPLORE_NETWORKS)[-1]
+    game = job.game(name)
+    record = kept_waiting(game._replace(home=game.home or 0, ports=None), job.program)
     if record.has_failed:
-        return "", ToMend(
+        return "", Finding(
             failure(record, f"on {name} with arrivals {LATE} s late"), record, False
         )
     print(f"a match on {name} with arrivals {LATE} s late: solved")
     return f"with arrivals {LATE} s late", None
 
 
-def search(asked: Checked, tried: Tried) -> Step:
+def search(job: CheckJob, budget: CheckBudget) -> Step:
     """Draws schedules, then hunts for one, until the team fails under one."""
-    names = asked.smallest(SEARCHED)
-    drawn, wrong = draw(asked, names, tried)
-    found, wrong = (0, wrong) if wrong else hunt(asked, names, tried)
+    names = job.smallest(SEARCH_NETWORKS)
+    draw_count, wrong = draw(job, names, budget)
+    hunt_count, wrong = (0, wrong) if wrong else hunt(job, names, budget)
     if wrong is not None:
         return "", wrong
     print(
-        f"{drawn} schedules of {', '.join(names)} were drawn and {found} were hunted: none fails"
+        f"{draw_count} schedules of {', '.join(names)} were drawn and {hunt_count} were hunted: none fails"
     )
-    return f"under {drawn} schedules that were drawn and {found} that were hunted", None
+    return (
+        f"under {draw_count} schedules that were drawn and {hunt_count} that were hunted",
+        None,
+    )
 
 
-def draw_few(asked: Checked, tried: Tried) -> Step:
+def draw_few(job: CheckJob, budget: CheckBudget) -> Step:
     """Draws schedules alone, as many as somebody waits for who writes an agent."""
-    drawn, wrong = draw(asked, asked.smallest(SEARCHED)[:2], tried)
-    return f"under {drawn} schedules that were drawn" if drawn else "", wrong
+    draw_count, wrong = draw(job, job.smallest(SEARCH_NETWORKS)[:2], budget)
+    return f"under {draw_count} schedules that were drawn" if draw_count else "", wrong
 
 
 def draw(
-    asked: Checked, names: Sequence[str], tried: Tried
-) -> Tuple[int, Optional[ToMend]]:
+    job: CheckJob, names: Sequence[str], budget: CheckBudget
+) -> Tuple[int, Optional[Finding]]:
     """Draws schedules on each network in turn; gives how many. Matches whose ports and
     home base are drawn alternate with plain ones, as some mistakes show there."""
     number = 0
-    with bar(DRAWS, "schedule") as shown:
+    with bar(DRAWS, "schedule") as progress_bar:
         while number < DRAWS and (
-            tried.left() > 0 or number < LEAST and not tried.is_late()
+            budget.seconds_left() > 0 or number < LEAST and not budget.is_late()
         ):
-            case = drawn_case(asked, names, number)
-            tried.add(case.network, asked.conditions.fixture(case), case.scheduler)
-            record = asked.asked(case).play()
+            case = drawn_case(job, names, number)
+            budget.add(case.network, job.conditions.fixture(case), case.scheduler)
+            record = job.request(case).play()
             if record.has_failed:
-                shown.clear()
-                where = f"{case.scheduler} {number} on {place(case)}"
-                return number, under(record.schedule, where, asked, case)
+                progress_bar.clear()
+                where = f"{case.scheduler} {number} on {match_place(case)}"
+                return number, under(record.schedule, where, job, case)
             number += 1
-            shown.update()
-        shown.clear()
-    tried.left_out += (
+            progress_bar.update()
+        progress_bar.clear()
+    budget.left_out += (
         [f"{DRAWS - number} of {DRAWS} drawn schedules"] if number < DRAWS else []
     )
     return number, None
 
 
-def drawn_case(asked: Checked, names: Sequence[str], number: int) -> Case:
+def drawn_case(job: CheckJob, names: Sequence[str], number: int) -> Case:
     """The match of a drawn schedule."""
     turn = number // len(names)
-    others = [it for it in asked.conditions.grid.schedulers if it not in BY_TURNS]
-    by = [*BY_TURNS, *others]
-    given = asked.conditions
+    schedulers = [
+        scheduler
+        for scheduler in job.conditions.grid.schedulers
+        if scheduler not in BY_TURNS
+    ]
+    by = [*BY_TURNS, *schedulers]
+    conditions = job.conditions
     if turn // len(by) % 2 == 0:
-        given = given.with_named(("home", "ports"))
-    return given.case(names[number % len(names)], by[turn % len(by)], number)
+        conditions = conditions.with_named(("home", "ports"))
+    return conditions.case(names[number % len(names)], by[turn % len(by)], number)
 
 
 def hunt(
-    asked: Checked, names: Sequence[str], tried: Tried
-) -> Tuple[int, Optional[ToMend]]:
+    job: CheckJob, names: Sequence[str], budget: CheckBudget
+) -> Tuple[int, Optional[Finding]]:
     """Hunts on each network; gives how many schedules were tried."""
     count = 0
-    for left, name in zip(range(len(names), 0, -1), names):
-        hunter = hunted(asked, name, (HUNTS - count) // left, tried)
+    for networks_left, name in zip(range(len(names), 0, -1), names):
+        hunter = hunt_network(job, name, (HUNT_RUNS - count) // networks_left, budget)
         count += hunter.tried if hunter else 0
         if hunter and hunter.best is not None and hunter.best.has_failed:
             where = f"a schedule of {name} that was hunted"
-            return count, under(hunter.schedule(), where, asked)
-    tried.left_out += (
-        [f"{HUNTS - count} of {HUNTS} hunted schedules"] if count < HUNTS else []
+            return count, under(hunter.schedule(), where, job)
+    budget.left_out += (
+        [f"{HUNT_RUNS - count} of {HUNT_RUNS} hunted schedules"]
+        if count < HUNT_RUNS
+        else []
     )
     return count, None
 
 
-def hunted(asked: Checked, name: str, runs: int, tried: Tried) -> Optional[Hunter]:
-    """A hunt on a network, behind what was drawn, if there is time."""
-    if tried.left() <= 0:
+def hunt_network(
+    job: CheckJob, name: str, runs: int, budget: CheckBudget
+) -> Optional[Hunter]:
+    """Hunts for a failing schedule on one network; returns None if the time budget is
+    used up."""
+    if budget.seconds_left() <= 0:
         return None
-    with bar(runs, "schedule") as shown:
-        timed = TimedProgress(shown, tried)
-        hunter = Hunter(Hunt(asked.game(name), runs=runs), timed)
+    with bar(runs, "schedule") as progress_bar:
+        progress = TimedProgress(progress_bar, budget)
+        hunter = Hunter(Hunt(job.game(name), runs=runs), progress)
         try:
             hunter.search(["generate", "target", "shrink"])
         except KeyboardInterrupt:
-            if tried.left() > 0:
+            if budget.seconds_left() > 0:
                 raise
-        shown.clear()
+        progress_bar.clear()
     return hunter
 
 
 def under(
-    schedule: Schedule, where: str, asked: Checked, case: Optional[Case] = None
-) -> ToMend:
-    """What is to be mended as the team fails under a schedule."""
-    record = play_again(schedule, asked.program)
-    cause = because(asked, case) if case else ()
-    return ToMend([*failure(record, f"under {where}"), *cause], record)
+    schedule: Schedule, where: str, job: CheckJob, case: Optional[Case] = None
+) -> Finding:
+    """Returns the finding for a schedule under which the team fails."""
+    record = play_again(schedule, job.program)
+    cause = because(job, case) if case else ()
+    return Finding([*failure(record, f"under {where}"), *cause], record)
 
 
-def every(asked: Checked, tried: Tried) -> Step:
+def every(job: CheckJob, budget: CheckBudget) -> Step:
     """Tries every schedule of small networks, unless they are too many or the agent
     cannot be explored: of the smallest with all numberings of its ports, or sixteen,
     and of the other as it is numbered."""
     right = []
-    alarm = Alarm(tried)
-    for is_plain, name in enumerate(asked.smallest(EXPLORED)):
-        said, wrong = every_of(asked, name, bool(is_plain), tried, alarm)
+    alarm = Alarm(budget)
+    for is_plain, name in enumerate(job.smallest(EXPLORE_NETWORKS)):
+        text, wrong = every_of(job, name, bool(is_plain), budget, alarm)
         if wrong is not None:
             return "", wrong
-        right += [said] if said else []
-    return f"under every schedule of {listed(right)}" if right else "", None
+        right += [text] if text else []
+    return f"under every schedule of {join_words(right)}" if right else "", None
 
 
 def every_of(
-    asked: Checked, name: str, is_plain: bool, tried: Tried, alarm: Alarm
+    job: CheckJob, name: str, is_plain: bool, budget: CheckBudget, alarm: Alarm
 ) -> Step:
     """Tries every schedule of a network."""
-    game = asked.game(name)
+    game = job.game(name)
     is_drawn = isinstance(game.ports, str) and not is_plain
     ports = draws.DRAWN if is_drawn else None
-    games = game._replace(home=game.home or 0, ports=ports).fixed()
+    games = game._replace(home=game.home or 0, ports=ports).drawn_games()
     ring = name.removeprefix("ring:")
-    said = (f"a ring of {ring}" if ring != name else name) + (
+    text = (f"a ring of {ring}" if ring != name else name) + (
         f" with {len(games)} numberings of its ports" * is_drawn
     )
     try:
         with alarm:
-            found: Any = api.explore_games(
-                games, engine=asked.program or MODEL, states=MOST
+            result: Any = api.explore_games(
+                games, engine=job.program or MODEL, states=MAX_STATES
             )
-    except (NoAgent, NoFunction) as fault:
-        print(f"not every schedule of {said} was tried: {fault}")
+    except (AgentError, NoFunctionError) as fault:
+        print(f"not every schedule of {text} was tried: {fault}")
         return "", None
     except KeyboardInterrupt:
         if not alarm.has_rung:
             raise
-        found = None
-    if found is not None and found.fails and found.worst is not None:
-        return "", ToMend(
-            failure(found.worst, f"under a schedule of {said}"), found.worst
+        result = None
+    if result is not None and result.fails and result.worst is not None:
+        return "", Finding(
+            failure(result.worst, f"under a schedule of {text}"), result.worst
         )
-    if found is None or not found.solves:
-        tried.left_out.append(f"every schedule of {said}")
+    if result is None or not result.solves:
+        budget.left_out.append(f"every schedule of {text}")
         return "", None
-    print(f"every schedule of {said}: {found.states} states, all solve")
-    for one in games:
-        tried.add(name, one.fixture(0))
-    return said, None
+    print(f"every schedule of {text}: {result.states} states, all solve")
+    for game_tried in games:
+        budget.add(name, game_tried.fixture(0))
+    return text, None

@@ -14,15 +14,15 @@ from typing import Optional
 
 from arena_lab.play.agent_files import AGENTS
 from arena_lab.support.built import LAB, TOP
-from arena_lab.support.faults import Fault
+from arena_lab.support.faults import ArenaError
 
-# what a copy has, and where a package of Debian has its documents
-COPIED = ("examples", "experiments", "docs")
+# folders that are copied, and the folder of Debian's package for documents
+COPIED_FOLDERS = ("examples", "experiments", "docs")
 DOCUMENTS = pathlib.Path("/usr/share/doc/arena")
 
 
-def add_words(parser: argparse.ArgumentParser) -> None:
-    """The words of the command `examples`."""
+def add_arguments(parser: argparse.ArgumentParser) -> None:
+    """Adds the arguments of `examples`."""
     parser.add_argument(
         "folder",
         metavar="FOLDER",
@@ -32,32 +32,35 @@ def add_words(parser: argparse.ArgumentParser) -> None:
     )
 
 
-def run(words: argparse.Namespace) -> int:
-    if words.folder is None:
+def run(args: argparse.Namespace) -> int:
+    if args.folder is None:
         print(AGENTS.parent)
         return 0
-    if words.folder.exists():
-        raise Fault(f"{words.folder}: there is something already; name a new folder")
-    for name in COPIED:
+    if args.folder.exists():
+        raise ArenaError(
+            f"{args.folder}: there is something already; name a new folder"
+        )
+    for name in COPIED_FOLDERS:
         source = place_of(name)
         if source is not None:
             shutil.copytree(
                 source,
-                words.folder / name,
+                args.folder / name,
                 ignore=shutil.ignore_patterns("__pycache__", "out"),
             )
-    (words.folder / LAB.name).symlink_to(LAB)
-    print(words.folder)
+    (args.folder / LAB.name).symlink_to(LAB)
+    print(args.folder)
     return 0
 
 
 def place_of(name: str) -> Optional[pathlib.Path]:
-    """Where a folder stands: in a clone or a package of Debian, or in a wheel."""
+    """Returns the path of a folder in a clone, in a Debian package or in a wheel; None
+    if it is missing."""
     return next(
         (
-            it / name
-            for it in (AGENTS.parents[1], TOP, LAB, DOCUMENTS)
-            if (it / name).is_dir()
+            folder / name
+            for folder in (AGENTS.parents[1], TOP, LAB, DOCUMENTS)
+            if (folder / name).is_dir()
         ),
         None,
     )

@@ -17,17 +17,17 @@ import pathlib
 import textwrap
 
 import arena_lab
-from arena_lab.commands.answers import answered
+from arena_lab.commands.answers import check_answer
 from arena_lab.course import exercises
 from arena_lab.course.exercises import AGENT, Exercise
 from arena_lab.play.teams import INSIDE, OUTSIDE, AgentWords
-from arena_lab.support.faults import Fault
+from arena_lab.support.faults import ArenaError
 
 WIDE = 100
 
 
-def add_words(parser: argparse.ArgumentParser) -> None:
-    """The words of the command `exercise`."""
+def add_arguments(parser: argparse.ArgumentParser) -> None:
+    """Adds the arguments of `exercise`."""
     parser.add_argument(
         "name", metavar="NAME", nargs="?", default="", help="the name of an exercise"
     )
@@ -46,24 +46,24 @@ def add_words(parser: argparse.ArgumentParser) -> None:
     )
 
 
-def run(words: argparse.Namespace) -> int:
-    found = exercises.exercises()
-    if not words.name:
-        for name, one in found.items():
-            print(f"{name:22}{one.title}")
+def run(args: argparse.Namespace) -> int:
+    all_exercises = exercises.exercises()
+    if not args.name:
+        for name, chosen in all_exercises.items():
+            print(f"{name:22}{chosen.title}")
         return 0
-    if words.name not in found:
-        raise Fault(
-            f"{words.name}: there is no such exercise; there are {', '.join(found)}"
+    if args.name not in all_exercises:
+        raise ArenaError(
+            f"{args.name}: there is no such exercise; there are {', '.join(all_exercises)}"
         )
-    exercise = found[words.name]
-    folder = words.folder or pathlib.Path(words.name)
-    if words.hint:
+    exercise = all_exercises[args.name]
+    folder = args.folder or pathlib.Path(args.name)
+    if args.hint:
         print(textwrap.fill(exercise.hint, WIDE))
         return 0
     if not folder.exists():
         return begin(exercise, folder)
-    return check(exercise, folder, words.keep)
+    return check(exercise, folder, args.keep)
 
 
 def begin(exercise: Exercise, folder: pathlib.Path) -> int:
@@ -71,7 +71,7 @@ def begin(exercise: Exercise, folder: pathlib.Path) -> int:
     folder.mkdir(parents=True)
     for name, text in exercise.files().items():
         (folder / name).write_text(text, encoding="utf-8")
-    again = f"{arena_lab.called()} exercise {exercise.name}"
+    again = f"{arena_lab.command_name()} exercise {exercise.name}"
     print(f"{exercise.title}\n\n{textwrap.fill(exercise.text, WIDE)}\n")
     print(f"Complete {folder / AGENT}, and check it by `{again}`")
     return 0
@@ -82,11 +82,11 @@ def check(exercise: Exercise, folder: pathlib.Path, keep: pathlib.Path) -> int:
     agent = AgentWords(OUTSIDE, exercise.command)
     inside = AgentWords(INSIDE, f"{AGENT} {{nodes}}")
     with contextlib.chdir(folder):
-        found = answered(exercise, agent, inside=inside)
-    if not found.said:
+        answer = check_answer(exercise, agent, inside=inside)
+    if not answer.lines:
         print(exercise.praise())
         return 0
-    print("\n  ".join([f"To mend first: {found.said[0]}", *found.said[1:]]))
+    print("\n  ".join([f"To mend first: {answer.lines[0]}", *answer.lines[1:]]))
     if keep:
-        print(found.record.keep(keep)[-1])
+        print(answer.record.keep(keep)[-1])
     return 1

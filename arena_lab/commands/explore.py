@@ -93,10 +93,10 @@ from arena_lab.play.parallel import Parallelism
 from arena_lab.play.teams import Game
 from arena_lab.rules.engines import MODEL, PROGRAM, program_at
 from arena_lab.search.program_search import SampleRequest
-from arena_lab.search.explore import MOST_STATES, check_inside, tried
+from arena_lab.search.explore import MAX_STATES, check_inside, explore_matches
 from arena_lab.search.capacity import OF_MODEL, OF_PROGRAM, fitting
-from arena_lab.search.driver import CHECKED
-from arena_lab.support.faults import Fault
+from arena_lab.search.driver import CHECKED_SAMPLES
+from arena_lab.support.faults import ArenaError
 from arena_lab.support.missing import check
 from arena_lab.support.progress import bar
 from arena_lab.sweep.grid import BOUNDS
@@ -104,13 +104,13 @@ from arena_lab.sweep.proofs import MATCHES, Folder
 from arena_lab.sweep.tables import alone_in
 
 FOLDER = kept_matches.FOLDER
-# whose turn it is in drawn schedules, and what is hunted for
+# schedulers of drawn schedules, and objectives of a hunt
 SCHEDULERS = ("fair", "last-departed", "starved", "slow-agents", "slow-links")
-HUNTS = ("moves", "lost")
+OBJECTIVES = ("moves", "lost")
 
 
-def add_words(parser: argparse.ArgumentParser) -> None:
-    """The words of the command `explore`."""
+def add_arguments(parser: argparse.ArgumentParser) -> None:
+    """Adds the arguments of `explore`."""
     add_match(parser, several=True)
     parser.add_argument(
         "--max-states",
@@ -141,7 +141,7 @@ def add_words(parser: argparse.ArgumentParser) -> None:
     parser.add_argument(
         "--objective",
         dest="hunt",
-        choices=HUNTS,
+        choices=OBJECTIVES,
         help="begin every second one as the worst so far "
         "began, to find more moves or more agents lost",
     )
@@ -162,10 +162,10 @@ def add_words(parser: argparse.ArgumentParser) -> None:
         "--check",
         metavar="N",
         type=not_negative,
-        default=CHECKED,
+        default=CHECKED_SAMPLES,
         help="after the program's search, "
         "play this many drawn schedules by the agents, and compare what they do with what they "
-        f"answered ({CHECKED}); with 0 nothing else is checked either",
+        f"answered ({CHECKED_SAMPLES}); with 0 nothing else is checked either",
     )
     parser.add_argument(
         "--workers",
@@ -197,73 +197,78 @@ def add_words(parser: argparse.ArgumentParser) -> None:
     add_engine(parser)
 
 
-def run(words: argparse.Namespace) -> int:
-    games = games_of(words)
-    engine = program_of(words)
-    draws = draws_of(words)
-    check_way(words)
-    if (words.search or words.engine) == PROGRAM:
-        program = engine or program_at(words.program, words.needs)
-        way = Parallelism(words.workers, words.cluster)
-        states = words.states or states_of(words)
-        wanted = [
+def run(args: argparse.Namespace) -> int:
+    games = games_of(args)
+    engine = program_of(args)
+    draws = draws_of(args)
+    check_way(args)
+    if (args.search or args.engine) == PROGRAM:
+        program = engine or program_at(args.program, args.needs)
+        parallelism = Parallelism(args.workers, args.cluster)
+        states = args.states or states_of(args)
+        requests = [
             explore_program.ExploreRequest(
-                game, program, engine, states, words.check, words.keep, way
+                game, program, engine, states, args.check, args.keep, parallelism
             )
             for game in games
         ]
-        if words.out:
-            return written(words, wanted)
+        if args.out:
+            return write_rows(args, requests)
         return (
-            explore_samples.run(wanted, draws) if draws else explore_program.run(wanted)
+            explore_samples.run(requests, draws)
+            if draws
+            else explore_program.run(requests)
         )
     if draws:
-        raise Fault(
+        raise ArenaError(
             "--draws needs the program's search: give no --search model, or use `./arena-lab hunt`"
         )
-    return max(searched(words, game) for game in games)
+    return max(search_by_model(args, game) for game in games)
 
 
-def states_of(words: argparse.Namespace) -> int:
-    """How many states of a match are visited at most, if no number is named. Workers
-    elsewhere have other memory, and drawn schedules take none for their turns."""
-    if words.draws is not None or words.cluster:
-        return MOST_STATES
-    return fitting(OF_PROGRAM, words.workers)
+def states_of(args: argparse.Namespace) -> int:
+    """Returns how many states of a match are visited at most, if no number is named.
+    Workers elsewhere have other memory, and drawn schedules take none for their
+    turns."""
+    if args.draws is not None or args.cluster:
+        return MAX_STATES
+    return fitting(OF_PROGRAM, args.workers)
 
 
-def check_way(words: argparse.Namespace) -> None:
+def check_way(args: argparse.Namespace) -> None:
     """Refuses what does not belong together."""
-    is_model = (words.search or words.engine) == MODEL
-    if words.out and words.draws is not None:
-        raise Fault("--out is for all schedules: leave --draws out")
-    if is_model and (words.out or words.cluster or words.workers > 1):
-        raise Fault(
+    is_model = (args.search or args.engine) == MODEL
+    if args.out and args.draws is not None:
+        raise ArenaError("--out is for all schedules: leave --draws out")
+    if is_model and (args.out or args.cluster or args.workers > 1):
+        raise ArenaError(
             "--workers, --cluster and --out need the program's search: give no --search model"
         )
-    if words.bound and not words.out:
-        raise Fault("--bound is for the plot that --out writes: name a folder by --out")
+    if args.bound and not args.out:
+        raise ArenaError(
+            "--bound is for the plot that --out writes: name a folder by --out"
+        )
 
 
-def written(
-    words: argparse.Namespace, wanted: List[explore_program.ExploreRequest]
+def write_rows(
+    args: argparse.Namespace, requests: List[explore_program.ExploreRequest]
 ) -> int:
     """Tries the schedules of all matches that have no row yet, and writes rows and a
     plot."""
     check("matplotlib")
-    games = [one.game for one in wanted]
-    with alone_in(words.out):
-        folder = Folder(words.out, games, wanted[0].program)
+    games = [request.game for request in requests]
+    with alone_in(args.out):
+        folder = Folder(args.out, games, requests[0].program)
         status = explore_program.run(
             [
-                one._replace(before=folder.of(games, place), write=folder.add)
-                for place, one in enumerate(wanted)
+                request._replace(before=folder.of(games, index), write=folder.add)
+                for index, request in enumerate(requests)
             ]
         )
         print(
-            f"the rows are in {words.out / MATCHES}"
+            f"the rows are in {args.out / MATCHES}"
             + (
-                f"; look at {folder.draw(words.bound or [])}"
+                f"; look at {folder.draw(args.bound or [])}"
                 if not status
                 else ": the same command goes on there"
             )
@@ -271,29 +276,29 @@ def written(
         return status
 
 
-def draws_of(words: argparse.Namespace) -> Optional[SampleRequest]:
-    """The schedules that are to be drawn, if any."""
-    if words.draws is not None:
+def draws_of(args: argparse.Namespace) -> Optional[SampleRequest]:
+    """Returns the request for drawn schedules, or None if --draws is absent."""
+    if args.draws is not None:
         return SampleRequest(
-            words.draws, words.seed or 0, words.by or SCHEDULERS[0], words.hunt
+            args.draws, args.seed or 0, args.by or SCHEDULERS[0], args.hunt
         )
-    for option, given in (
-        ("seed", words.seed),
-        ("scheduler", words.by),
-        ("objective", words.hunt),
+    for option, option_value in (
+        ("seed", args.seed),
+        ("scheduler", args.by),
+        ("objective", args.hunt),
     ):
-        if given is not None:
-            raise Fault(f"--{option} needs --draws")
+        if option_value is not None:
+            raise ArenaError(f"--{option} needs --draws")
     return None
 
 
-def searched(words: argparse.Namespace, game: Game) -> int:
+def search_by_model(args: argparse.Namespace, game: Game) -> int:
     """Tries the schedules of all matches by the Python model."""
     check_inside(game)
     all_found = []
-    with bar(None, "state") as shown:
-        for found in tried(game, words.states or fitting(OF_MODEL), shown):
-            shown.clear()
-            print(explore_program.by_model(found), flush=True)
-            all_found.append(found)
-    return explore_program.told_by_model(game, all_found, words.keep, program_of(words))
+    with bar(None, "state") as progress:
+        for match in explore_matches(game, args.states or fitting(OF_MODEL), progress):
+            progress.clear()
+            print(explore_program.by_model(match), flush=True)
+            all_found.append(match)
+    return explore_program.report_by_model(game, all_found, args.keep, program_of(args))

@@ -10,7 +10,7 @@ from arena_lab.play.teams import INSIDE, Game
 from arena_lab.rules.engines import name_of
 from arena_lab.search.capacity import OF_MODEL, fitting
 from arena_lab.search.driver import ExploreJob, Search
-from arena_lab.search.explore import Explored, explored
+from arena_lab.search.explore import ExploredMatch, explore_match
 from arena_lab.search.findings import (
     Breaks,
     Endless,
@@ -21,15 +21,20 @@ from arena_lab.search.findings import (
     turns_of,
     verdict_of,
 )
-from arena_lab.search.history_tree import NoFunction
-from arena_lab.search.match_results import MatchResult, told_in, told_schedule, unkept
+from arena_lab.search.history_tree import NoFunctionError
+from arena_lab.search.match_results import (
+    MatchResult,
+    finding_with_schedule,
+    program_schedule,
+    unkept,
+)
 from arena_lab.search.program_search import SampleRequest
 from arena_lab.support import built
 from arena_lab.support.progress import bar
 
 SOLVED_ALL = "every schedule that the lab tried solves"
 SOLVED_MODULE = "every schedule solves"
-# by what agents are told apart: steps, others inside the lab, and programs of their own
+# what distinguishes states of agents: steps, other agents inside the lab, and programs
 OF_STEPS = "memories of Python steps"
 OF_PYTHON = "histories of Python programs"
 OF_PROGRAMS = "histories or declared memories of programs"
@@ -49,7 +54,8 @@ MODULE_FAILURES = {
 }
 # of the table of several networks
 COLUMNS = ("network", "matches", "states", "moves", "lost", "seconds")
-# whether each agent that can move throughout a round has a turn in it
+# text by whether the schedule is fair: each agent that can move throughout a round has
+# a turn
 FAIRNESS = {
     True: "and it is fair",
     False: "and it is not fair: an agent that can move never has a turn",
@@ -57,7 +63,8 @@ FAIRNESS = {
 
 
 class ExploreRequest(NamedTuple):
-    """What is to be tried, by which program, what of it is kept, and who tries it."""
+    """A request to explore one game: the program, the file for results, and the
+    workers."""
 
     game: Game
     program: str
@@ -66,21 +73,25 @@ class ExploreRequest(NamedTuple):
     states: int
     check: int
     keep: pathlib.Path
-    way: Parallelism = Parallelism()
+    parallelism: Parallelism = Parallelism()
     # the matches that were tried before, and what writes those that are tried now
     before: Sequence[MatchResult] = ()
     write: Optional[Callable[[MatchResult], None]] = None
 
     def job(self, draws: Optional[SampleRequest] = None) -> ExploreJob:
-        """What a process needs to try the matches."""
+        """Returns the job that a worker process needs for the matches."""
         return ExploreJob(
             self.game.matches(), self.program, self.states, self.check, draws
         )
 
     def elsewhere(self) -> Optional[Parallelism]:
-        """Who else tries them, if this process does not. What is written is tried by a
-        process that reads no other files."""
-        return None if self.way == Parallelism() and not self.write else self.way
+        """Returns the parallelism if workers explore the matches, None if this process
+        does. Rows are written only by workers, because they read no other files."""
+        return (
+            None
+            if self.parallelism == Parallelism() and not self.write
+            else self.parallelism
+        )
 
 
 def run(all_wanted: Sequence[ExploreRequest]) -> int:
@@ -89,34 +100,36 @@ def run(all_wanted: Sequence[ExploreRequest]) -> int:
     return in_turn(all_wanted, tried_one)
 
 
-def tried_one(wanted: ExploreRequest) -> Tuple[int, Search]:
+def tried_one(request: ExploreRequest) -> Tuple[int, Search]:
     """Tries the schedules of all matches of a game, up to the first that fails."""
 
-    def after(tried: MatchResult, shown: Any) -> MatchResult:
-        shown.clear()
-        return beside(wanted, tried, shown)
+    def after(result: MatchResult, progress: Any) -> MatchResult:
+        progress.clear()
+        return beside(request, result, progress)
 
     search = all_tried(
-        wanted, Search(wanted.job(), wanted.elsewhere(), wanted.before, after), line_of
+        request,
+        Search(request.job(), request.elsewhere(), request.before, after),
+        line_of,
     )
-    return report_matches(wanted, search), search
+    return report_matches(request, search), search
 
 
 def in_turn(
     all_wanted: Sequence[ExploreRequest],
-    one: Callable[[ExploreRequest], Tuple[int, Search]],
+    try_game: Callable[[ExploreRequest], Tuple[int, Search]],
 ) -> int:
-    """Tries games one after the other, until one does not end well. If there are
-    several, a table says in the end what they came to."""
+    """Explores games one after the other until one fails. For several games it then
+    prints a table of results."""
     rows: List[Tuple[str, ...]] = [COLUMNS]
     status = 0
-    for wanted in all_wanted:
+    for request in all_wanted:
         if len(all_wanted) > 1:
-            print(f"{wanted.game.name}:", flush=True)
-        status, search = one(wanted)
+            print(f"{request.game.name}:", flush=True)
+        status, search = try_game(request)
         if status:
             break
-        rows.append(cells_of(wanted.game.name, search))
+        rows.append(cells_of(request.game.name, search))
     if len(all_wanted) > 1 and len(rows) > 1:
         print("\n".join(table_of(rows)))
     return status
@@ -124,7 +137,7 @@ def in_turn(
 
 def cells_of(name: str, search: Search) -> Tuple[str, ...]:
     """A row of the table: what the matches on a network came to."""
-    moves, lost = zip(*(tried.bounds() for tried in search.tries))
+    moves, lost = zip(*(result.bounds() for result in search.tries))
     return (
         name,
         str(len(search.tries)),
@@ -136,8 +149,8 @@ def cells_of(name: str, search: Search) -> Tuple[str, ...]:
 
 
 def states_of(search: Search) -> int:
-    """How many states were visited of all matches."""
-    return sum(tried.answered.states or 0 for tried in search.tries)
+    """Returns how many states were visited of all matches."""
+    return sum(result.answer.states or 0 for result in search.tries)
 
 
 def table_of(rows: Sequence[Sequence[str]]) -> List[str]:
@@ -155,119 +168,123 @@ def table_of(rows: Sequence[Sequence[str]]) -> List[str]:
 
 
 def all_tried(
-    wanted: ExploreRequest, search: Search, line: Callable[[MatchResult], str]
+    request: ExploreRequest, search: Search, line: Callable[[MatchResult], str]
 ) -> Search:
     """Tries the matches of a game, and prints a line for each."""
-    for tried in wanted.before:
-        print(f"{line(tried)}, as it was written before", flush=True)
-    with bar(None, "match" if wanted.elsewhere() else "answer") as shown:
-        for tried in search.tried(shown):
-            print(line(tried), flush=True)
-            if wanted.write and tried.is_whole() and not tried.has_failed():
-                wanted.write(tried)
+    for result in request.before:
+        print(f"{line(result)}, as it was written before", flush=True)
+    with bar(None, "match" if request.elsewhere() else "answer") as progress:
+        for result in search.results(progress):
+            print(line(result), flush=True)
+            if request.write and result.is_whole() and not result.has_failed():
+                request.write(result)
     return search
 
 
-def beside(wanted: ExploreRequest, tried: MatchResult, shown: Any) -> MatchResult:
+def beside(request: ExploreRequest, result: MatchResult, progress: Any) -> MatchResult:
     """The match with what the Python model's search says of it, if the program says
     nothing."""
-    found = tried.answered.found
-    game = wanted.game
-    if not isinstance(found, Exceeds):
-        return tried
-    why = f"agent {found.agent} may use {found.commands} commands"
+    finding = result.answer.finding
+    game = request.game
+    if not isinstance(finding, Exceeds):
+        return result
+    why = f"agent {finding.agent} may use {finding.commands} commands"
     if any(agent.kind != INSIDE for agent in game.agents):
-        raise NoFunction(
+        raise NoFunctionError(
             f"{why}, and the Python model's search, which takes over then, plays agents inside the lab "
             "alone"
         )
     print(f"{why}: the Python model's search takes over", flush=True)
     try:
-        states = min(wanted.states, fitting(OF_MODEL))
-        return tried._replace(
-            beside=explored(tried.fixture, game.agents, shown, states, game.limit)
+        states = min(request.states, fitting(OF_MODEL))
+        return result._replace(
+            beside=explore_match(
+                result.fixture, game.agents, progress, states, game.limit
+            )
         )
     finally:
-        shown.clear()
+        progress.clear()
 
 
-def failure_of(found: Breaks, answered: ExploreAnswer) -> str:
-    """Which agent fails under a schedule, and how."""
-    module = answered.module(found.agent)
+def failure_of(failure: Breaks, answer: ExploreAnswer) -> str:
+    """Returns which agent fails under the schedule, and how."""
+    module = answer.module(failure.agent)
     how = (
         f": {MODULE_FAILURES[module.failure]} in function {module.function}"
         if module and module.failure
         else ""
     )
-    return f"agent {found.agent} {FAILURES[found.failure]}{how}"
+    return f"agent {failure.agent} {FAILURES[failure.failure]}{how}"
 
 
-def line_of(tried: MatchResult) -> str:
-    """What was found of one match."""
-    if tried.beside is not None:
-        return by_model(tried.beside)
-    setup = tried.fixture.setup
-    answered = tried.answered
-    found = tried.answered.found
-    said = f"{answered.states} states, " if found else answered.why
-    if isinstance(found, Endless):
-        said += f"a schedule goes on for ever, {FAIRNESS[found.fair]}"
-    elif isinstance(found, Breaks):
-        said += f"under a schedule {failure_of(found, answered)}"
-    elif isinstance(found, (Solves, Fails)):
-        said += (
+def line_of(result: MatchResult) -> str:
+    """Returns the line that reports one explored match."""
+    if result.beside is not None:
+        return by_model(result.beside)
+    setup = result.fixture.setup
+    answer = result.answer
+    finding = result.answer.finding
+    text = f"{answer.states} states, " if finding else answer.why
+    if isinstance(finding, Endless):
+        text += f"a schedule goes on for ever, {FAIRNESS[finding.fair]}"
+    elif isinstance(finding, Breaks):
+        text += f"under a schedule {failure_of(finding, answer)}"
+    elif isinstance(finding, (Solves, Fails)):
+        text += (
             "every schedule solves, most"
-            if isinstance(found, Solves)
+            if isinstance(finding, Solves)
             else "a schedule fails, its"
-        ) + f" moves {found.moves}"
-    return f"home {setup.home} holes {setup.holes}: {said}, {answered.seconds:.1f} s"
+        ) + f" moves {finding.moves}"
+    return f"home {setup.home} holes {setup.holes}: {text}, {answer.seconds:.1f} s"
 
 
-def report_matches(wanted: ExploreRequest, search: Search) -> int:
-    """Says what was found of all matches, and writes the schedule that fails."""
+def report_matches(request: ExploreRequest, search: Search) -> int:
+    """Reports all matches, and writes the failing schedule."""
     tries = search.tries
     last = search.tries[-1]
     counts = f"{states_of(search)} states in {search.seconds:.1f} s"
     if last.beside is not None and (last.has_failed() or not last.is_whole()):
-        return told_by_model(wanted.game, [last.beside], wanted.keep, wanted.engine)
+        return report_by_model(
+            request.game, [last.beside], request.keep, request.engine
+        )
     if not last.is_whole():
         print(
             f"{counts}: stopped before all were visited; no schedule failed until then"
         )
-        if OF_PYTHON in told_apart(wanted.game, last.answered):
+        if OF_PYTHON in distinction_of(request.game, last.answer):
             print(AS_STEPS)
         return 130
     if last.has_failed():
         print(f"{counts}: a schedule fails")
-        return shown_failure(wanted, last)
-    says_less = any(tried.beside is not None for tried in tries)
-    engine = name_of(wanted.program)
+        return shown_failure(request, last)
+    says_less = any(result.beside is not None for result in tries)
+    engine = name_of(request.program)
     by = "" if engine == built.PROGRAM else f", by {engine}"
-    solved = SOLVED_MODULE if last.answered.modules else SOLVED_ALL
-    apart = told_apart(wanted.game, last.answered)
-    said = (
+    praise = SOLVED_MODULE if last.answer.modules else SOLVED_ALL
+    apart = distinction_of(request.game, last.answer)
+    text = (
         "no schedule fails, in part of the Python model"
         if says_less
-        else f"{solved}, {apart}"
+        else f"{praise}, {apart}"
     )
-    print(f"{counts}: {said}{by}; {search.checks}")
-    moves, lost = zip(*(tried.bounds() for tried in tries))
-    naps = wanted.game.naps
-    found = [tried.answered.found for tried in tries]
-    turns = [one.turns for one in found if isinstance(one, Solves)]
-    more = (
+    print(f"{counts}: {text}{by}; {search.checks}")
+    moves, lost = zip(*(result.bounds() for result in tries))
+    naps = request.game.naps
+    findings = [result.answer.finding for result in tries]
+    turns = [finding.turns for finding in findings if isinstance(finding, Solves)]
+    suffix = (
         ""
         if says_less
         else f", most turns {max(turns)}, if agents nap at most {naps} times"
     )
     # an agent on a held link does not arrive where it would be lost
-    most = "no more agents lost than" if last.fixture.held else "most agents lost"
-    print(f"most moves {max(moves)}, {most} {max(lost)}{more}")
-    for said in (
-        do_not_repeat(wanted.game) if wanted.check and not last.answered.modules else []
+    lost_text = "no more agents lost than" if last.fixture.held else "most agents lost"
+    print(f"most moves {max(moves)}, {lost_text} {max(lost)}{suffix}")
+    for text in (
+        do_not_repeat(request.game) if request.check and not last.answer.modules else []
     ):
-        print(f"warning: {said}")
-    if any(tried.answered.unwoken for tried in tries):
+        print(f"warning: {text}")
+    if any(result.answer.unwoken for result in tries):
         print(
             f"warning: some agents still sleep after {naps} naps, and what they do when they wake once more is not "
             f"known: try --spurious-wakeups {naps + 1}"
@@ -275,10 +292,10 @@ def report_matches(wanted: ExploreRequest, search: Search) -> int:
     return 0
 
 
-def told_apart(game: Game, answered: ExploreAnswer) -> str:
-    """By what the states of agents are told apart."""
-    if answered.modules:
-        digests = dict.fromkeys(run.module for run in answered.modules)
+def distinction_of(game: Game, answer: ExploreAnswer) -> str:
+    """Returns what distinguishes the states of the agents."""
+    if answer.modules:
+        digests = dict.fromkeys(run.module for run in answer.modules)
         return f"by memories of the module{'s' * (len(digests) > 1)} with the SHA-256 {', '.join(digests)}"
     kinds = (
         OF_STEPS
@@ -292,90 +309,93 @@ def told_apart(game: Game, answered: ExploreAnswer) -> str:
 
 
 def do_not_repeat(game: Game) -> List[str]:
-    """What the agents of one drawn match say otherwise when each is repeated alone,
-    with another key."""
-    return games.play_seed(game, "fair", 0, None).repeated(game.limit).played.faults
+    """Repeats each agent of one drawn match alone, with another key, and returns the
+    differences."""
+    return games.play_seed(game, "fair", 0, None).repeat(game.limit).match.faults
 
 
-def shown_failure(wanted: ExploreRequest, tried: MatchResult) -> int:
+def shown_failure(request: ExploreRequest, result: MatchResult) -> int:
     """Prints the outcome of the failing schedule and keeps its match; gives the exit
     status."""
-    found = tried.answered.found
-    setup = tried.fixture.setup
-    if isinstance(found, Endless):
+    finding = result.answer.finding
+    setup = result.fixture.setup
+    if isinstance(finding, Endless):
         print(
-            f"home {setup.home} holes {setup.holes}: after {len(found.schedule)} choices, the last "
-            f"{len(found.round)} of the schedule may be repeated for ever, {FAIRNESS[found.fair]}"
+            f"home {setup.home} holes {setup.holes}: after {len(finding.schedule)} choices, the last "
+            f"{len(finding.round)} of the schedule may be repeated for ever, {FAIRNESS[finding.fair]}"
         )
-    elif isinstance(found, Fails):
+    elif isinstance(finding, Fails):
         # an agent on a held link does not arrive where it would be lost
-        most = "at most " if tried.fixture.held else ""
+        bound_text = "at most " if result.fixture.held else ""
         print(
-            f"it comes to: home {setup.home} holes {setup.holes}, {found.outcome} moves {found.moves} lost "
-            f"{most}{found.lost}"
+            f"it comes to: home {setup.home} holes {setup.holes}, {finding.outcome} moves {finding.moves} lost "
+            f"{bound_text}{finding.lost}"
         )
-    keep(wanted, tried)
+    keep(request, result)
     return 1
 
 
-def keep(wanted: ExploreRequest, tried: MatchResult) -> None:
+def keep(request: ExploreRequest, result: MatchResult) -> None:
     """Writes the schedule that the program tells, once the agents have played it to
     what the program says."""
-    found = told_in(tried)
-    same = 2 if tried.fixture.held else 3
-    verdict = verdict_of(found)
+    finding = finding_with_schedule(result)
+    same = 2 if result.fixture.held else 3
+    verdict = verdict_of(finding)
     try:
-        played = kept_matches.keep(
-            wanted.keep, told_schedule(wanted.game, tried), wanted.engine
+        match = kept_matches.keep(
+            request.keep, program_schedule(request.game, result), request.engine
         )
         if (
-            isinstance(found, Breaks)
-            and not played.faults
+            isinstance(finding, Breaks)
+            and not match.faults
             or verdict
-            and played.verdict()[:same] != verdict[:same]
+            and match.verdict()[:same] != verdict[:same]
         ):
-            raise NoFunction(
+            raise NoFunctionError(
                 "played again it comes to something else: explore needs agents that are functions of "
                 "what they are told"
             )
-    except NoFunction:
-        if not tried.answered.modules:
+    except NoFunctionError:
+        if not result.answer.modules:
             raise
-        print(unkept(turns_of(found)))
+        print(unkept(turns_of(finding)))
 
 
-# what the Python model's search found
+# reports of the Python model's search
 
 
-def by_model(found: Explored) -> str:
-    """What was found of one match."""
-    explorer = found.explorer
-    setup = found.explorer.fixture.setup
-    has_failed = found.rank()[0]
-    said = (
+def by_model(match: ExploredMatch) -> str:
+    """Returns the line that reports one match explored by the Python model."""
+    explorer = match.explorer
+    setup = match.explorer.fixture.setup
+    has_failed = match.rank()[0]
+    text = (
         "a schedule fails"
         if has_failed
         else "every schedule solves"
-        if found.is_whole
+        if match.is_whole
         else "stopped"
     )
     moves = explorer.worst.verdict.moves if explorer.worst else 0
     return (
-        f"home {setup.home} holes {setup.holes}: {explorer.states()} states, {said}, "
-        f"{'its' if has_failed else 'most'} moves {moves}, {found.seconds:.1f} s"
+        f"home {setup.home} holes {setup.holes}: {explorer.states()} states, {text}, "
+        f"{'its' if has_failed else 'most'} moves {moves}, {match.seconds:.1f} s"
     )
 
 
-def told_by_model(
-    game: Game, all_found: List[Explored], keep: pathlib.Path, program: Optional[str]
+def report_by_model(
+    game: Game,
+    all_found: List[ExploredMatch],
+    keep: pathlib.Path,
+    program: Optional[str],
 ) -> int:
-    """Says what was found of all matches, and writes what is to be kept."""
-    worst = max(all_found, key=Explored.rank)
-    is_whole = all(found.is_whole for found in all_found)
+    """Reports all matches, and writes the match to keep."""
+    worst = max(all_found, key=ExploredMatch.rank)
+    is_whole = all(match.is_whole for match in all_found)
     states, seconds = (
-        sum(it)
-        for it in zip(
-            *((found.explorer.states(), found.seconds) for found in all_found)
+        sum(column)
+        for column in zip(
+            *((match.explorer.states(), match.seconds) for match in all_found)
         )
     )
     counts = f"{states} states in {seconds:.1f} s"
@@ -395,9 +415,9 @@ def told_by_model(
             f"{'it comes to' if end.has_failed else 'most moves'}: home {setup.home} holes {setup.holes}, "
             f"{end.verdict}"
         )
-        played = kept_matches.keep(keep, worst.schedule(game), program)
-        if played.verdict() != end.verdict:
-            raise NoFunction(
+        match = kept_matches.keep(keep, worst.schedule(game), program)
+        if match.verdict() != end.verdict:
+            raise NoFunctionError(
                 "played again it comes to another verdict: explore needs agents that are functions of "
                 "what they are told"
             )

@@ -54,12 +54,12 @@ from arena_lab.sandbox.sandboxes import Isolation, SandboxOptions
 from arena_lab.support.missing import check
 from arena_lab.sweep import tables
 
-# what the pages of a course are made by, without which it would stop at its end
-NEEDED = ("jinja2",)
+# packages that write the pages of a course; without them grading would fail at its end
+PACKAGES = ("jinja2",)
 
 
-def add_words(parser: argparse.ArgumentParser) -> None:
-    """The words of the command `grade`."""
+def add_arguments(parser: argparse.ArgumentParser) -> None:
+    """Adds the arguments of `grade`."""
     group = parser.add_argument_group("the file", course.KEYS)
     parser.add_argument_group("points", points.__doc__)
     parser.add_argument_group("exports", export.__doc__)
@@ -111,41 +111,46 @@ def add_words(parser: argparse.ArgumentParser) -> None:
     add_engine(parser)
 
 
-def run(words: argparse.Namespace) -> int:
-    if words.repeat_only:
-        return repeat_graded(words.file, words.workers, words.drop_caches)
-    if not words.out:
-        words.refuse("name a folder for the results by --out FOLDER")
-    check(*NEEDED)
-    path = words.file.resolve()
+def run(args: argparse.Namespace) -> int:
+    if args.repeat_only:
+        return repeat_graded(args.file, args.workers, args.drop_caches)
+    if not args.out:
+        args.refuse("name a folder for the results by --out FOLDER")
+    check(*PACKAGES)
+    path = args.file.resolve()
     strongest = sandboxes.strongest()
-    read = course.read(path, "")
-    course.check_networks(read)
-    own = [file for files in read.files.values() for file in files]
-    course.check_walls(strongest, [path.parent, words.out, *own], read.terms.tools)
-    for name in read.grid.schedulers:
-        read.conditions.maker(name)
+    course_file = course.read_course(path, "")
+    course.check_networks(course_file)
+    submitted_files = [file for files in course_file.files.values() for file in files]
+    course.check_walls(
+        strongest, [path.parent, args.out, *submitted_files], course_file.terms.tools
+    )
+    for name in course_file.grid.schedulers:
+        course_file.conditions.maker(name)
     if strongest is not Isolation.ALL:
         print(f"arena-lab: {sandboxes.weakness()}; {strongest.value}", file=sys.stderr)
-    wanted = export.export_of(
-        words.export, words.students, path.parent, list(read.files)
+    requested_export = export.export_of(
+        args.export, args.students, path.parent, list(course_file.files)
     )
-    program = program_of(words)
-    with tables.alone_in(words.out):
-        handed_in = hand_ins(words.out, read)
-        secret = course.secret_in(words.out, words.secret, handed_in)
+    program = program_of(args)
+    with tables.alone_in(args.out):
+        handed_in = hand_ins(args.out, course_file)
+        secret = course.secret_in(args.out, args.secret, handed_in)
         sandbox = SandboxOptions(
-            strongest, read.terms.tools, read.terms.has_proc, calls=read.terms.calls
+            strongest,
+            course_file.terms.tools,
+            course_file.terms.has_proc,
+            calls=course_file.terms.calls,
         )
-        graded = GradingRun(
-            read.conditions.text,
+        grading = GradingRun(
+            course_file.conditions.text,
             path.parent,
             secret,
             program,
             sandbox,
-            words.out,
-            not words.no_repeat,
-            forgets=words.drop_caches,
-            export=wanted,
+            args.out,
+            not args.no_repeat,
+            forgets=args.drop_caches,
+            export=requested_export,
         )
-        return graded_in(graded, words.workers, handed_in)
+        return graded_in(grading, args.workers, handed_in)

@@ -31,14 +31,21 @@ from typing import Any, Callable, Dict
 
 from arena_lab.commands.words import add_program, at_least_one, not_negative
 from arena_lab.hall import backup, entry, place, serving
-from arena_lab.hall.course import CODEMIRROR, PACKAGE, Hall, NoHall, is_zone, read
+from arena_lab.hall.course import (
+    CODEMIRROR,
+    PACKAGE,
+    Hall,
+    HallError,
+    is_zone,
+    read_hall,
+)
 from arena_lab.hall.place import HallFolder, folder_of
 from arena_lab.rules.engines import program_at
 from arena_lab.sandbox import sandboxes
 from arena_lab.sandbox.sandboxes import Isolation
 from arena_lab.support.missing import check
 
-NEEDED = ("django", "rest_framework", "waitress", "whitenoise")
+PACKAGES = ("django", "rest_framework", "waitress", "whitenoise")
 ACTIONS = ("new", "serve", "worker", "keys", "password", "contest", "backup", "restore")
 SHEET = "keys.csv"
 LOCAL_TIME = "/etc/localtime"
@@ -46,8 +53,8 @@ LOCAL_TIME = "/etc/localtime"
 A_TERM = datetime.timedelta(weeks=16)
 
 
-def add_words(parser: argparse.ArgumentParser) -> None:
-    """The words of the command `hall`."""
+def add_arguments(parser: argparse.ArgumentParser) -> None:
+    """Adds the arguments of `hall`."""
     parser.add_argument(
         "words",
         metavar="WORDS",
@@ -127,43 +134,41 @@ def add_words(parser: argparse.ArgumentParser) -> None:
     add_program(parser)
 
 
-def run(words: argparse.Namespace) -> int:
-    action, *given = (
-        words.words if words.words[0] in ACTIONS else ["serve", *words.words]
+def run(args: argparse.Namespace) -> int:
+    action, *operands = (
+        args.words if args.words[0] in ACTIONS else ["serve", *args.words]
     )
-    wanted = 2 if action in ("backup", "restore") else 1
-    if len(given) != wanted:
-        raise NoHall(
-            f"`hall {action}` takes {'COURSE.toml and the archive' if wanted == 2 else 'COURSE.toml'}"
+    operand_count = 2 if action in ("backup", "restore") else 1
+    if len(operands) != operand_count:
+        raise HallError(
+            f"`hall {action}` takes {'COURSE.toml and the archive' if operand_count == 2 else 'COURSE.toml'}"
         )
-    course = pathlib.Path(given[0])
+    course = pathlib.Path(operands[0])
     if action == "new":
         return write_new(course)
-    check(*NEEDED)
-    folder = (words.folder or folder_of(course)).resolve()
+    check(*PACKAGES)
+    folder = (args.folder or folder_of(course)).resolve()
     if action == "serve":
         return serve(
-            words,
-            HallFolder(
-                folder, course.resolve(), program_at(words.program, words.needs)
-            ),
+            args,
+            HallFolder(folder, course.resolve(), program_at(args.program, args.needs)),
         )
     if action == "restore":
-        backup.take_course(pathlib.Path(given[1]), course)
-    hall = read(course)
+        backup.take_course(pathlib.Path(operands[1]), course)
+    hall = read_hall(course)
     if action == "worker":
-        return work(words, hall, folder)
+        return work(args, hall, folder)
     if action == "restore":
         return restore(
-            HallFolder(folder, course.resolve(), None), pathlib.Path(given[1])
+            HallFolder(folder, course.resolve(), None), pathlib.Path(operands[1])
         )
     begin(place.at(folder))
     try:
         if action == "backup":
             return report(
-                f"wrote {backup.write(place.at(folder), pathlib.Path(given[1]))}"
+                f"wrote {backup.write(place.at(folder), pathlib.Path(operands[1]))}"
             )
-        return DONE[action](words, hall, folder)
+        return HALL_ACTIONS[action](args, hall, folder)
     finally:
         place.leave(folder, folder.stat())
 
@@ -176,7 +181,7 @@ def report(line: str) -> int:
 def write_new(course: pathlib.Path) -> int:
     """Writes the file of a course."""
     if course.exists():
-        raise NoHall(f"{course}: there is such a file already")
+        raise HallError(f"{course}: there is such a file already")
     text = (pathlib.Path(place.__file__).parent / "new.toml").read_text(
         encoding="utf-8"
     )
@@ -204,12 +209,12 @@ def begin(of: HallFolder) -> None:
     call_command("clearsessions")
 
 
-def check_walls(words: argparse.Namespace, hall: Hall) -> None:
+def check_walls(args: argparse.Namespace, hall: Hall) -> None:
     """Refuses to take programs of strangers where nothing keeps them from the hall."""
     takes = hall.hand_ins is not None or hall.editor is not None
     if takes and sandboxes.strongest() is not Isolation.ALL:
-        if not words.weak_walls:
-            raise NoHall(
+        if not args.weak_walls:
+            raise HallError(
                 f"{sandboxes.weakness()}: programs of teams could read the hall. Remove [hand_ins] and "
                 "[editor], or say --weak-walls if you trust all teams"
             )
@@ -220,9 +225,10 @@ def check_walls(words: argparse.Namespace, hall: Hall) -> None:
 
 
 def check_editor(hall: Hall) -> None:
-    """Refuses a page on which one writes where there is no editor for it."""
+    """Raises HallError if the hall offers its editor page and Debian's editor is not
+    installed."""
     if hall.editor is not None and not CODEMIRROR.is_dir():
-        raise NoHall(
+        raise HallError(
             f"[editor] needs Debian's {PACKAGE}: `apt-get install {PACKAGE}`, or remove it"
         )
 
@@ -236,46 +242,46 @@ def restore(of: HallFolder, archive: pathlib.Path) -> int:
         backup.load(of, aside)
         begin(of)
     place.leave(of.folder, owner)
-    said = f"; what was there before is in {aside}" if aside else ""
+    text = f"; what was there before is in {aside}" if aside else ""
     return report(
-        f"{of.folder} is as it stood in {archive}{said}: serve it by `arena-lab hall {of.course}`"
+        f"{of.folder} is as it stood in {archive}{text}: serve it by `arena-lab hall {of.course}`"
     )
 
 
-def serve(words: argparse.Namespace, of: HallFolder) -> int:
+def serve(args: argparse.Namespace, of: HallFolder) -> int:
     os.umask(0o077)
     hall = of.to_serve()
-    check_walls(words, hall)
+    check_walls(args, hall)
     check_editor(hall)
     of.make()
     with serving.alone(of):
         of.write(hall)
         for line in hall.notes:
-            place.tell(line)
+            place.log_line(line)
         begin(of)
         place.remove_left(of.folder)
         prepare(hall, of)
         print(
-            f"hall http://{words.address}:{words.port}/ (the teacher's pages: /teacher/)",
+            f"hall http://{args.address}:{args.port}/ (the teacher's pages: /teacher/)",
             flush=True,
         )
         serving.serve(
             of,
-            serving.Options([words.address, words.port], words.workers),
-            words.seconds,
+            serving.Options([args.address, args.port], args.workers),
+            args.seconds,
         )
     return 0
 
 
-def work(words: argparse.Namespace, hall: Hall, folder: pathlib.Path) -> int:
+def work(args: argparse.Namespace, hall: Hall, folder: pathlib.Path) -> int:
     """Workers on another machine than the pages, or besides those that they have."""
     if hall.database == "sqlite":
-        raise NoHall(
+        raise HallError(
             "workers on other machines need PostgreSQL: `database` in the course's file, and the same folder"
         )
-    check_walls(words, hall)
+    check_walls(args, hall)
     os.umask(0o077)
-    serving.serve(place.at(folder), serving.Options(None, words.workers), words.seconds)
+    serving.serve(place.at(folder), serving.Options(None, args.workers), args.seconds)
     return 0
 
 
@@ -294,7 +300,7 @@ def prepare(hall: Hall, of: HallFolder) -> None:
         )
 
 
-def draw_keys(words: argparse.Namespace, hall: Hall, folder: pathlib.Path) -> int:
+def draw_keys(args: argparse.Namespace, hall: Hall, folder: pathlib.Path) -> int:
     from arena_lab.hall import keys
 
     keys.sync(hall)
@@ -302,21 +308,21 @@ def draw_keys(words: argparse.Namespace, hall: Hall, folder: pathlib.Path) -> in
     return report(f"{count} tokens were drawn; the sheets are in {folder / SHEET}")
 
 
-def set_password(words: argparse.Namespace, hall: Hall, folder: pathlib.Path) -> int:
+def set_password(args: argparse.Namespace, hall: Hall, folder: pathlib.Path) -> int:
     from arena_lab.hall import keys
 
-    given = (
+    password = (
         getpass.getpass("the teacher's new password (empty: draw one): ")
         if sys.stdin.isatty()
         else ""
     )
-    if given and len(given) < 10:
-        raise NoHall("a password has at least 10 characters")
-    drawn = keys.set_password(given)
-    if given:
+    if password and len(password) < 10:
+        raise HallError("a password has at least 10 characters")
+    new_password = keys.set_password(password)
+    if password:
         (folder / place.PASSWORD).unlink(missing_ok=True)
         return report("the password is set")
-    place.write_whole(folder / place.PASSWORD, drawn + "\n")
+    place.write_whole(folder / place.PASSWORD, new_password + "\n")
     return report(f"the password is in {folder / place.PASSWORD}")
 
 
@@ -332,42 +338,42 @@ def moment_of(word: str) -> Any:
             )
         return timezone.make_aware(datetime.datetime.fromisoformat(word))
     except ValueError:
-        raise NoHall(
+        raise HallError(
             f'{word}: write a time as 18:00, or as "2026-12-18 18:00"'
         ) from None
 
 
-def plan_contest(words: argparse.Namespace, hall: Hall, folder: pathlib.Path) -> int:
+def plan_contest(args: argparse.Namespace, hall: Hall, folder: pathlib.Path) -> int:
     from django.core.exceptions import ValidationError
     from django.utils import timezone
 
     from arena_lab.hall.handins.models import Contest
 
     if hall.hand_ins is None:
-        raise NoHall(
+        raise HallError(
             "a contest is of programs that are handed in: write [hand_ins] into the course's file"
         )
-    start = moment_of(words.start) if words.start else timezone.localtime()
-    made = Contest(
-        name=words.name,
-        networks=words.networks,
+    start = moment_of(args.start) if args.start else timezone.localtime()
+    contest = Contest(
+        name=args.name,
+        networks=args.networks,
         start=start,
-        end=start + datetime.timedelta(minutes=words.minutes),
-        freeze=moment_of(words.freeze) if words.freeze else None,
+        end=start + datetime.timedelta(minutes=args.minutes),
+        freeze=moment_of(args.freeze) if args.freeze else None,
     )
     try:
-        made.full_clean()
+        contest.full_clean()
     except ValidationError as fault:
-        raise NoHall("; ".join(fault.messages)) from None
-    made.save()
-    frozen = f", frozen from {made.freeze:%H:%M}" if made.freeze else ""
+        raise HallError("; ".join(fault.messages)) from None
+    contest.save()
+    frozen = f", frozen from {contest.freeze:%H:%M}" if contest.freeze else ""
     return report(
-        f"contest {made.pk}, {made}: from {made.start:%Y-%m-%d %H:%M} to {made.end:%H:%M}{frozen}, by the "
+        f"contest {contest.pk}, {contest}: from {contest.start:%Y-%m-%d %H:%M} to {contest.end:%H:%M}{frozen}, by the "
         f"clock of {hall.zone}"
     )
 
 
-DONE: Dict[str, Callable[[argparse.Namespace, Hall, pathlib.Path], int]] = {
+HALL_ACTIONS: Dict[str, Callable[[argparse.Namespace, Hall, pathlib.Path], int]] = {
     "keys": draw_keys,
     "password": set_password,
     "contest": plan_contest,

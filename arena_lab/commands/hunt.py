@@ -40,7 +40,7 @@ from arena_lab.search.hunt import (
     Hunt,
     Hunter,
     HuntedMatch,
-    hunted,
+    run_hunter,
 )
 from arena_lab.support.progress import bar
 
@@ -48,8 +48,8 @@ FOLDER = kept_matches.FOLDER
 DATABASE = pathlib.Path("out/hunted")
 
 
-def add_words(parser: argparse.ArgumentParser) -> None:
-    """The words of the command `hunt`."""
+def add_arguments(parser: argparse.ArgumentParser) -> None:
+    """Adds the arguments of `hunt`."""
     add_match(parser)
     parser.add_argument(
         "--objective",
@@ -89,46 +89,46 @@ def add_words(parser: argparse.ArgumentParser) -> None:
     add_engine(parser)
 
 
-def run(words: argparse.Namespace) -> int:
-    program = program_of(words)
-    asked = Hunt(
-        game_of(words),
-        words.looked_for,
-        words.any_home,
-        words.runs,
-        words.seed,
-        words.database,
-        words.repeat,
+def run(args: argparse.Namespace) -> int:
+    program = program_of(args)
+    hunt = Hunt(
+        game_of(args),
+        args.looked_for,
+        args.any_home,
+        args.runs,
+        args.seed,
+        args.database,
+        args.repeat,
     )
-    with bar(words.runs, "schedule") as shown:
-        hunter = Hunter(asked, shown)
-        hunted(hunter)
-        shown.clear()
+    with bar(args.runs, "schedule") as progress:
+        hunter = Hunter(hunt, progress)
+        run_hunter(hunter)
+        progress.clear()
     if hunter.was_stopped:
         print("interrupted; this was found:")
     if hunter.best is None:
         return 130
-    return report_hunt(hunter, hunter.best, words.keep, program)
+    return report_hunt(hunter, hunter.best, args.keep, program)
 
 
 def report_hunt(
     hunter: Hunter, best: HuntedMatch, keep: pathlib.Path, program: Optional[str]
 ) -> int:
-    """Says what was found, and keeps it."""
+    """Reports the best match of a hunt, and writes it."""
     looked_for = hunter.asked.looked_for
     setup = best.fixture.setup
-    said = (
+    text = (
         f"the team fails, first under number {hunter.failed_at}"
         if best.has_failed
         else "the team solved its network under each"
     )
-    print(f"{hunter.tried} schedules were tried: {said}")
+    print(f"{hunter.tried} schedules were tried: {text}")
     if best.has_failed or looked_for != FAILURE:
         print(
             f"{'it comes to' if best.has_failed else 'the most ' + looked_for}: home {setup.home} holes "
-            f"{setup.holes}, {best.played.verdict()}"
+            f"{setup.holes}, {best.match.verdict()}"
         )
-        for fault in best.played.faults:
+        for fault in best.match.faults:
             if SAYS_OTHERWISE in fault:
                 print(fault)
         kept_matches.keep(keep, hunter.schedule(), program)

@@ -39,16 +39,16 @@ from arena_lab.play import kept_matches
 from arena_lab.play.agent_files import file_of
 from arena_lab.play.games import play_again
 from arena_lab.play.teams import Game
-from arena_lab.search.explore import MOST_STATES, check_inside
-from arena_lab.search.invariants import Breach, Candidate, Walked, walked
+from arena_lab.search.explore import MAX_STATES, check_inside
+from arena_lab.search.invariants import Breach, Candidate, WalkedMatch, walk_match
 from arena_lab.search.configurations import After, At, Before, Configuration
 from arena_lab.support.progress import bar
 
 REACHED_ALONE = "pictures that no schedule reaches were not tried"
 
 
-def add_words(parser: argparse.ArgumentParser) -> None:
-    """The words of the command `invariant`."""
+def add_arguments(parser: argparse.ArgumentParser) -> None:
+    """Adds the arguments of `invariant`."""
     parser.add_argument(
         "candidate", metavar="CANDIDATE.py", help="the file with the candidate"
     )
@@ -58,8 +58,8 @@ def add_words(parser: argparse.ArgumentParser) -> None:
         dest="states",
         metavar="N",
         type=at_least_one,
-        default=MOST_STATES,
-        help=f"the most pictures of a match to try ({MOST_STATES})",
+        default=MAX_STATES,
+        help=f"the most pictures of a match to try ({MAX_STATES})",
     )
     parser.add_argument(
         "--keep",
@@ -71,106 +71,110 @@ def add_words(parser: argparse.ArgumentParser) -> None:
     )
 
 
-def run(words: argparse.Namespace) -> int:
-    games = games_of(words)
-    candidate = Candidate(file_of(words.candidate))
+def run(args: argparse.Namespace) -> int:
+    games = games_of(args)
+    candidate = Candidate(file_of(args.candidate))
     for game in games:
         check_inside(game)
     count = 0
     matches = 0
     for game in games:
-        for found in tried(game, candidate, words.states):
-            if found.walk.breach is not None:
-                report_breach(game, found, found.walk.breach, words.keep)
+        for match in try_matches(game, candidate, args.states):
+            if match.walk.breach is not None:
+                report_breach(game, match, match.walk.breach, args.keep)
                 return 1
-            if not found.is_whole:
+            if not match.is_whole:
                 print(
                     "stopped before all pictures were tried; the candidate held at those that were"
                 )
                 return 130
-            count = count + found.walk.states()
+            count = count + match.walk.states()
             matches = matches + 1
     print(
-        f"the candidate holds at all {count} pictures of {counted(matches, 'match', 'matches')}; {REACHED_ALONE}"
+        f"the candidate holds at all {count} pictures of {count_text(matches, 'match', 'matches')}; {REACHED_ALONE}"
     )
     return 0
 
 
-def tried(game: Game, candidate: Candidate, states: int) -> Iterator[Walked]:
-    """Tries the matches of a game, one after the other, and prints a line for each."""
-    with bar(None, "picture") as shown:
+def try_matches(game: Game, candidate: Candidate, states: int) -> Iterator[WalkedMatch]:
+    """Walks the matches of a game one after the other, and prints a line for each."""
+    with bar(None, "picture") as progress:
         for fixture in game.fixtures():
-            found = walked(fixture, game.agents, candidate, shown, states, game.limit)
-            shown.clear()
-            print(line_of(game, found), flush=True)
-            yield found
+            match = walk_match(
+                fixture, game.agents, candidate, progress, states, game.limit
+            )
+            progress.clear()
+            print(line_of(game, match), flush=True)
+            yield match
 
 
-def line_of(game: Game, found: Walked) -> str:
-    """What was found of one match."""
-    walk = found.walk
+def line_of(game: Game, match: WalkedMatch) -> str:
+    """Returns the line that reports one walked match."""
+    walk = match.walk
     setup = walk.fixture.setup
-    said = f"holds, most moves {walk.most_moves}"
+    text = f"holds, most moves {walk.most_moves}"
     if walk.breach is not None:
         turns = len(walk.breach.choices)
-        said = (
-            f"after {counted(turns, 'turn', 'turns')}: " if turns else "at the start: "
+        text = (
+            f"after {count_text(turns, 'turn', 'turns')}: "
+            if turns
+            else "at the start: "
         ) + walk.breach.why
-    elif not found.is_whole:
-        said = "stopped"
-    pictures = counted(walk.states(), "picture", "pictures")
-    return f"{game.name} home {setup.home} holes {setup.holes}: {pictures}, {said}, {found.seconds:.1f} s"
+    elif not match.is_whole:
+        text = "stopped"
+    pictures = count_text(walk.states(), "picture", "pictures")
+    return f"{game.name} home {setup.home} holes {setup.holes}: {pictures}, {text}, {match.seconds:.1f} s"
 
 
-def counted(count: int, one: str, more: str) -> str:
-    return f"{count} {one if count == 1 else more}"
+def count_text(count: int, singular: str, extra: str) -> str:
+    return f"{count} {singular if count == 1 else extra}"
 
 
 def report_breach(
-    game: Game, found: Walked, breach: Breach, keep: pathlib.Path
+    game: Game, match: WalkedMatch, breach: Breach, keep: pathlib.Path
 ) -> None:
     """Prints the schedule to a picture at which a candidate is wrong, and the picture;
     keeps the schedule."""
     for choice in breach.choices:
         print(f"{choice.do} {choice.agent}")
     print("\n".join(configuration_text(breach)))
-    print("\n".join(play_again(found.schedule(game), None).keep(keep)))
+    print("\n".join(play_again(match.schedule(game), None).keep(keep)))
 
 
 def configuration_text(breach: Breach) -> List[str]:
     """A picture in words: a line for each agent, for each whiteboard that shows
     something, and for the rest."""
-    picture = breach.picture
+    configuration = breach.picture
     lines = [
-        f"agent {agent} {place_in_words(picture, agent)}, {it}"
-        for agent, it in enumerate(breach.next)
+        f"agent {agent} {place_in_words(configuration, agent)}, {position}"
+        for agent, position in enumerate(breach.next)
     ]
     lines += [
         f"the whiteboard of node {node} shows {text!r}"
-        for node, text in enumerate(picture.shown)
+        for node, text in enumerate(configuration.shown)
         if text
     ]
-    reached = ", ".join(map(str, sorted(picture.reached))) or "none"
+    visited = ", ".join(map(str, sorted(configuration.reached))) or "none"
     return [
         *lines,
-        f"nodes at which an agent has arrived: {reached}; moves {picture.moves}",
+        f"nodes at which an agent has arrived: {visited}; moves {configuration.moves}",
     ]
 
 
-def place_in_words(picture: Configuration, agent: int) -> str:
-    """Where an agent is, and what it has used and accused."""
-    position = picture.position[agent]
-    accused = picture.accused[agent]
+def place_in_words(configuration: Configuration, agent: int) -> str:
+    """Describes an agent's position, the commands that it used and its accusation."""
+    position = configuration.position[agent]
+    accusation = configuration.accused[agent]
     if isinstance(position, Before):
         return "has not entered"
-    used = f"has used {counted(picture.used[agent], 'command', 'commands')}"
+    usage = f"has used {count_text(configuration.used[agent], 'command', 'commands')}"
     if isinstance(position, After):
         return (
-            f"has left, {used}"
-            if accused is None
-            else f"has accused port {accused[1]} of node {accused[0]}, {used}"
+            f"has left, {usage}"
+            if accusation is None
+            else f"has accused port {accusation[1]} of node {accusation[0]}, {usage}"
         )
     if isinstance(position, At):
-        came = "" if position.came is None else f", came by port {position.came}"
-        return f"is at node {position.node}{came}, {used}"
-    return f"is on the link of port {position.port} of node {position.node}, {used}"
+        arrival = "" if position.came is None else f", came by port {position.came}"
+        return f"is at node {position.node}{arrival}, {usage}"
+    return f"is on the link of port {position.port} of node {position.node}, {usage}"

@@ -22,15 +22,15 @@ from typing import List, Tuple
 
 from arena_lab.commands.words import add_program
 from arena_lab.rules.engines import program_at
-from arena_lab.rules.model import spelled
+from arena_lab.rules.model import spell
 from arena_lab.rules.printed import READERS, reading
 from arena_lab.support.built import without_warning
 
 # the program's status for a command line that it refuses
-REFUSED = 2
+REFUSED_STATUS = 2
 
 
-def add_words(parser: argparse.ArgumentParser) -> None:
+def add_arguments(parser: argparse.ArgumentParser) -> None:
     add_program(parser)
     parser.add_argument(
         "order", metavar="COMMAND", choices=READERS, help=", ".join(READERS)
@@ -43,36 +43,36 @@ def add_words(parser: argparse.ArgumentParser) -> None:
     )
 
 
-def run(words: argparse.Namespace) -> int:
-    options = {word.partition("=")[0] for word in words.words}
-    if words.order == "explore" and "--module" not in options:
-        words.refuse(
+def run(args: argparse.Namespace) -> int:
+    options = {word.partition("=")[0] for word in args.words}
+    if args.order == "explore" and "--module" not in options:
+        args.refuse(
             "name modules by --module: without them `arena explore` asks its host, in lines of JSON"
         )
-    if words.order == "explore" and "--all-holes" in options:
-        words.refuse(
+    if args.order == "explore" and "--all-holes" in options:
+        args.refuse(
             "leave out --all-holes: `arena explore --all-holes` prints lines of JSON itself, of several matches"
         )
-    order = [words.order, *words.words]
-    status, printed, errors = ran([program_at(words.program), *order])
-    if status != REFUSED:
-        print(spelled(reading(order, printed, errors, status)))
+    order = [args.order, *args.words]
+    status, output, errors = run_program([program_at(args.program), *order])
+    if status != REFUSED_STATUS:
+        print(spell(reading(order, output, errors, status)))
     return status
 
 
-def ran(words: List[str]) -> Tuple[int, str, str]:
+def run_program(words: List[str]) -> Tuple[int, str, str]:
     """The status of a program, and what it wrote to standard output and to standard
     error, which is shown meanwhile, but that the program is not proved."""
     with tempfile.TemporaryFile() as output:
         with subprocess.Popen(
             words, stdin=subprocess.DEVNULL, stdout=output, stderr=subprocess.PIPE
         ) as child:
-            errors = "".join(shown(line) for line in child.stderr or ())
+            errors = "".join(echo_line(line) for line in child.stderr or ())
         output.seek(0)
         return child.returncode, output.read().decode(), errors
 
 
-def shown(line: bytes) -> str:
+def echo_line(line: bytes) -> str:
     """A line of standard error, which is written to ours."""
     text = without_warning(line.decode(errors="replace"))
     print(text, end="", file=sys.stderr, flush=True)

@@ -16,19 +16,17 @@ import sys
 from arena_lab.commands.words import add_ports
 from arena_lab.pages import network_page
 from arena_lab.rules import draws, networks
-from arena_lab.rules.networks import Network, NoNetwork
+from arena_lab.rules.networks import Network, NetworkError
 
 
-def network_for(name: str, words: argparse.Namespace) -> Network:
+def network_for(name: str, args: argparse.Namespace) -> Network:
     """The network of a word, with its ports as the words say."""
-    network = networks.biconnected(name)
-    return draws.numbered(
-        network, draws.ports_seed(words.ports, secrets.SystemRandom())
-    )
+    network = networks.check_biconnected(name)
+    return draws.renumber(network, draws.ports_seed(args.ports, secrets.SystemRandom()))
 
 
-def add_words(parser: argparse.ArgumentParser) -> None:
-    """The words of the command `network`."""
+def add_arguments(parser: argparse.ArgumentParser) -> None:
+    """Adds the arguments of `network`."""
     group = parser.add_argument_group("the network", networks.__doc__)
     group.add_argument("network", metavar="NAME", help="the network")
     add_ports(parser)
@@ -47,31 +45,31 @@ def add_words(parser: argparse.ArgumentParser) -> None:
     )
 
 
-def run(words: argparse.Namespace) -> int:
-    network = network_for(words.network, words)
-    if words.page is not None:
-        words.page.write_text(
-            network_page.page_of(network, words.network), encoding="utf-8"
+def run(args: argparse.Namespace) -> int:
+    network = network_for(args.network, args)
+    if args.page is not None:
+        args.page.write_text(
+            network_page.page_of(network, args.network), encoding="utf-8"
         )
-        print(f"see it: {words.page}")
-    if words.page is None or words.out is not None:
-        return write_file(network, words)
+        print(f"see it: {args.page}")
+    if args.page is None or args.out is not None:
+        return write_file(network, args)
     return 0
 
 
-def write_file(network: Network, words: argparse.Namespace) -> int:
+def write_file(network: Network, args: argparse.Namespace) -> int:
     """Writes the network file, or prints it."""
-    text = f"# {words.network}\n{networks.text_of(network)}"
-    if words.out is None:
+    text = f"# {args.network}\n{networks.text_of(network)}"
+    if args.out is None:
         sys.stdout.write(text)
         return 0
-    if words.out.exists():
-        raise NoNetwork(
-            f"{words.out}: there is such a file; remove it, or name another by --out"
+    if args.out.exists():
+        raise NetworkError(
+            f"{args.out}: there is such a file; remove it, or name another by --out"
         )
-    words.out.write_text(text, encoding="utf-8")
+    args.out.write_text(text, encoding="utf-8")
     degrees = network.degrees()
     print(
-        f"{words.out}: {network.nodes} nodes, {len(network.links)} links, degrees {min(degrees)} to {max(degrees)}"
+        f"{args.out}: {network.nodes} nodes, {len(network.links)} links, degrees {min(degrees)} to {max(degrees)}"
     )
     return 0

@@ -16,15 +16,15 @@ import shlex
 from typing import List
 
 import arena_lab
-from arena_lab.play.kits import KITS, Kit, played, write_kit
+from arena_lab.play.kits import KITS, Kit, play_command, write_kit
 from arena_lab.support.built import TOP
 
 
-def add_words(parser: argparse.ArgumentParser) -> None:
-    """The words of the command `new`."""
+def add_arguments(parser: argparse.ArgumentParser) -> None:
+    """Adds the arguments of `new`."""
     languages = ", ".join(
-        f"{it} ({kit.name})" if it != kit.name.lower() else it
-        for it, kit in KITS.items()
+        f"{entry} ({kit.name})" if entry != kit.name.lower() else entry
+        for entry, kit in KITS.items()
     )
     parser.add_argument(
         "language", metavar="LANGUAGE", choices=KITS, help=f"one of {languages}"
@@ -37,10 +37,10 @@ def add_words(parser: argparse.ArgumentParser) -> None:
     )
 
 
-def run(words: argparse.Namespace) -> int:
-    kit = write_kit(words.language, words.folder)
-    print(f"{words.folder}: an agent in {kit.name}. Go on there:")
-    for line in (f"cd {shlex.quote(str(words.folder))}", *next_commands(kit)):
+def run(args: argparse.Namespace) -> int:
+    kit = write_kit(args.language, args.folder)
+    print(f"{args.folder}: an agent in {kit.name}. Go on there:")
+    for line in (f"cd {shlex.quote(str(args.folder))}", *next_commands(kit)):
         print(f"    {line}")
     return 0
 
@@ -48,15 +48,15 @@ def run(words: argparse.Namespace) -> int:
 def next_commands(kit: Kit) -> List[str]:
     """The commands by which a kit is built, tested and played on a ring of eight nodes,
     in its folder."""
-    called = (
+    command = (
         shlex.quote(str(TOP / "arena-lab"))
-        if arena_lab.called() == arena_lab.IN_CLONE
-        else arena_lab.INSTALLED
+        if arena_lab.command_name() == arena_lab.IN_CLONE
+        else arena_lab.INSTALLED_COMMAND
     )
-    words = f'--network ring:8 --command "{played(kit)}"'
+    words = f'--network ring:8 --command "{play_command(kit)}"'
     explore = (
-        f"{called} explore {words}".replace("--command", "--agent")
+        f"{command} explore {words}".replace("--command", "--agent")
         if kit.is_module
         else ""
     )
-    return list(filter(None, (kit.build, kit.test, f"{called} run {words}", explore)))
+    return list(filter(None, (kit.build, kit.test, f"{command} run {words}", explore)))

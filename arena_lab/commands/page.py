@@ -29,8 +29,8 @@ from arena_lab.pages.contest_pages import BETTER, LAST, Tries, write_pages
 from arena_lab.pages.page import write_page
 
 
-def add_words(parser: argparse.ArgumentParser) -> None:
-    """The words of the command `page`."""
+def add_arguments(parser: argparse.ArgumentParser) -> None:
+    """Adds the arguments of `page`."""
     parser.add_argument(
         "file",
         metavar="REPLAY",
@@ -75,23 +75,23 @@ def add_words(parser: argparse.ArgumentParser) -> None:
     add_engine(parser)
 
 
-def run(words: argparse.Namespace) -> int:
-    if words.prefix is None:
-        if words.again:
-            words.refuse(
+def run(args: argparse.Namespace) -> int:
+    if args.prefix is None:
+        if args.again:
+            args.refuse(
                 "--again is for a contest: name its TOURNAMENT and the PREFIX of its replays"
             )
         write_page(
-            program_of(words),
-            words.file,
-            words.out or words.file.with_suffix(".html"),
-            words.twin,
+            program_of(args),
+            args.file,
+            args.out or args.file.with_suffix(".html"),
+            args.twin,
         )
         return 0
-    if not words.out or words.twin is not None:
-        words.refuse(
+    if not args.out or args.twin is not None:
+        args.refuse(
             "the pages of a contest need a folder, by --out FOLDER, and have no --twin"
         )
-    tries = Tries(words.again, words.take)
-    print(write_pages(program_of(words), words.file, words.prefix, words.out, tries))
+    tries = Tries(args.again, args.take)
+    print(write_pages(program_of(args), args.file, args.prefix, args.out, tries))
     return 0

@@ -40,7 +40,7 @@ from arena_lab.play.human import (
 from arena_lab.rules import draws, networks
 from arena_lab.rules.fixtures import fixture_of
 from arena_lab.rules.model import Object
-from arena_lab.support.faults import Fault
+from arena_lab.support.faults import ArenaError
 
 HELP = """  enter             enter the match at the home base
   0, 1, ..          depart through this port
@@ -60,8 +60,8 @@ PLACES = {
 }
 
 
-def add_words(parser: argparse.ArgumentParser) -> None:
-    """The words of the command `play`."""
+def add_arguments(parser: argparse.ArgumentParser) -> None:
+    """Adds the arguments of `play`."""
     parser.add_argument(
         "--network",
         default="ring:6",
@@ -110,40 +110,40 @@ def add_words(parser: argparse.ArgumentParser) -> None:
     )
 
 
-def run(words: argparse.Namespace) -> int:
-    if words.page and words.second_person:
-        raise Fault(
+def run(args: argparse.Namespace) -> int:
+    if args.page and args.second_person:
+        raise ArenaError(
             "a second person plays in the terminal: leave out --page or --second-person"
         )
-    match = match_of(words)
-    if words.page:
-        serve(match, words.network, words.port)
+    match = match_of(args)
+    if args.page:
+        serve(match, args.network, args.port)
     else:
-        played(match, words.second_person)
-    if words.keep is not None:
+        play_lines(match, args.second_person)
+    if args.keep is not None:
         if not match.is_over:
             match.end()
-        kept(match, words.keep)
+        write_match(match, args.keep)
     return 0
 
 
-def match_of(words: argparse.Namespace) -> HumanMatch:
+def match_of(args: argparse.Namespace) -> HumanMatch:
     """The match of the words. In a riddle without a black hole nobody arrives where it
     would be."""
-    chance = random.Random(words.seed)
-    network = networks.biconnected(words.network)
-    hole = words.hole
+    rng = random.Random(args.seed)
+    network = networks.check_biconnected(args.network)
+    hole = args.hole
     if hole is None:
-        hole = draws.sampled(network, 0, 1, chance)[0]
-    is_slow = words.riddle and chance.random() < 0.5
-    found = draws.Drawn(network, 0, [] if is_slow else [hole])
-    fixture = fixture_of(found.setup(words.agents, 1000, 64), words.seed)
+        hole = draws.sample_nodes(network, 0, 1, rng)[0]
+    is_slow = args.riddle and rng.random() < 0.5
+    match = draws.DrawnMatch(network, 0, [] if is_slow else [hole])
+    fixture = fixture_of(match.setup(args.agents, 1000, 64), args.seed)
     if is_slow:
         fixture = fixture._replace(held=networks.places_into(network.links, [hole]))
-    return HumanMatch(fixture, chance)
+    return HumanMatch(fixture, rng)
 
 
-def played(match: HumanMatch, by_second_person: bool) -> None:
+def play_lines(match: HumanMatch, by_second_person: bool) -> None:
     """Reads what the person says, line by line, until the match is over."""
     print(HELP + (f"\n{ARRIVE}" if by_second_person else ""))
     now = 0
@@ -160,18 +160,20 @@ def played(match: HumanMatch, by_second_person: bool) -> None:
         elif line[0] == "agent":
             now = number_in(line, len(match.seen), now)
         else:
-            told = done(match, now, line, by_second_person)
-            if told:
-                print(told)
+            message = do_line(match, now, line, by_second_person)
+            if message:
+                print(message)
     print("\n".join(end_of(match)))
 
 
-def number_in(line: Sequence[str], most: int, otherwise: int) -> int:
+def number_in(line: Sequence[str], limit: int, otherwise: int) -> int:
     word = line[1] if len(line) > 1 else ""
-    return int(word) if word.isdecimal() and int(word) < most else otherwise
+    return int(word) if word.isdecimal() and int(word) < limit else otherwise
 
 
-def done(match: HumanMatch, now: int, line: List[str], by_second_person: bool) -> str:
+def do_line(
+    match: HumanMatch, now: int, line: List[str], by_second_person: bool
+) -> str:
     """Does what a line says. Gives what to say if it cannot be done."""
     if line[0] == "wait" and not by_second_person:
         match.wait()
@@ -190,7 +192,8 @@ def done(match: HumanMatch, now: int, line: List[str], by_second_person: bool) -
 
 
 def command_in(match: HumanMatch, now: int, line: List[str]) -> Optional[Object]:
-    """The command that a line is."""
+    """Parses a line of the person into a command of the protocol; returns None if it is
+    none."""
     word = line[0]
     rest = line[1] if len(line) > 1 else ""
     if word.isdecimal():
@@ -207,28 +210,31 @@ def command_in(match: HumanMatch, now: int, line: List[str]) -> Optional[Object]
 
 
 def sight(match: HumanMatch, now: int) -> str:
-    """What the person sees: the agent that is played, and that the others are
-    elsewhere."""
-    seen = match.seen[now]
-    if seen.standing != AT_A_NODE:
-        return f"\nAgent {now} {PLACES[seen.standing]}."
-    came = "it came by none" if seen.came is None else f"it came by port {seen.came}"
+    """Describes what the played agent sees, and where the other agents are."""
+    record = match.seen[now]
+    if record.standing != AT_A_NODE:
+        return f"\nAgent {now} {PLACES[record.standing]}."
+    arrival = (
+        "it came by none" if record.came is None else f"it came by port {record.came}"
+    )
     board = (
-        f"the whiteboard says: {seen.board}"
-        if seen.board
+        f"the whiteboard says: {record.board}"
+        if record.board
         else "the whiteboard is empty"
     )
-    return (
-        f"\nAgent {now} is at a node with ports 0 to {seen.ports - 1}; {came}; {board}"
-    )
+    return f"\nAgent {now} is at a node with ports 0 to {record.ports - 1}; {arrival}; {board}"
 
 
 def end_of(match: HumanMatch) -> List[str]:
     """Ends the match, and says all of it."""
-    found = match.end()
+    report_lines = match.end()
     setup = match.fixture.setup
     far = match.match.far
-    lines = ["", f"The match is over: {found}", f"The home base is node {setup.home}."]
+    lines = [
+        "",
+        f"The match is over: {report_lines}",
+        f"The home base is node {setup.home}.",
+    ]
     if setup.holes:
         lines.append(f"The black hole is node {setup.holes[0]}.")
     for node in sorted({far[node][port][0] for node, port in match.fixture.held}):
@@ -247,8 +253,8 @@ def end_of(match: HumanMatch) -> List[str]:
     return lines
 
 
-def kept(match: HumanMatch, folder: pathlib.Path) -> None:
-    """Writes the replay and the page of a match that is over."""
+def write_match(match: HumanMatch, folder: pathlib.Path) -> None:
+    """Writes the replay and the page of a finished match."""
     folder.mkdir(parents=True, exist_ok=True)
     replay = folder / "match0.jsonl"
     replay.write_bytes(match.replay())

@@ -21,13 +21,13 @@ from typing import List
 
 from arena_lab.commands.words import add_engine, program_of
 from arena_lab.play import kept_matches
-from arena_lab.play.schedules import Schedule, read
+from arena_lab.play.schedules import Schedule, read_schedule
 from arena_lab.play.teams import digests_of
-from arena_lab.support.faults import Fault
+from arena_lab.support.faults import ArenaError
 
 
-def add_words(parser: argparse.ArgumentParser) -> None:
-    """The words of the command `replay`."""
+def add_arguments(parser: argparse.ArgumentParser) -> None:
+    """Adds the arguments of `replay`."""
     parser.add_argument(
         "schedule",
         metavar="FOLDER|SCHEDULE",
@@ -65,68 +65,68 @@ def add_words(parser: argparse.ArgumentParser) -> None:
     add_engine(parser)
 
 
-def run(words: argparse.Namespace) -> int:
-    path = words.schedule
-    against = words.against
+def run(args: argparse.Namespace) -> int:
+    path = args.schedule
+    against = args.against
     folder = path if path.is_dir() else None
     if folder:
         path = folder / kept_matches.SCHEDULE
         against = against or folder / kept_matches.REPLAY
-    schedule = read(path)
-    if words.limit is not None:
-        schedule = schedule._replace(limit=words.limit)
-    if words.follow:
-        return follow(words, schedule)
-    if words.keep:
-        raise Fault(
+    schedule = read_schedule(path)
+    if args.limit is not None:
+        schedule = schedule._replace(limit=args.limit)
+    if args.follow:
+        return follow(args, schedule)
+    if args.keep:
+        raise ArenaError(
             "--keep needs --follow: what is played again stands in the folder already"
         )
-    others = other_files(schedule)
-    for file in others:
+    other_paths = other_files(schedule)
+    for file in other_paths:
         print(
             f"arena-lab: {file} is another file than when the schedule was made",
             file=sys.stderr,
         )
-    program = program_of(words)
-    played = kept_matches.played_again(schedule, program)
-    print(played.verdict())
-    for fault in [*played.faults, *played.refused]:
+    program = program_of(args)
+    match = kept_matches.played_again(schedule, program)
+    print(match.verdict())
+    for fault in [*match.faults, *match.refusals]:
         print(fault)
-    if words.out:
-        words.out.write_bytes(played.replay)
+    if args.out:
+        args.out.write_bytes(match.replay)
     if against is None:
-        return 1 if played.has_failed() else 0
-    same = against.read_bytes() == played.replay
+        return 1 if match.has_failed() else 0
+    same = against.read_bytes() == match.replay
     print(
         f"the replay is {'the same' if same else 'another one'}, byte for byte: {against}"
     )
-    changed = (
-        kept_matches.changed_in(folder, schedule, played, program) if folder else []
+    changes = (
+        kept_matches.changed_in(folder, schedule, match, program) if folder else []
     )
-    for name in changed:
+    for name in changes:
         print(f"{folder / name} is not what belongs to this schedule")
-    return 0 if same and not others and not changed else 1
+    return 0 if same and not other_paths and not changes else 1
 
 
-def follow(words: argparse.Namespace, schedule: Schedule) -> int:
+def follow(args: argparse.Namespace, schedule: Schedule) -> int:
     """Follows the schedule as far as the agents go along."""
-    program = program_of(words)
-    made, played, followed = kept_matches.followed_again(schedule, program)
+    program = program_of(args)
+    new_schedule, match, follower = kept_matches.followed_again(schedule, program)
     print(
-        "\n".join(
-            [str(followed), str(played.verdict()), *played.faults, *played.refused]
-        )
+        "\n".join([str(follower), str(match.verdict()), *match.faults, *match.refusals])
     )
-    if words.out:
-        words.out.write_bytes(played.replay)
-    if words.keep:
-        print("\n".join(kept_matches.write_find(words.keep, made, played, program)))
-    return 1 if played.has_failed() else 0
+    if args.out:
+        args.out.write_bytes(match.replay)
+    if args.keep:
+        print(
+            "\n".join(kept_matches.write_find(args.keep, new_schedule, match, program))
+        )
+    return 1 if match.has_failed() else 0
 
 
 def other_files(schedule: Schedule) -> List[str]:
-    """The files of agents that are others than when the schedule was made, or that its
-    head does not name."""
+    """Returns the agents' files whose contents have changed since the schedule was
+    recorded, or that the schedule's head does not name."""
     now = digests_of(schedule.agents)
     return sorted(
         file

@@ -47,11 +47,11 @@ from arena_lab.commands.words import (
     program_of,
 )
 from arena_lab.play import games
-from arena_lab.play.games import Asked, Row
+from arena_lab.play.games import MatchRequest, Row
 
 
 class Tally:
-    """What the matches came to."""
+    """Counts of the outcomes of matches."""
 
     def __init__(self) -> None:
         self.outcomes: Counter[str] = collections.Counter()
@@ -72,22 +72,22 @@ class Tally:
 
 
 def rank(row: Row) -> Tuple[bool, int]:
-    """How much a match is worth."""
+    """Returns how much a match is worth."""
     return (True, -row["choices"]) if row["failed"] else (False, row["moves"])
 
 
 def seeds(word: str) -> range:
     """Seeds in words: `A:B` for those from A up to B, without B."""
-    found = re.fullmatch(r"(-?\d+):(-?\d+)", word)
-    if not found or int(found[1]) >= int(found[2]):
+    match = re.fullmatch(r"(-?\d+):(-?\d+)", word)
+    if not match or int(match[1]) >= int(match[2]):
         raise argparse.ArgumentTypeError(
             f"{word} names no seeds: write A:B for those from A up to B, without B"
         )
-    return range(int(found[1]), int(found[2]))
+    return range(int(match[1]), int(match[2]))
 
 
-def add_words(parser: argparse.ArgumentParser) -> None:
-    """The words of the command `run`."""
+def add_arguments(parser: argparse.ArgumentParser) -> None:
+    """Adds the arguments of `run`."""
     add_match(parser)
     parser.add_argument(
         "--scheduler",
@@ -130,41 +130,42 @@ def add_words(parser: argparse.ArgumentParser) -> None:
     add_engine(parser)
 
 
-def run(words: argparse.Namespace) -> int:
-    program = program_of(words)
-    game = game_of(words)
-    games.maker_of(words.scheduler)
-    numbers = words.seeds or range(words.seed, words.seed + words.runs)
-    asked = [
-        Asked(game, words.scheduler, seed, program, words.repeat) for seed in numbers
+def run(args: argparse.Namespace) -> int:
+    program = program_of(args)
+    game = game_of(args)
+    games.maker_of(args.scheduler)
+    numbers = args.seeds or range(args.seed, args.seed + args.runs)
+    requests = [
+        MatchRequest(game, args.scheduler, seed, program, args.repeat)
+        for seed in numbers
     ]
     tally = Tally()
     was_stopped = False
-    out = sys.stderr if words.json else sys.stdout
-    printed = sys.stdout
+    out = sys.stderr if args.json else sys.stdout
+    stream = sys.stdout
     try:
         # what agents print is no row
         with contextlib.redirect_stdout(out):
             count(
-                games.rows_of(asked, words.workers),
+                games.rows_of(requests, args.workers),
                 tally,
-                printed if words.json else None,
+                stream if args.json else None,
             )
     except KeyboardInterrupt:
         was_stopped = True
         print("interrupted; this was played:", file=out)
     if tally.best is None:
         return 130
-    report(tally, tally.best, words.keep, out)
+    report(tally, tally.best, args.keep, out)
     return 1 if tally.failed else 130 if was_stopped else 0
 
 
-def count(rows: Iterable[Row], tally: Tally, printed: Optional[TextIO]) -> None:
-    """Counts what matches come to, and prints their rows if it is said where."""
+def count(rows: Iterable[Row], tally: Tally, stream: Optional[TextIO]) -> None:
+    """Counts outcomes, and prints the rows to the stream, if any."""
     for row in rows:
         tally.add(row)
-        if printed:
-            print(row.line(), file=printed, flush=True)
+        if stream:
+            print(row.line(), file=stream, flush=True)
 
 
 def report(tally: Tally, best: Row, keep: Optional[pathlib.Path], out: TextIO) -> None:
@@ -172,19 +173,19 @@ def report(tally: Tally, best: Row, keep: Optional[pathlib.Path], out: TextIO) -
     counts = ", ".join(
         f"{outcome} {count}" for outcome, count in tally.outcomes.most_common()
     )
-    played = sum(tally.outcomes.values())
-    told = "the shortest that failed" if tally.failed else "the most moves"
+    match_count = sum(tally.outcomes.values())
+    best_text = "the shortest that failed" if tally.failed else "the most moves"
     record = best.match()
     beside = (
         f", of which {tally.beside} solved, but an agent failed" if tally.beside else ""
     )
     lines: List[str] = [
-        f"{played} schedule{'' if played == 1 else 's'}: {counts}; failed {tally.failed}{beside}",
-        f"{told}: seed {best['seed']}, home {best['home']}, holes {best['holes']}, "
+        f"{match_count} schedule{'' if match_count == 1 else 's'}: {counts}; failed {tally.failed}{beside}",
+        f"{best_text}: seed {best['seed']}, home {best['home']}, holes {best['holes']}, "
         f"{record.verdict}",
-        *record.told(),
+        *record.report(),
         *record.faults(),
-        *record.played.refused,
+        *record.match.refusals,
     ]
     print("\n".join(lines), file=out)
     if keep:

@@ -14,24 +14,24 @@ judges no contest and it writes no parts.
 import argparse
 import pathlib
 
-from arena_lab.play.server import ServeOptions, served
+from arena_lab.play.server import ServeOptions, serve_contest
 from arena_lab.rules.delays import PAUSE
 
-# for how many milliseconds the agents of a match gather, if nothing else is said
+# default time in milliseconds in which the agents of a match gather
 GATHER = 60_000
 
 
-def add_words(parser: argparse.ArgumentParser) -> None:
-    """The words of the command `serve`."""
+def add_arguments(parser: argparse.ArgumentParser) -> None:
+    """Adds the arguments of `serve`."""
     parser.add_argument("tournament", metavar="T", help="the tournament's file")
-    for option, most, about in (
+    for option, limit, about in (
         ("port", 4000, "listen on this port of 127.0.0.1"),
         ("sessions", 1024, "serve this many connections"),
         ("turns", 100_000, "close each match after this many turns"),
         ("pause", round(1000 * PAUSE), "wait this many milliseconds before each turn"),
     ):
         parser.add_argument(
-            f"--{option}", type=int, default=most, help=f"{about} ({most:,})"
+            f"--{option}", type=int, default=limit, help=f"{about} ({limit:,})"
         )
     parser.add_argument(
         "--replay",
@@ -59,25 +59,25 @@ def add_words(parser: argparse.ArgumentParser) -> None:
     )
 
 
-def run(words: argparse.Namespace) -> int:
-    is_plain = words.replay is None
-    gather = GATHER if is_plain and words.gather is None else words.gather or 0
+def run(args: argparse.Namespace) -> int:
+    is_plain = args.replay is None
+    gather = GATHER if is_plain and args.gather is None else args.gather or 0
     prefix = (
-        str(pathlib.Path(words.tournament).with_suffix("").name)
+        str(pathlib.Path(args.tournament).with_suffix("").name)
         if is_plain
-        else words.replay
+        else args.replay
     )
-    served(
-        words.tournament,
-        words.port,
-        words.sessions,
+    serve_contest(
+        args.tournament,
+        args.port,
+        args.sessions,
         prefix,
         ServeOptions(
-            words.turns,
-            words.pause / 1000,
+            args.turns,
+            args.pause / 1000,
             gather / 1000,
-            words.early or is_plain,
-            words.grace / 1000,
+            args.early or is_plain,
+            args.grace / 1000,
         ),
     )
     return 0

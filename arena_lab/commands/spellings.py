@@ -58,12 +58,11 @@ class OldSpelling(argparse.Action):
 
 
 def take_old_spellings(parser: argparse.ArgumentParser) -> None:
-    """Has a command take the old spellings of the options that it has. Its help does
-    not show them."""
-    known = dict(parser._option_string_actions)
+    """Makes a command accept old spellings of its options; its help text hides them."""
+    options = dict(parser._option_string_actions)
     for old, new in SPELLINGS.items():
-        if new in known and old not in known:
-            option = known[new]
+        if new in options and old not in options:
+            option = options[new]
             parser.add_argument(
                 old,
                 action=OldSpelling,

@@ -18,8 +18,9 @@ BY_PROGRAM = {
     7: "threads ran out",
 }
 A_TEAM_FAILS = "a team fails, or engines differ"
-# of each command what 1 says, and whether the program's own are among them
-OWN: Dict[str, Tuple[str, bool]] = {
+# by command: the meaning of exit status 1, and whether the program's own statuses may
+# occur
+EXIT_MEANINGS: Dict[str, Tuple[str, bool]] = {
     "new": ("", False),
     "examples": ("", False),
     "exercise": ("the program is not right", False),
@@ -45,17 +46,17 @@ OWN: Dict[str, Tuple[str, bool]] = {
 
 
 def statuses(command: str = "") -> Dict[int, str]:
-    """What each exit status of a command says; without a command, of any."""
-    fails, is_programs = OWN[command] if command else (A_TEAM_FAILS, True)
-    found = {
+    """Returns the meaning of each exit status of a command, or of all commands."""
+    fails, is_programs = EXIT_MEANINGS[command] if command else (A_TEAM_FAILS, True)
+    meanings = {
         **ALWAYS,
         **({1: fails} if fails else {}),
         **(BY_PROGRAM if is_programs else {}),
     }
-    return dict(sorted(found.items()))
+    return dict(sorted(meanings.items()))
 
 
-def told(command: str = "") -> str:
+def exit_statuses(command: str = "") -> str:
     """The end of a help text."""
     rows = [f"  {status:<3}  {text}" for status, text in statuses(command).items()]
     return "\n".join(["exit status:", *rows])

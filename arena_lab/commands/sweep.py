@@ -44,18 +44,18 @@ from arena_lab.commands.words import add_engine, add_workers, at_least_one, prog
 from arena_lab.play.games import maker_of
 from arena_lab.play.parallel import Parallelism
 from arena_lab.rules.engines import program_at
-from arena_lab.support.faults import Fault
+from arena_lab.support.faults import ArenaError
 from arena_lab.support.missing import check
 from arena_lab.sweep import grid, verify
-from arena_lab.sweep.sweeping import SweepJob, SweepRequest, made_of, swept, verified
-from arena_lab.sweep.tables import alone_in, prepared
+from arena_lab.sweep.sweeping import SweepJob, SweepRequest, made_of, swept, verify_rows
+from arena_lab.sweep.tables import alone_in, prepare_table
 
-# what a report is made by, without which a sweep would stop at its end
-NEEDED = ("jinja2", "matplotlib", "scipy")
+# packages that write a report; without them a sweep would fail at its end
+PACKAGES = ("jinja2", "matplotlib", "scipy")
 
 
-def add_words(parser: argparse.ArgumentParser) -> None:
-    """The words of the command `sweep`."""
+def add_arguments(parser: argparse.ArgumentParser) -> None:
+    """Adds the arguments of `sweep`."""
     group = parser.add_argument_group("the file", grid.__doc__)
     group.add_argument("file", metavar="FILE", type=pathlib.Path, help="the sweep")
     parser.add_argument(
@@ -91,28 +91,28 @@ def add_words(parser: argparse.ArgumentParser) -> None:
     add_engine(parser)
 
 
-def run(words: argparse.Namespace) -> int:
-    check(*NEEDED)
-    spec = grid.read(words.file)
-    text = words.file.read_text(encoding="utf-8")
-    work = SweepJob(text, program_of(words))
+def run(args: argparse.Namespace) -> int:
+    check(*PACKAGES)
+    spec = grid.read_grid(args.file)
+    text = args.file.read_text(encoding="utf-8")
+    work = SweepJob(text, program_of(args))
     for name in spec.schedulers:
         maker_of(name)
     cases = list(spec.cases())
-    made = made_of(spec, text, work.program)
-    wanted = SweepRequest(
-        words.out, Parallelism(words.workers, words.cluster), words.explore
+    record = made_of(spec, text, work.program)
+    request = SweepRequest(
+        args.out, Parallelism(args.workers, args.cluster), args.explore
     )
-    if words.explore and (work.program is None or words.verify is not None):
-        raise Fault(
+    if args.explore and (work.program is None or args.verify is not None):
+        raise ArenaError(
             "--explore needs the program as the engine: leave --engine model out"
             if work.program is None
             else "--verify plays runs again, and tries no schedules: leave --explore out"
         )
-    if words.verify is not None:
-        return verified(work, cases, made, wanted, words.verify)
+    if args.verify is not None:
+        return verify_rows(work, cases, record, request, args.verify)
     keeper = work._replace(
-        program=work.program or (program_at(words.program) if words.program else None)
+        program=work.program or (program_at(args.program) if args.program else None)
     )
-    with alone_in(words.out):
-        return swept(work, keeper, cases, prepared(words.out, made), wanted)
+    with alone_in(args.out):
+        return swept(work, keeper, cases, prepare_table(args.out, record), request)

@@ -40,19 +40,24 @@ from typing import Callable, Dict, List, NamedTuple, Optional, Sequence, Tuple, 
 
 from arena_lab.commands.network import network_for
 from arena_lab.commands.words import add_ports, not_negative
-from arena_lab.pages.contest_pages import AGAIN, TOURNAMENT
+from arena_lab.pages.contest_pages import PLAN_FILE, TOURNAMENT
 from arena_lab.rules import draws, networks
 from arena_lab.rules.delays import ADAPTIVE, OBLIVIOUS, ODDS, SCALES, Delays
-from arena_lab.rules.fixtures import Fixture, checked, read_tournament, tournament_text
-from arena_lab.rules.limits import MOST_AGENTS, SMALL_BOARD, SMALL_QUOTA
+from arena_lab.rules.fixtures import (
+    Fixture,
+    check_setup,
+    read_tournament,
+    tournament_text,
+)
+from arena_lab.rules.limits import MAX_AGENTS, SMALL_BOARD, SMALL_QUOTA
 from arena_lab.rules.model import Setup
-from arena_lab.rules.networks import Network, NoNetwork
+from arena_lab.rules.networks import Network, NetworkError
 
 ALL = "all"
 DEGREE = "degree"
-MOST_MATCHES = 64
-MOST_SCALES = 24
-MOST_ODDS = 65_535
+MAX_MATCHES = 64
+MAX_SCALES = 24
+MAX_ODDS = 65_535
 NETWORK = "network0.toml"
 QUOTA = SMALL_QUOTA
 BOARD = SMALL_BOARD
@@ -66,129 +71,140 @@ class TournamentMatch(NamedTuple):
     file: str
 
 
-def holes_of(words: argparse.Namespace, name: str, network: Network) -> List[int]:
+def holes_of(args: argparse.Namespace, name: str, network: Network) -> List[int]:
     """The black holes to be tried on a network, in the order of their numbers."""
-    others = draws.others_than(words.home, network)
-    if words.hole:
-        if not set(words.hole) <= set(others):
-            raise NoNetwork(f"{name}: a black hole is a node other than the home base")
-        return sorted(set(words.hole))
-    if words.holes == ALL:
-        return others
+    other_nodes = draws.others_than(args.home, network)
+    if args.hole:
+        if not set(args.hole) <= set(other_nodes):
+            raise NetworkError(
+                f"{name}: a black hole is a node other than the home base"
+            )
+        return sorted(set(args.hole))
+    if args.holes == ALL:
+        return other_nodes
     try:
-        return sorted(draws.sampled(network, words.home, words.holes, CHANCE))
-    except NoNetwork as fault:
-        raise NoNetwork(f"{name}: {fault}; ask for fewer by --holes") from None
+        return sorted(draws.sample_nodes(network, args.home, args.holes, CHANCE))
+    except NetworkError as fault:
+        raise NetworkError(f"{name}: {fault}; ask for fewer by --holes") from None
 
 
-def check_words(words: argparse.Namespace) -> None:
+def check_words(args: argparse.Namespace) -> None:
     """Refuses teams of one name, and delays that no tournament may have."""
-    if len(set(words.team)) < len(words.team):
-        raise NoNetwork(
+    if len(set(args.team)) < len(args.team):
+        raise NetworkError(
             "two teams have the same name: name each by a --team of its own"
         )
-    if not 0 <= words.delay_scales <= MOST_SCALES:
-        raise NoNetwork(
-            f"delays have 0 to {MOST_SCALES} scales, and not {words.delay_scales}: name another number by "
+    if not 0 <= args.delay_scales <= MAX_SCALES:
+        raise NetworkError(
+            f"delays have 0 to {MAX_SCALES} scales, and not {args.delay_scales}: name another number by "
             "--delay-scales"
         )
-    least = max(1, words.delay_scales)
-    if not least <= words.delay_odds <= MOST_ODDS:
-        raise NoNetwork(
-            f"with {words.delay_scales} scales --delay-odds is from {least} to {MOST_ODDS}, and not "
-            f"{words.delay_odds}"
+    least = max(1, args.delay_scales)
+    if not least <= args.delay_odds <= MAX_ODDS:
+        raise NetworkError(
+            f"with {args.delay_scales} scales --delay-odds is from {least} to {MAX_ODDS}, and not "
+            f"{args.delay_odds}"
         )
 
 
-def entries_of(words: argparse.Namespace) -> List[TournamentMatch]:
+def entries_of(args: argparse.Namespace) -> List[TournamentMatch]:
     """The matches, network by network, hole by hole and team by team; with traps among
     them, in an order that is drawn."""
-    drawn = [network_for(name, words) for name in words.network]
+    networks = [network_for(name, args) for name in args.network]
     places = [
-        place
-        for number, network in enumerate(drawn)
-        for place in places_on(words, number, network)
+        planned_match
+        for number, network in enumerate(networks)
+        for planned_match in places_on(args, number, network)
     ]
-    if words.traps:
+    if args.traps:
         places += [
-            trap_on(words, *CHANCE.choice(list(enumerate(drawn))))
-            for _ in range(words.traps)
+            trap_on(args, *CHANCE.choice(list(enumerate(networks))))
+            for _ in range(args.traps)
         ]
         CHANCE.shuffle(places)
-    found = [
+    entries = [
         TournamentMatch(
             Fixture(
-                team, it.setup, [key_of(team) for _ in range(it.setup.agents)], it.held
+                team,
+                planned_match.setup,
+                [key_of(team) for _ in range(planned_match.setup.agents)],
+                planned_match.held_links,
             ),
-            it.file,
+            planned_match.file,
         )
-        for it in places
-        for team in words.team
+        for planned_match in places
+        for team in args.team
     ]
-    if len(found) > MOST_MATCHES:
-        raise NoNetwork(
-            f"a tournament has at most {MOST_MATCHES} matches, and this would have {len(found)}: name "
+    if len(entries) > MAX_MATCHES:
+        raise NetworkError(
+            f"a tournament has at most {MAX_MATCHES} matches, and this would have {len(entries)}: name "
             "fewer teams, networks, black holes or traps"
         )
-    return found
+    return entries
 
 
-class Planned(NamedTuple):
+class PlannedMatch(NamedTuple):
     """A match that all teams are to play: its setup, the links over which nobody
     arrives, and its network's file."""
 
     setup: Setup
-    held: List[Tuple[int, int]]
+    held_links: List[Tuple[int, int]]
     file: str
 
 
-def trap_on(words: argparse.Namespace, number: int, network: Network) -> Planned:
+def trap_on(args: argparse.Namespace, number: int, network: Network) -> PlannedMatch:
     """A match without a black hole. Nobody arrives at two nodes that are drawn: if it
     were one, it would be the last that is left to a team which has visited all others,
     and every team would accuse it."""
-    left = draws.Open(words.home, 0, None, closed=2)
-    held = draws.drawn(network, CHANCE, left).held
-    place = places_on(words, number, network)[0]
-    return place._replace(setup=place.setup._replace(holes=[]), held=held)
+    draw_settings = draws.Open(args.home, 0, None, closed_pairs=2)
+    held_links = draws.draw_match(network, CHANCE, draw_settings).held
+    planned_match = places_on(args, number, network)[0]
+    return planned_match._replace(
+        setup=planned_match.setup._replace(holes=[]), held_links=held_links
+    )
 
 
 def file_of(names: Sequence[str], number: int) -> str:
     """The file of a network, which is called by its name, as pages and tables call
     it."""
-    called = [
+    file_names = [
         re.sub(r"\W+", "-", pathlib.PurePath(name).name.removesuffix(".toml")).strip(
             "-"
         )
         for name in names
     ]
-    are_names = len({*called, "", pathlib.PurePath(TOURNAMENT).stem}) == len(called) + 2
+    are_names = (
+        len({*file_names, "", pathlib.PurePath(TOURNAMENT).stem}) == len(file_names) + 2
+    )
     return (
-        f"{called[number]}.toml"
+        f"{file_names[number]}.toml"
         if are_names
-        else f"{called[number] or 'network'}-{number}.toml"
+        else f"{file_names[number] or 'network'}-{number}.toml"
     )
 
 
 def places_on(
-    words: argparse.Namespace, number: int, network: Network
-) -> List[Planned]:
+    args: argparse.Namespace, number: int, network: Network
+) -> List[PlannedMatch]:
     """The matches on a network, hole by hole."""
-    name = words.network[number]
-    if not 0 <= words.home < network.nodes:
-        raise NoNetwork(
-            f"{name}: it has no node {words.home} for a home base; name another by --home"
+    name = args.network[number]
+    if not 0 <= args.home < network.nodes:
+        raise NetworkError(
+            f"{name}: it has no node {args.home} for a home base; name another by --home"
         )
-    agents = max(network.degrees()) + 1 if words.agents == DEGREE else words.agents
-    if not 1 <= agents <= MOST_AGENTS:
-        raise NoNetwork(
-            f"{name}: a match has 1 to {MOST_AGENTS} agents, and not {agents}; name another number by "
+    agents = max(network.degrees()) + 1 if args.agents == DEGREE else args.agents
+    if not 1 <= agents <= MAX_AGENTS:
+        raise NetworkError(
+            f"{name}: a match has 1 to {MAX_AGENTS} agents, and not {agents}; name another number by "
             "--agents"
         )
-    file = file_of(words.network, number)
+    file = file_of(args.network, number)
     return [
-        Planned(checked(found.setup(agents, words.quota, words.board)), [], file)
-        for hole in holes_of(words, name, network)
-        for found in [draws.Drawn(network, words.home, [hole])]
+        PlannedMatch(
+            check_setup(drawn_match.setup(agents, args.quota, args.board)), [], file
+        )
+        for hole in holes_of(args, name, network)
+        for drawn_match in [draws.DrawnMatch(network, args.home, [hole])]
     ]
 
 
@@ -198,7 +214,7 @@ def key_of(team: str) -> str:
 
 
 def sheet_of(team: str, entries: Sequence[TournamentMatch]) -> str:
-    """What a team is told of its matches."""
+    """Returns the text of a team's key sheet."""
     lines = [
         f"Keys of team {team}. Who knows a key can play its agent: show them to nobody.",
         "",
@@ -226,23 +242,23 @@ def team_name(word: str) -> str:
     return word
 
 
-def number_or(*others: str) -> Callable[[str], Union[int, str]]:
+def number_or(*other_words: str) -> Callable[[str], Union[int, str]]:
     """Takes a whole number from 1, or one of these words."""
 
-    def taken(word: str) -> Union[int, str]:
-        if word in others:
+    def parse(word: str) -> Union[int, str]:
+        if word in other_words:
             return word
         if not re.fullmatch("[1-9][0-9]*", word):
             raise argparse.ArgumentTypeError(
-                f"{word}: say a whole number from 1, or {' or '.join(others)}"
+                f"{word}: say a whole number from 1, or {' or '.join(other_words)}"
             )
         return int(word)
 
-    return taken
+    return parse
 
 
-def add_words(parser: argparse.ArgumentParser) -> None:
-    """The words of the command `tournament`."""
+def add_arguments(parser: argparse.ArgumentParser) -> None:
+    """Adds the arguments of `tournament`."""
     parser.add_argument(
         "--team",
         metavar="NAME",
@@ -347,55 +363,55 @@ def add_words(parser: argparse.ArgumentParser) -> None:
     )
 
 
-def run(words: argparse.Namespace) -> int:
-    if not words.again and not (words.team and words.network):
-        words.refuse(
+def run(args: argparse.Namespace) -> int:
+    if not args.again and not (args.team and args.network):
+        args.refuse(
             "name teams by --team and networks by --network, or a match by --again"
         )
-    if words.again and (words.team or words.network):
-        words.refuse(
+    if args.again and (args.team or args.network):
+        args.refuse(
             "--again takes the team and the network of its match: leave --team and --network out"
         )
-    path = words.out / TOURNAMENT
+    path = args.out / TOURNAMENT
     if path.exists():
-        raise NoNetwork(
+        raise NetworkError(
             f"{path}: there is a tournament, whose keys teams may have: name another folder by --out"
         )
-    return write_again(words) if words.again else write_all(words)
+    return write_again(args) if args.again else write_all(args)
 
 
-def write_all(words: argparse.Namespace) -> int:
+def write_all(args: argparse.Namespace) -> int:
     """Writes the tournament of all teams."""
-    check_words(words)
-    path = words.out / TOURNAMENT
-    entries = entries_of(words)
-    setups = {words.out / entry.file: entry.fixture.setup for entry in entries}
+    check_words(args)
+    path = args.out / TOURNAMENT
+    entries = entries_of(args)
+    setups = {args.out / entry.file: entry.fixture.setup for entry in entries}
     for file in setups:
         # it may be the very file that --network names, with what its author wrote
         # beside the links
         if file.exists():
-            raise NoNetwork(
+            raise NetworkError(
                 f"{file}: there is a file of this name: name another folder by --out"
             )
-    words.out.mkdir(parents=True, exist_ok=True)
+    args.out.mkdir(parents=True, exist_ok=True)
     for file, setup in setups.items():
         file.write_text(
             networks.text_of(networks.Network(setup.nodes, setup.links)),
             encoding="utf-8",
         )
     delays = (
-        Delays(words.delay_scales, words.delay_odds)
-        if words.schedule == OBLIVIOUS
+        Delays(args.delay_scales, args.delay_odds)
+        if args.schedule == OBLIVIOUS
         else None
     )
-    for file, text in secret_files(words.team, entries, delays).items():
-        write_secret(words.out / file, text)
+    for file, text in secret_files(args.team, entries, delays).items():
+        write_secret(args.out / file, text)
     print(
-        f"{path}: {len(entries)} matches of {len(words.team)} teams; try `arena check {TOURNAMENT}` in the folder"
+        f"{path}: {len(entries)} matches of {len(args.team)} teams; try `arena check {TOURNAMENT}` in the folder"
     )
     print(
         "give each team its sheet: "
-        + ", ".join(str(words.out / sheet_name(team)) for team in words.team)
+        + ", ".join(str(args.out / sheet_name(team)) for team in args.team)
     )
     return 0
 
@@ -420,18 +436,18 @@ def write_secret(path: pathlib.Path, text: str) -> None:
     path.write_text(text, encoding="utf-8")
 
 
-def write_again(words: argparse.Namespace) -> int:
+def write_again(args: argparse.Namespace) -> int:
     """Writes another try of a match of a tournament's file."""
-    file, match = words.again
-    out = words.out
+    file, match = args.again
+    out = args.out
     tournament = read_tournament(file)
     if not match.isdecimal() or int(match) >= len(tournament.fixtures):
-        raise NoNetwork(f"{file}: it has no match {match}")
-    fixture = drawn_anew(tournament.fixtures[int(match)], words)
+        raise NetworkError(f"{file}: it has no match {match}")
+    fixture = drawn_anew(tournament.fixtures[int(match)], args)
     out.mkdir(parents=True, exist_ok=True)
     network = Network(fixture.setup.nodes, fixture.setup.links)
     (out / NETWORK).write_text(networks.text_of(network), encoding="utf-8")
-    (out / AGAIN).write_text(f"match = {match}\n", encoding="utf-8")
+    (out / PLAN_FILE).write_text(f"match = {match}\n", encoding="utf-8")
     for name, text in secret_files(
         [fixture.team], [TournamentMatch(fixture, NETWORK)], tournament.delays
     ).items():
@@ -444,20 +460,20 @@ def write_again(words: argparse.Namespace) -> int:
     return 0
 
 
-def drawn_anew(fixture: Fixture, words: argparse.Namespace) -> Fixture:
+def drawn_anew(fixture: Fixture, args: argparse.Namespace) -> Fixture:
     """The same match with other keys and labels, and with other nodes that destroy or
     at which nobody arrives."""
     setup = fixture.setup
     if setup.dark:
-        raise NoNetwork("the match has dark links: write another try of it by hand")
-    closed = len(closed_nodes(fixture))
-    left = draws.Open(setup.home, len(setup.holes), words.ports, closed)
+        raise NetworkError("the match has dark links: write another try of it by hand")
+    closed_count = len(closed_nodes(fixture))
+    draw_settings = draws.Open(setup.home, len(setup.holes), args.ports, closed_count)
     network = Network(setup.nodes, setup.links)
-    found = draws.drawn(network, CHANCE, left, draws.SECRET_BITS)
+    match = draws.draw_match(network, CHANCE, draw_settings, draws.SECRET_BITS)
     return fixture._replace(
-        setup=found.setup(setup.agents, setup.quota, setup.board),
+        setup=match.setup(setup.agents, setup.quota, setup.board),
         keys=[key_of(fixture.team) for _ in fixture.keys],
-        held=found.held,
+        held=match.held,
     )
 
 
@@ -470,7 +486,7 @@ def closed_nodes(fixture: Fixture) -> List[int]:
         if set(networks.places_into(links, [node])).issubset(fixture.held)
     }
     if networks.places_into(links, nodes) != sorted(fixture.held):
-        raise NoNetwork(
+        raise NetworkError(
             "some links into a node are held and others are not: write another try of the match by hand"
         )
     return sorted(nodes)

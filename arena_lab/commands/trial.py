@@ -29,17 +29,17 @@ from typing import Any, Dict, List, NamedTuple, NoReturn, Optional, Set, Tuple
 
 from arena_lab.commands import check
 from arena_lab.course import exercises, hand_in, sent_lines
-from arena_lab.commands.answers import answered
-from arena_lab.course.checked import Checked, Tried, conditions_of, listed
+from arena_lab.commands.answers import check_answer
+from arena_lab.course.checked import CheckJob, CheckBudget, conditions_of, join_words
 from arena_lab.course.grounds import files_of
 from arena_lab.course.hand_in import HandIn
 from arena_lab.course.mistaken_lines import LEAVES, marks_of
 from arena_lab.course.trials import (
-    ASKED,
+    REQUEST_FILE,
     CHECK,
     EXPLORE,
     FILES,
-    FOUND,
+    RESULT_FILE,
     LOG,
     PAGE,
     PLAY,
@@ -56,27 +56,28 @@ from arena_lab.play.teams import OUTSIDE, AgentWords
 from arena_lab.sandbox import calls, isolation
 from arena_lab.sandbox.own_sandboxes import OwnSandboxes
 from arena_lab.sandbox.sandboxes import Isolation, SandboxOptions
-from arena_lab.support.faults import Fault
+from arena_lab.support.faults import ArenaError
 
 STEPS = {CHECK: (check.matches, check.draw_few), EXPLORE: (check.every,)}
-# seconds before the end of the time for a line at which a program says where it is
+# seconds before the line timeout at which a program prints its position
 BEFORE = 1
-# bytes of the lines of a match in all
+# bytes of all lines of a match
 ROOM = 1 << 20
-# what is told at most: sentences, characters of each, and of what a program wrote
-MOST_SAID = 20
+# limits on a report: sentences, characters of a sentence, and characters of a program's
+# output
+MAX_SENTENCES = 20
 LONGEST = 400
-MOST_WRITTEN = 20_000
+MAX_OUTPUT = 20_000
 # bytes of a message that asks for a trial
-MOST_MESSAGE = 1 << 16
+MAX_MESSAGE = 1 << 16
 # seconds for which it is known where the system has pipes and sockets
-KNOWN = 3600.0
+SURVEY_SECONDS = 3600.0
 # the command of most trials
-USUAL = "python3"
+DEFAULT_COMMAND = "python3"
 
 
 class TrialRequest(NamedTuple):
-    """What is tried: `asked.json`."""
+    """The contents of `asked.json`: the trial to run."""
 
     kind: str
     exercise: str
@@ -93,10 +94,10 @@ class TrialRequest(NamedTuple):
 class TriedProgram:
     """A program that is tried in a folder."""
 
-    def __init__(self, folder: pathlib.Path, asked: TrialRequest) -> None:
+    def __init__(self, folder: pathlib.Path, request: TrialRequest) -> None:
         self.folder = folder
-        self.asked = asked
-        self.handed_in = hand_in.read([folder / FILES], folder)
+        self.asked = request
+        self.handed_in = hand_in.read_files([folder / FILES], folder)
 
     def agent(self, handed_in: HandIn) -> AgentWords:
         """An agent that runs these files in a sandbox."""
@@ -105,160 +106,170 @@ class TriedProgram:
         files_in = functools.partial(files_of, handed_in, words)
         return AgentWords(OUTSIDE, words, ground=OwnSandboxes(options, files_in))
 
-    def marked(self) -> HandIn:
+    def mark_program(self) -> HandIn:
         """The program with a client that says by which line it sends."""
-        return sent_lines.marked(self.handed_in, self.asked.line - BEFORE)
+        return sent_lines.mark_program(self.handed_in, self.asked.line - BEFORE)
 
-    def checked(self, agent: AgentWords) -> Checked:
-        asked = self.asked
-        given = conditions_of(asked.conditions, self.folder, agent)
-        return Checked(
-            agent, given, self.asked.line, asked.program, asked.seconds, True
+    def check_job(self, agent: AgentWords) -> CheckJob:
+        request = self.asked
+        conditions = conditions_of(request.conditions, self.folder, agent)
+        return CheckJob(
+            agent, conditions, self.asked.line, request.program, request.seconds, True
         )
 
-    def watched(self) -> Tuple[Record, Dict[str, Any]]:
+    def watch_match(self) -> Tuple[Record, Dict[str, Any]]:
         """Plays the match of a scheduler and a seed, and writes what shows it."""
-        nobody = self.checked(AgentWords(OUTSIDE, "nobody"))
+        nobody = self.check_job(AgentWords(OUTSIDE, "nobody"))
         name = nobody.networks[0]
         case = nobody.conditions.case(name, self.asked.scheduler, self.asked.seed)
         fixture = nobody.conditions.fixture(case)
-        agent = self.agent(self.marked())
+        agent = self.agent(self.mark_program())
         agents = [agent] * fixture.setup.agents
         origin = f"{case.scheduler} {case.seed} on {name}"
         empty = schedule_of(fixture, agents, origin, [], self.asked.line)
-        record = self.played(empty)
-        verdict = record.judged()
+        record = self.play_match(empty)
+        verdict = record.judge()
         return record, {
             "right": not record.has_failed,
             "verdict": str(verdict),
-            "said": [*record.told(), *record.faults(), *record.played.refused],
-            **self.shown(record),
+            "said": [*record.report(), *record.faults(), *record.match.refusals],
+            **self.match_report(record),
         }
 
-    def played(self, empty: Schedule) -> Record:
+    def play_match(self, empty: Schedule) -> Record:
         """Plays under the scheduler, within bounds of time and of lines."""
         agents = dict(enumerate(empty.agents))
         team = programs.Team(
             empty.fixture,
-            {number: it.words for number, it in agents.items()},
+            {number: agent.words for number, agent in agents.items()},
             self.asked.line,
-            {number: it.ground(empty.fixture) for number, it in agents.items()},
+            {number: agent.ground(empty.fixture) for number, agent in agents.items()},
             self.asked.seconds,
             room=ROOM,
         )
         engine = kept_matches.engine_of(empty, self.asked.program)
         scheduler = games.maker_of(self.asked.scheduler)(self.asked.seed)
-        played = play(engine, team, scheduler, empty.fixture)
-        schedule = empty._replace(choices=played.choices)
-        return Record(schedule, played, self.asked.program)
+        match = play(engine, team, scheduler, empty.fixture)
+        schedule = empty._replace(choices=match.choices)
+        return Record(schedule, match, self.asked.program)
 
-    def shown(self, record: Record) -> Dict[str, Any]:
+    def match_report(self, record: Record) -> Dict[str, Any]:
         """Writes a match's replay and its page; gives by which lines of the program its
         events came, what programs wrote, and what is wrong in which line."""
         replay = self.folder / REPLAY
-        replay.write_bytes(record.played.replay)
-        refused = record.played.refused
-        page.write_page(record.program, replay, self.folder / PAGE, None, "", refused)
-        written, places = sent_lines.parted(record.played.errors)
-        sent = sent_lines.along(record.played.match.log, places)
+        replay.write_bytes(record.match.replay)
+        refusals = record.match.refusals
+        page.write_page(record.program, replay, self.folder / PAGE, None, "", refusals)
+        outputs, places = sent_lines.split_errors(record.match.errors)
+        senders = sent_lines.along(record.match.match.log, places)
         lines = [
-            [event.get("agent", -1), it.file, it.line]
-            for event, it in zip(record.played.match.log, sent)
+            [event.get("agent", -1), sender.file, sender.line]
+            for event, sender in zip(record.match.match.log, senders)
         ]
         return {
             "lines": lines,
-            "written": written,
-            "marks": marks_of(record, written, places, self.handed_in),
+            "written": outputs,
+            "marks": marks_of(record, outputs, places, self.handed_in),
         }
 
     def checks(self) -> Dict[str, Any]:
         """Checks the program by the steps of its kind."""
         log = io.StringIO()
-        # a check that is killed would tell nothing of what it has found
-        tried = Tried(self.asked.seconds, self.asked.seconds)
-        asked = self.checked(self.agent(self.handed_in))
+        # a killed check would lose its results
+        budget = CheckBudget(self.asked.seconds, self.asked.seconds)
+        job = self.check_job(self.agent(self.handed_in))
         with contextlib.redirect_stdout(log), contextlib.redirect_stderr(io.StringIO()):
-            right, wrong = check.by_steps(asked, STEPS[self.asked.kind], tried)
+            right, wrong = check.by_steps(job, STEPS[self.asked.kind], budget)
         if wrong is not None:
             return self.to_mend(wrong)
         if not right:
             lines = log.getvalue().strip().split("\n")[-1:]
-            left = f"not within {self.asked.seconds} s: {listed(tried.left_out)}"
-            return {"right": False, "said": [left] if tried.left_out else lines}
-        more = [f"left out: {listed(tried.left_out)}"] if tried.left_out else []
-        return {"right": True, "said": [f"Right {listed(right)}.", *more]}
+            left_out_text = (
+                f"not within {self.asked.seconds} s: {join_words(budget.left_out)}"
+            )
+            return {
+                "right": False,
+                "said": [left_out_text] if budget.left_out else lines,
+            }
+        left_out_lines = (
+            [f"left out: {join_words(budget.left_out)}"] if budget.left_out else []
+        )
+        return {"right": True, "said": [f"Right {join_words(right)}.", *left_out_lines]}
 
-    def to_mend(self, wrong: check.ToMend) -> Dict[str, Any]:
-        """What is to be mended first, and the match that shows it: played again with a
-        client that says by which line it sends."""
+    def to_mend(self, wrong: check.Finding) -> Dict[str, Any]:
+        """Returns the report of a finding, with its match replayed by a client that
+        marks the sending lines."""
         record = wrong.record
         schedule = record.schedule
-        agent = self.agent(self.marked())
-        with contextlib.suppress(Fault):
+        agent = self.agent(self.mark_program())
+        with contextlib.suppress(ArenaError):
             again = schedule._replace(agents=[agent] * len(schedule.agents))
-            found = games.play_again(again, self.asked.program)
-            if found.played.replay == record.played.replay:
-                record = found
-        said = [f"To mend first: {wrong.said[0]}", *wrong.said[1:]]
-        return {"right": False, "said": said, **self.shown(record)}
+            record_found = games.play_again(again, self.asked.program)
+            if record_found.match.replay == record.match.replay:
+                record = record_found
+        lines = [f"To mend first: {wrong.lines[0]}", *wrong.lines[1:]]
+        return {"right": False, "said": lines, **self.match_report(record)}
 
     def answer(self) -> Dict[str, Any]:
         """Plays the matches of an exercise."""
-        exercise = exercises.read(self.asked.exercise)
-        found = answered(
+        exercise = exercises.read_exercise(self.asked.exercise)
+        answer = check_answer(
             exercise,
-            self.agent(self.marked()),
+            self.agent(self.mark_program()),
             self.asked.program,
             seconds=self.asked.seconds,
         )
-        shown = self.shown(found.record)
+        report = self.match_report(answer.record)
         # an exercise may be about something else than the black hole
-        marks = [it for it in shown["marks"] if LEAVES not in it["said"]]
-        said = found.said or [exercise.praise()]
-        return {"right": not found.said, "said": said, **shown, "marks": marks}
+        marks = [mark for mark in report["marks"] if LEAVES not in mark["said"]]
+        lines = answer.lines or [exercise.praise()]
+        return {"right": not answer.lines, "said": lines, **report, "marks": marks}
 
-    def found(self) -> Dict[str, Any]:
+    def run_trial(self) -> Dict[str, Any]:
         if self.asked.exercise:
             return self.answer()
         if self.asked.kind == PLAY:
-            return self.watched()[1]
+            return self.watch_match()[1]
         return self.checks()
 
 
-def bounded(found: Dict[str, Any]) -> Dict[str, Any]:
-    """What is found, as it may be kept and shown."""
-    said = list(dict.fromkeys(plain(it)[:LONGEST] for it in found["said"]))
-    written = {
-        agent: "\n".join(map(plain, text.split("\n")))[-MOST_WRITTEN:]
-        for agent, text in found.get("written", {}).items()
+def bound_report(report: Dict[str, Any]) -> Dict[str, Any]:
+    """Limits the lengths of a report's texts, so that it can be stored and shown."""
+    lines = list(dict.fromkeys(plain(line)[:LONGEST] for line in report["said"]))
+    outputs = {
+        agent: "\n".join(map(plain, text.split("\n")))[-MAX_OUTPUT:]
+        for agent, text in report.get("written", {}).items()
         if text
     }
-    marks: List[Dict[str, Any]] = found.get("marks", [])
+    marks: List[Dict[str, Any]] = report.get("marks", [])
     return {
         "verdict": "",
         "lines": [],
-        **found,
-        "said": said[:MOST_SAID],
-        "written": written,
+        **report,
+        "said": lines[:MAX_SENTENCES],
+        "written": outputs,
         "marks": [
-            {**it, "said": plain(it["said"])[:LONGEST]} for it in marks[:MOST_SAID]
+            {**mark, "said": plain(mark["said"])[:LONGEST]}
+            for mark in marks[:MAX_SENTENCES]
         ],
     }
 
 
-def asked_in(folder: pathlib.Path) -> TrialRequest:
-    """What is asked for in a trial's folder."""
-    return TrialRequest(**json.loads((folder / ASKED).read_text(encoding="utf-8")))
+def read_request(folder: pathlib.Path) -> TrialRequest:
+    """Reads the request in a trial's folder."""
+    return TrialRequest(
+        **json.loads((folder / REQUEST_FILE).read_text(encoding="utf-8"))
+    )
 
 
 def try_in(folder: pathlib.Path) -> None:
-    """Does the trial of a folder. Its file of what is found is written last."""
+    """Runs the trial of a folder, and writes its result file last."""
     # where the words of a command name files
     os.chdir(folder / FILES)
-    found = bounded(TriedProgram(folder, asked_in(folder)).found())
-    new = folder / f".{FOUND}"
-    new.write_text(json.dumps(found), encoding="utf-8")
-    new.replace(folder / FOUND)
+    report = bound_report(TriedProgram(folder, read_request(folder)).run_trial())
+    new = folder / f".{RESULT_FILE}"
+    new.write_text(json.dumps(report), encoding="utf-8")
+    new.replace(folder / RESULT_FILE)
 
 
 class TrialServer:
@@ -272,22 +283,22 @@ class TrialServer:
     def serve(self) -> None:
         """Goes on until the worker has ended."""
         signal.signal(signal.SIGCHLD, lambda *_: self._reap())
-        share(USUAL)
+        share(DEFAULT_COMMAND)
         # what is loaded by now is shared by all trials
         gc.collect()
         gc.freeze()
-        while message := self._worker.recv(MOST_MESSAGE):
-            given = json.loads(message)
-            folder = pathlib.Path(given["folder"])
-            if time.monotonic() - self._looked > KNOWN:
+        while message := self._worker.recv(MAX_MESSAGE):
+            request = json.loads(message)
+            folder = pathlib.Path(request["folder"])
+            if time.monotonic() - self._looked > SURVEY_SECONDS:
                 isolation.meeting_places.cache_clear()
                 self._looked = time.monotonic()
-            share(asked_in(folder).command)
+            share(read_request(folder).command)
             parent = os.getpid()
             child = os.fork()
             if child == 0:
                 self._worker.close()
-                end(folder, given["temporary"], parent)
+                end(folder, request["temporary"], parent)
             process = os.pidfd_open(child)
             self._running.add(child)
             self._reap()
@@ -308,14 +319,13 @@ def share(command: str) -> None:
     language of a command, and which pipes and sockets of the system's folders are
     hidden. A trial itself tells what is wrong with these, and needs neither where
     programs have no walls."""
-    with contextlib.suppress(Fault, OSError):
+    with contextlib.suppress(ArenaError, OSError):
         isolation.system_filter(calls.language_of(command, lambda _: None), ())
         isolation.words((), False)
 
 
 def end(folder: pathlib.Path, temporary: str, parent: int) -> NoReturn:
-    """Does the trial of a folder in a process that was forked for it, and ends with the
-    process."""
+    """Runs a trial in the forked process, and exits."""
     status = 1
     try:
         end_with(parent, signal.SIGKILL)
@@ -325,13 +335,13 @@ def end(folder: pathlib.Path, temporary: str, parent: int) -> NoReturn:
             (0, os.devnull, os.O_RDONLY),
             (1, str(folder / LOG), os.O_WRONLY | os.O_CREAT | os.O_TRUNC),
         ):
-            opened = os.open(path, how, 0o600)
-            os.dup2(opened, descriptor)
-            os.close(opened)
+            stream = os.open(path, how, 0o600)
+            os.dup2(stream, descriptor)
+            os.close(stream)
         os.dup2(1, 2)
         try_in(folder)
         status = 0
-    except (Fault, OSError) as fault:
+    except (ArenaError, OSError) as fault:
         print(f"trial: {fault}", file=sys.stderr)
     except BaseException:
         traceback.print_exc()

@@ -26,17 +26,17 @@ from arena_lab.support.missing import check
 ADDRESS = "127.0.0.1"
 COURSE = "try.toml"
 # seconds after which the page is opened, in which the hall begins
-SOON = 4.0
+OPEN_SECONDS = 4.0
 
 
 def usual_folder() -> pathlib.Path:
-    """Where programs keep what is their user's."""
+    """Returns the folder for data of this user's programs."""
     data = os.environ.get("XDG_DATA_HOME") or pathlib.Path.home() / ".local" / "share"
     return pathlib.Path(data) / "arena-try"
 
 
-def add_words(parser: argparse.ArgumentParser) -> None:
-    """The words of the command `try`."""
+def add_arguments(parser: argparse.ArgumentParser) -> None:
+    """Adds the arguments of `try`."""
     parser.add_argument(
         "--port", metavar="N", type=at_least_one, default=8000, help="the port (8000)"
     )
@@ -56,21 +56,21 @@ def add_words(parser: argparse.ArgumentParser) -> None:
     add_program(parser)
 
 
-def run(words: argparse.Namespace) -> int:
-    check(*hall.NEEDED)
-    folder = words.folder.resolve()
+def run(args: argparse.Namespace) -> int:
+    check(*hall.PACKAGES)
+    folder = args.folder.resolve()
     folder.mkdir(mode=0o700, parents=True, exist_ok=True)
     course = folder / COURSE
     shutil.copy(pathlib.Path(place.__file__).parent / COURSE, course)
-    page = f"http://{ADDRESS}:{words.port}/write"
+    page = f"http://{ADDRESS}:{args.port}/write"
     print(f"try {page} (Ctrl+C ends it; {folder} has what you write)", flush=True)
-    if not words.no_browser:
-        opens = threading.Timer(SOON, webbrowser.open, [page])
+    if not args.no_browser:
+        opens = threading.Timer(OPEN_SECONDS, webbrowser.open, [page])
         opens.daemon = True
         opens.start()
     # programs are the reader's own, who may run them anyhow
-    words.weak_walls = True
-    words.address = ADDRESS
-    words.workers = 1
-    of = HallFolder(folder / "hall", course, program_at(words.program, words.needs))
-    return hall.serve(words, of)
+    args.weak_walls = True
+    args.address = ADDRESS
+    args.workers = 1
+    of = HallFolder(folder / "hall", course, program_at(args.program, args.needs))
+    return hall.serve(args, of)

@@ -28,12 +28,12 @@ import argparse
 import pathlib
 
 from arena_lab.pages.contest_pages import matches_of
-from arena_lab.pages.feeds import Feed
+from arena_lab.pages.feeds import MatchFeed
 from arena_lab.pages.projector import ContestView, show
 
 
-def add_words(parser: argparse.ArgumentParser) -> None:
-    """The words of the command `watch`."""
+def add_arguments(parser: argparse.ArgumentParser) -> None:
+    """Adds the arguments of `watch`."""
     parser.add_argument(
         "tournament",
         metavar="TOURNAMENT",
@@ -96,15 +96,16 @@ def add_words(parser: argparse.ArgumentParser) -> None:
     )
 
 
-def run(words: argparse.Namespace) -> int:
-    turns = {"turns": words.turns} if words.turns else {}
-    matches = matches_of(words.tournament)
+def run(args: argparse.Namespace) -> int:
+    turns = {"turns": args.turns} if args.turns else {}
+    matches = matches_of(args.tournament)
     gather, pause = (
-        None if it is None else it / 1000 for it in (words.gather, words.pause)
+        None if seconds is None else seconds / 1000
+        for seconds in (args.gather, args.pause)
     )
     feeds = [
-        Feed(words.prefix, number, gather, pause) for number in range(len(matches))
+        MatchFeed(args.prefix, number, gather, pause) for number in range(len(matches))
     ]
-    contest = ContestView(matches, feeds, words.open)
-    show(contest, words.tournament.stem, (words.address, words.port), turns, words.host)
+    contest = ContestView(matches, feeds, args.open)
+    show(contest, args.tournament.stem, (args.address, args.port), turns, args.host)
     return 0

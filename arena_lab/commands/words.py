@@ -5,24 +5,24 @@ import os
 import re
 from typing import Any, List, Optional, Set
 
-from arena_lab.play.agent_files import NoAgent
+from arena_lab.play.agent_files import AgentError
 from arena_lab.play.bounds import LIMIT
 from arena_lab.play.teams import (
     BOARD,
-    NAPS,
+    SPURIOUS_WAKEUPS,
     NETWORK,
     QUOTA,
     AgentWords,
     Game,
     agent_named,
-    filled,
+    fill_team,
 )
 from arena_lab.rules import draws, networks
 from arena_lab.rules.engines import MODEL, PROGRAM, program_at
 from arena_lab.rules.fixtures import Fixture, read_tournament
 from arena_lab.rules.model import Place
 from arena_lab.rules.networks import Network
-from arena_lab.support.built import NoProgram
+from arena_lab.support.built import ProgramError
 
 
 def at_least_one(word: str) -> int:
@@ -41,40 +41,40 @@ def whole_number(word: str, least: int) -> int:
     return int(word)
 
 
-def place(word: str) -> Place:
-    """A node and a port, as `3,1`."""
-    found = re.fullmatch(r"(\d+),(\d+)", word)
-    if not found:
+def parse_place(word: str) -> Place:
+    """Parses a node and a port, such as `3,1`."""
+    match = re.fullmatch(r"(\d+),(\d+)", word)
+    if not match:
         raise argparse.ArgumentTypeError(
             f"{word} is not a node and a port: write them as in 3,1"
         )
-    return int(found[1]), int(found[2])
+    return int(match[1]), int(match[2])
 
 
 def ports(word: str) -> draws.Ports:
     """How ports are numbered."""
     try:
         return draws.ports_of(word)
-    except networks.NoNetwork as fault:
+    except networks.NetworkError as fault:
         raise argparse.ArgumentTypeError(str(fault)) from None
 
 
 def home(word: str) -> Optional[int]:
-    """A home base, or None for one that is drawn."""
+    """Parses a home base; returns None for `drawn`."""
     return None if word == draws.DRAWN else not_negative(word)
 
 
 def add_ports(
-    parser: "argparse._ActionsContainer", usual: str = draws.GIVEN, each: str = ""
+    parser: "argparse._ActionsContainer", default: str = draws.GIVEN, each: str = ""
 ) -> None:
     """The option that numbers ports."""
     parser.add_argument(
         "--ports",
         metavar="given|drawn|shuffled:SEED",
         type=ports,
-        default=draws.ports_of(usual),
+        default=draws.ports_of(default),
         help="the numbers of ports: as the network has them, or drawn anew"
-        f"{each}, or by this seed ({usual})",
+        f"{each}, or by this seed ({default})",
     )
 
 
@@ -89,10 +89,10 @@ class Once(argparse.Action):
     """Takes an option that may be given once: the last one would win in silence."""
 
     def __call__(self, parser, words, value, option=None) -> None:  # type: ignore[no-untyped-def]
-        given: Set[str] = getattr(words, "given_once", set())
-        if option in given:
+        options_given: Set[str] = getattr(words, "given_once", set())
+        if option in options_given:
             parser.error(f"{option} is given twice: name one")
-        words.given_once = given | {option}
+        words.given_once = options_given | {option}
         setattr(words, self.dest, value)
 
 
@@ -157,7 +157,7 @@ def add_match(parser: argparse.ArgumentParser, several: bool = False) -> None:
     match.add_argument(
         "--dark",
         metavar="V,P",
-        type=place,
+        type=parse_place,
         action="append",
         default=[],
         help="a dark link, by the "
@@ -210,70 +210,70 @@ def add_match(parser: argparse.ArgumentParser, several: bool = False) -> None:
         dest="naps",
         metavar="N",
         type=not_negative,
-        default=NAPS,
+        default=SPURIOUS_WAKEUPS,
         help="how often an agent inside that sleeps may wake again though nothing has changed in front "
-        f"of it ({NAPS})",
+        f"of it ({SPURIOUS_WAKEUPS})",
     )
 
 
-def team_of(words: argparse.Namespace) -> List[AgentWords]:
+def team_of(args: argparse.Namespace) -> List[AgentWords]:
     """The agents that the words name; those of a tournament are as many as its keys."""
-    named: List[AgentWords] = words.team
-    if not named:
-        raise NoAgent("name a team by --agent or --command: see --help")
-    return filled(
-        named, len(read_fixture(words).keys) if words.tournament else words.agents
+    agents: List[AgentWords] = args.team
+    if not agents:
+        raise AgentError("name a team by --agent or --command: see --help")
+    return fill_team(
+        agents, len(read_fixture(args).keys) if args.tournament else args.agents
     )
 
 
-def game_of(words: argparse.Namespace) -> Game:
+def game_of(args: argparse.Namespace) -> Game:
     """The game that the words of a command name."""
-    match = read_fixture(words) if words.tournament else None
+    match = read_fixture(args) if args.tournament else None
     network = (
         Network(match.setup.nodes, match.setup.links)
         if match
-        else networks.named(words.network)
+        else networks.network_named(args.network)
     )
     return Game(
-        words.tournament or words.network,
+        args.tournament or args.network,
         network,
-        team_of(words),
-        words.home,
-        words.hole or [],
-        words.dark,
-        words.quota,
-        words.board,
-        words.naps,
-        words.limit,
+        team_of(args),
+        args.home,
+        args.hole or [],
+        args.dark,
+        args.quota,
+        args.board,
+        args.naps,
+        args.limit,
         match,
-        f", match {words.match} of {words.tournament}" if match else "",
-        words.ports,
+        f", match {args.match} of {args.tournament}" if match else "",
+        args.ports,
     )
 
 
-def games_of(words: argparse.Namespace) -> List[Game]:
+def games_of(args: argparse.Namespace) -> List[Game]:
     """The games that the words of a command name: one for each network, or for each home
     base and numbering of it that is drawn."""
     names = [
         name
-        for given in words.networks or [NETWORK]
-        for name in networks.in_range(given)
+        for network_name in args.networks or [NETWORK]
+        for name in networks.in_range(network_name)
     ]
     return [
-        fixed
+        game
         for name in names
-        for fixed in game_of(
-            argparse.Namespace(**{**vars(words), "network": name})
-        ).fixed()
+        for game in game_of(
+            argparse.Namespace(**{**vars(args), "network": name})
+        ).drawn_games()
     ]
 
 
-def read_fixture(words: argparse.Namespace) -> Fixture:
+def read_fixture(args: argparse.Namespace) -> Fixture:
     """The match of the tournament's file."""
-    fixtures: List[Fixture] = read_tournament(words.tournament).fixtures
-    if not 0 <= words.match < len(fixtures):
-        raise networks.NoNetwork(f"{words.tournament}: it has no match {words.match}")
-    return fixtures[int(words.match)]
+    fixtures: List[Fixture] = read_tournament(args.tournament).fixtures
+    if not 0 <= args.match < len(fixtures):
+        raise networks.NetworkError(f"{args.tournament}: it has no match {args.match}")
+    return fixtures[int(args.match)]
 
 
 def add_program(parser: argparse.ArgumentParser) -> None:
@@ -298,14 +298,14 @@ def add_engine(parser: argparse.ArgumentParser) -> None:
     add_program(parser)
 
 
-def program_of(words: argparse.Namespace) -> Optional[str]:
-    """The program that is to play, or None for the Python model."""
-    if words.engine == MODEL:
+def program_of(args: argparse.Namespace) -> Optional[str]:
+    """Returns the path of the program that plays, or None for the Python model."""
+    if args.engine == MODEL:
         return None
     try:
-        return program_at(words.program, words.needs)
-    except NoProgram as fault:
-        raise NoProgram(
+        return program_at(args.program, args.needs)
+    except ProgramError as fault:
+        raise ProgramError(
             f"{fault}; or add `--engine model`: the Python model needs none, and nothing of it is "
             "proved"
         ) from None

@@ -9,9 +9,15 @@ import time
 from typing import Any, Dict, Iterator, List, NamedTuple, Optional, Sequence, Set, Tuple
 
 from arena_lab.course.conditions import CourseDraws, Conditions, conditions_in
-from arena_lab.play.games import Asked, Record, SchedulerName
-from arena_lab.play.schedulers import ARRIVE, NAMED, Choice, MatchView, Scheduler
-from arena_lab.play.teams import NAPS, AgentWords, Game, filled
+from arena_lab.play.games import MatchRequest, Record, SchedulerName
+from arena_lab.play.schedulers import (
+    ARRIVE,
+    SCHEDULER_MAKERS,
+    Choice,
+    MatchView,
+    Scheduler,
+)
+from arena_lab.play.teams import SPURIOUS_WAKEUPS, AgentWords, Game, fill_team
 from arena_lab.rules import draws
 from arena_lab.rules.fixtures import Fixture
 from arena_lab.support import fields
@@ -23,33 +29,35 @@ SECRET = "a check"
 TEAM = "you"
 TITLE = "a check"
 # how many matches are compared to tell a cause, and how many seconds that may take
-COMPARED = 12
+SAMPLE_SIZE = 12
 SECONDS = 30.0
 SLOW = "starved"
 # seconds between two looks at the time, and between two interrupts of a search whose
 # time is up
 SLICE = 0.25
-AGAIN = 5.0
+REPEAT_SECONDS = 5.0
 
 
 def at_once(seed: int) -> Scheduler:
-    """Who is on a link arrives before anything else happens."""
-    chance = random.Random(seed)
+    """Returns a scheduler that delivers agents on links before anything else
+    happens."""
+    rng = random.Random(seed)
 
     def choose(choices: Sequence[Choice], state: MatchView) -> Choice:
         arrivals = [choice for choice in choices if choice.do == ARRIVE]
-        return chance.choice(arrivals or choices)
+        return rng.choice(arrivals or choices)
 
     return choose
 
 
 class Cause(NamedTuple):
-    """What is left out of matches that an agent fails: keys of the file that are named
-    besides, or another scheduler. And what is said if it solves all others then."""
+    """A wrong assumption that agents make: the condition under which it holds
+    (`fixed_keys` of the course file, or a scheduler), and the advice to print if an
+    agent solves all other matches under that condition."""
 
     where: str
     trusts: str
-    named: Tuple[str, ...] = ()
+    fixed_keys: Tuple[str, ...] = ()
     by: Optional[SchedulerName] = None
 
 
@@ -78,7 +86,7 @@ CAUSES = (
 )
 
 
-class Checked(NamedTuple):
+class CheckJob(NamedTuple):
     """An agent that is checked: its words, under which conditions, how many seconds it
     may compute, by which program it plays, how long the check may take, and whether
     agents are repeated."""
@@ -97,62 +105,64 @@ class Checked(NamedTuple):
     def game(self, name: str) -> Game:
         """The game on a network, of which a number draws what the conditions leave
         open."""
-        given = self.conditions
-        setup = given.fixture(given.case(name, "fair", 0)).setup
-        holes = given.grid.holes
-        own = given.grid.terms_on(name).ports
-        has_ports = "ports" in given.named or setup.dark or own == draws.GIVEN
+        conditions = self.conditions
+        setup = conditions.fixture(conditions.case(name, "fair", 0)).setup
+        holes = conditions.grid.holes
+        ports = conditions.grid.terms_on(name).ports
+        has_ports = (
+            "ports" in conditions.fixed_keys or setup.dark or ports == draws.GIVEN
+        )
         return Game(
             name,
-            given.grid.networks[name],
-            filled([self.agent], setup.agents),
-            given.grid.home if "home" in given.named else None,
+            conditions.grid.networks[name],
+            fill_team([self.agent], setup.agents),
+            conditions.grid.home if "home" in conditions.fixed_keys else None,
             holes[0] if isinstance(holes, list) else (),
             setup.dark,
             setup.quota,
             setup.board,
-            NAPS,
+            SPURIOUS_WAKEUPS,
             self.limit,
             ports=None if has_ports else draws.DRAWN,
         )
 
-    def asked(
+    def request(
         self, case: Case, is_first: bool = False, by: Optional[SchedulerName] = None
-    ) -> Asked:
+    ) -> MatchRequest:
         """A match. The program plays the first ones, and their agents are repeated."""
         fixture = self.conditions.fixture(case)
         name = case.scheduler
-        return Asked(
+        return MatchRequest(
             self.game(case.network)._replace(
-                match=fixture, origin=f" on {place(case)}"
+                match=fixture, origin=f" on {match_place(case)}"
             ),
-            by or (name if name in NAMED else self.conditions.maker(name)),
+            by or (name if name in SCHEDULER_MAKERS else self.conditions.maker(name)),
             self.conditions.seed(case),
             self.program if is_first else None,
             self.repeats and is_first,
         )
 
-    def smallest(self, usual: Sequence[str]) -> Sequence[str]:
-        """The networks of a search: the smallest that were named, if not all of the
-        usual ones are there."""
+    def smallest(self, default: Sequence[str]) -> Sequence[str]:
+        """Returns the usual networks if the conditions have all of them, else the
+        smallest networks of the conditions."""
         nets = self.conditions.grid.networks
-        if set(usual) <= set(nets):
-            return usual
-        return sorted(nets, key=lambda name: nets[name].nodes)[: len(usual)]
+        if set(default) <= set(nets):
+            return default
+        return sorted(nets, key=lambda name: nets[name].nodes)[: len(default)]
 
 
-def spent() -> float:
+def processor_seconds() -> float:
     """Seconds of a processor that this process and the programs of agents have taken. A
     machine that is busy with other work is not to try less."""
     return sum(os.times()[:4])
 
 
-class Tried:
-    """What was tried until now, how long the check goes on, by seconds of a processor
-    and perhaps by the clock too, and what was left out as that was over."""
+class CheckBudget:
+    """The time budget of a check, in processor seconds and optionally in wall-clock
+    seconds, with counts of the matches played and names of the steps left out."""
 
     def __init__(self, seconds: float, by_clock: float = math.inf) -> None:
-        self._until = spent() + seconds
+        self._until = processor_seconds() + seconds
         self._late = time.monotonic() + by_clock
         self.left_out: List[str] = []
         self._numberings: Set[Tuple[str, str]] = set()
@@ -160,12 +170,12 @@ class Tried:
         self._nodes: Dict[str, int] = {}
         self._schedulers: Dict[str, None] = {}
 
-    def left(self) -> float:
-        """How many seconds are left."""
-        return min(self._until - spent(), self._late - time.monotonic())
+    def seconds_left(self) -> float:
+        """Returns how many seconds are left."""
+        return min(self._until - processor_seconds(), self._late - time.monotonic())
 
     def is_late(self) -> bool:
-        """Whether its time is over by the clock."""
+        """Returns whether the wall-clock limit is exceeded."""
         return time.monotonic() > self._late
 
     def add(self, name: str, fixture: Fixture, scheduler: str = "") -> None:
@@ -183,7 +193,7 @@ class Tried:
         return (
             f"on {count} network{'s' * (count != 1)} with {len(self._numberings)} numberings of ports, from "
             f"{'every home base' if homes == nodes else f'{homes} of {nodes} home bases'}, under "
-            f"{listed(list(self._schedulers))}"
+            f"{join_words(list(self._schedulers))}"
         )
 
 
@@ -191,30 +201,30 @@ class TimedProgress:
     """A bar that ends a hunt behind the first schedule after the time of a check, as
     Ctrl-C would."""
 
-    def __init__(self, shown: Any, tried: Tried) -> None:
-        self._shown = shown
-        self._tried = tried
+    def __init__(self, progress: Any, budget: CheckBudget) -> None:
+        self._shown = progress
+        self._tried = budget
 
     def update(self) -> None:
         self._shown.update()
-        if self._tried.left() <= 0:
+        if self._tried.seconds_left() <= 0:
             raise KeyboardInterrupt
 
-    def set_postfix_str(self, said: str) -> None:
-        self._shown.set_postfix_str(said)
+    def set_postfix_str(self, text: str) -> None:
+        self._shown.set_postfix_str(text)
 
 
 class Alarm:
-    """Used by `with`, interrupts the main thread, as Ctrl-C does, once the time of a
-    check is up, also by the clock, as a program that goes on is counted when it ends;
-    and now and then after that: a single interrupt may be lost, as in what runs when
-    Python collects garbage. A search gives then what it has found. Says whether it has
-    rung."""
+    """A context manager that interrupts the main thread (as Ctrl-C does) when the
+    budget of a check is exhausted. The wall clock counts too, because a program's
+    processor time is known only after its end. Interrupts are repeated, since Python
+    drops one that arrives during garbage collection. A search then returns its partial
+    result. `has_rung` tells whether it interrupted."""
 
-    def __init__(self, tried: Tried) -> None:
+    def __init__(self, budget: CheckBudget) -> None:
         self.has_rung = False
-        self._tried = tried
-        self._until = time.monotonic() + tried.left()
+        self._tried = budget
+        self._until = time.monotonic() + budget.seconds_left()
         self._stopped = threading.Event()
 
     def __enter__(self) -> None:
@@ -224,60 +234,64 @@ class Alarm:
     def __exit__(self, *_: object) -> None:
         self._stopped.set()
 
-    def _wait(self, stopped: threading.Event) -> None:
+    def _wait(self, stop_event: threading.Event) -> None:
         seconds = SLICE
-        while not stopped.wait(seconds):
-            if self._tried.left() <= 0 or time.monotonic() > self._until:
+        while not stop_event.wait(seconds):
+            if self._tried.seconds_left() <= 0 or time.monotonic() > self._until:
                 self.has_rung = True
-                seconds = AGAIN
+                seconds = REPEAT_SECONDS
                 main = threading.main_thread().ident or 0
                 signal.pthread_kill(main, signal.SIGINT)
 
 
-def listed(parts: Sequence[str]) -> str:
+def join_words(parts: Sequence[str]) -> str:
     """Parts of a sentence as a list."""
     return " and ".join([", ".join(parts[:-1]), parts[-1]] if len(parts) > 1 else parts)
 
 
-def place(case: Case) -> str:
-    """Where a match is played."""
-    ports = draws.said_of(case.ports)
+def match_place(case: Case) -> str:
+    """Returns the network, ports, home base and black hole of a match as text."""
+    ports = draws.ports_text(case.ports)
     hole = f", black hole {case.hole}" if case.hole else ""
     return f"{case.network}{ports}, home {case.home or 0}{hole}"
 
 
-def because(asked: Checked, case: Case) -> Iterator[str]:
-    """The assumption of which the failure of a match comes, if one is found: a third or
-    more of some matches like it fail, and none without what the agent does not expect.
-    One match alone would show little."""
+def because(job: CheckJob, case: Case) -> Iterator[str]:
+    """Yields the wrong assumption behind a failed match: at least a third of similar
+    matches fail, and none under the condition of the assumption. A single match would
+    show little."""
     until = time.monotonic() + SECONDS
 
-    def fails(cause: Optional[Cause], most: int) -> bool:
-        """Whether it fails as many of the matches."""
+    def fails(cause: Optional[Cause], threshold: int) -> bool:
+        """Returns whether it fails as many of the matches."""
         count = 0
-        for number in range(COMPARED):
-            if count < most and time.monotonic() < until:
-                count += played(asked, case, number, cause).has_failed
-        return count >= most
+        for number in range(SAMPLE_SIZE):
+            if count < threshold and time.monotonic() < until:
+                count += play_similar(job, case, number, cause).has_failed
+        return count >= threshold
 
-    named = set(asked.conditions.named)
-    others = [cause for cause in CAUSES if cause.by or not set(cause.named) & named]
-    if not fails(None, COMPARED // 3):
+    keys = set(job.conditions.fixed_keys)
+    other_causes = [
+        cause for cause in CAUSES if cause.by or not set(cause.fixed_keys) & keys
+    ]
+    if not fails(None, SAMPLE_SIZE // 3):
         return
-    for cause in others:
+    for cause in other_causes:
         if not fails(cause, 1) and time.monotonic() < until:
-            yield f"where {cause.where} it solves all of {COMPARED} such matches: {cause.trusts}"
+            yield f"where {cause.where} it solves all of {SAMPLE_SIZE} such matches: {cause.trusts}"
             return
 
 
-def played(asked: Checked, case: Case, number: int, cause: Optional[Cause]) -> Record:
+def play_similar(
+    job: CheckJob, case: Case, number: int, cause: Optional[Cause]
+) -> Record:
     """Plays another match like one that failed, without what a cause leaves out."""
-    given = asked.conditions
+    conditions = job.conditions
     if cause:
-        given = given.with_named(cause.named)
-    again = asked._replace(conditions=given)
-    other = given.case(case.network, case.scheduler, number)
-    return again.asked(other, by=cause.by if cause else None).play()
+        conditions = conditions.with_named(cause.fixed_keys)
+    again = job._replace(conditions=conditions)
+    other_case = conditions.case(case.network, case.scheduler, number)
+    return again.request(other_case, by=cause.by if cause else None).play()
 
 
 SAYS = (
@@ -294,20 +308,25 @@ SAYS = (
 )
 FIELDS = {
     **{name: grid.FIELDS[name] for name in SAYS},
-    "title": grid.FIELDS["title"]._replace(usual=TITLE),
+    "title": grid.FIELDS["title"]._replace(default=TITLE),
     "agents": grid.AGENTS,
     "conditions": fields.table("conditions", {}),
 }
 
 
 def conditions_of(
-    found: Dict[str, Any], folder: Any, agent: AgentWords, agents: Optional[int] = None
+    table: Dict[str, Any], folder: Any, agent: AgentWords, agents: Optional[int] = None
 ) -> Conditions:
     """The conditions that a course's file says, for one team of these agents. Its teams
     are passed over, but for how many agents the first has."""
-    teams = found.get("team") or [{}]
-    count = {name: it for name, it in teams[0].items() if name == "agents"}
-    known = {**count, **{name: it for name, it in found.items() if name in FIELDS}}
-    said = fields.values_of(known, FIELDS, "a file of conditions")
-    team = TeamRow(TEAM, said["agents"] if agents is None else agents, agent)
-    return conditions_in(repr(known), found, said, [team], folder, CourseDraws(SECRET))
+    teams = table.get("team") or [{}]
+    count = {name: value for name, value in teams[0].items() if name == "agents"}
+    course_values = {
+        **count,
+        **{name: value for name, value in table.items() if name in FIELDS},
+    }
+    values = fields.values_of(course_values, FIELDS, "a file of conditions")
+    team = TeamRow(TEAM, values["agents"] if agents is None else agents, agent)
+    return conditions_in(
+        repr(course_values), table, values, [team], folder, CourseDraws(SECRET)
+    )

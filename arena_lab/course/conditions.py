@@ -23,42 +23,45 @@ from arena_lab.sweep.grid import Case, Grid, TeamRow
 
 
 class CourseDraws(NamedTuple):
-    """What is drawn from a course's secret. Without it nobody can guess it."""
+    """Draws values from a course's secret, so that teams cannot predict them."""
 
     secret: str
 
-    def drawn(self, *words: object) -> str:
+    def draw_digits(self, *words: object) -> str:
         """Digits."""
         return hashlib.sha256(
             "\0".join(map(str, [self.secret, *words])).encode()
         ).hexdigest()
 
     def keys(self, text: str, number: int, agents: int) -> List[str]:
-        """The keys of a match of the course that has this text."""
-        return [self.drawn("key", text, number, agent)[:20] for agent in range(agents)]
+        """Returns the agents' keys of a match, derived from the course's text."""
+        return [
+            self.draw_digits("key", text, number, agent)[:20] for agent in range(agents)
+        ]
 
 
 class Conditions(NamedTuple):
-    """What a file's text says of matches, the folder from which files of networks and
-    schedulers are named, and the secret of the draws. `named` are those of `home` and
-    `ports` that the file has."""
+    """The conditions of matches by a file: settings, the folder of its networks and
+    schedulers, and the secret of draws. `fixed_keys` are `home` and `ports` if the file
+    fixes them."""
 
     text: str
     folder: pathlib.Path
     draws: CourseDraws
     grid: Grid
-    named: FrozenSet[str] = frozenset()
+    fixed_keys: FrozenSet[str] = frozenset()
 
     def cases(self) -> Iterator[Case]:
         """All matches of all teams, in the order of the file."""
         return map(self._placed, self.grid.cases(self.draws.secret))
 
     def case(self, network: str, scheduler: str, number: int) -> Case:
-        """One more match than the file asks for, which is drawn as the others are."""
-        played = (it for it in self.grid.cases(self.draws.secret))
-        alike = [it for it in played if it.network == network]
+        """Draws one more match, with a negative number that no match of the file
+        has."""
+        cases = (case for case in self.grid.cases(self.draws.secret))
+        alike = [other for other in cases if other.network == network]
         case = alike[number % len(alike)]
-        # its keys are those of no match of the file
+        # a negative number, so that the keys differ from those of the file's matches
         return self._placed(
             case._replace(number=-1 - number, scheduler=scheduler, seed=number)
         )
@@ -66,27 +69,27 @@ class Conditions(NamedTuple):
     def with_named(self, names: Iterable[str]) -> "Conditions":
         """The same where these are not drawn, of `home` and `ports`: node 0 is the home
         base unless the file names another, and ports are the network's own."""
-        return self._replace(named=self.named.union(names))
+        return self._replace(fixed_keys=self.fixed_keys.union(names))
 
     def _placed(self, case: Case) -> Case:
-        """A match with black holes, a home base and ports of its own, as far as the
-        file does not name them. They are the same for all teams."""
+        """Returns the match with drawn black holes, home base and ports where the file
+        does not fix them. The draw does not depend on the team."""
         if not isinstance(self.grid.holes, int) and self.grid.holes not in (
             grid.BY_SEED,
             draws.DRAWN,
         ):
             return case
         words = (case.network, case.scheduler, case.seed, *case.holes)
-        own = self.grid.terms_on(case.network).ports
-        is_named = "ports" in self.named or self.grid.dark or own == draws.GIVEN
-        left = draws.Open(
-            self.grid.home if "home" in self.named else None,
+        ports = self.grid.terms_on(case.network).ports
+        is_named = "ports" in self.fixed_keys or self.grid.dark or ports == draws.GIVEN
+        draw_settings = draws.Open(
+            self.grid.home if "home" in self.fixed_keys else None,
             ports=None if is_named else draws.DRAWN,
         )
-        chance = random.Random(self.draws.drawn("place", *words))
-        found = draws.drawn(self.grid.networks[case.network], chance, left)
+        rng = random.Random(self.draws.draw_digits("place", *words))
+        match = draws.draw_match(self.grid.networks[case.network], rng, draw_settings)
         return case._replace(
-            holes=tuple(found.holes), home=found.home, ports=found.ports
+            holes=tuple(match.holes), home=match.home, ports=match.ports
         )
 
     def fixture(self, case: Case) -> Fixture:
@@ -102,8 +105,8 @@ class Conditions(NamedTuple):
     def seed(self, case: Case) -> int:
         """The seed that a match's scheduler gets, which is the same for all teams.
         Those of matches that differ in the seed alone follow one another."""
-        drawn = self.draws.drawn("seed", case.network, case.scheduler)
-        return int(drawn[:8], 16) + case.seed
+        digits = self.draws.draw_digits("seed", case.network, case.scheduler)
+        return int(digits[:8], 16) + case.seed
 
     def scheduler(self, case: Case) -> Scheduler:
         return self.maker(case.scheduler)(self.seed(case))
@@ -111,15 +114,16 @@ class Conditions(NamedTuple):
 
 def conditions_in(
     text: str,
-    found: Mapping[str, Any],
-    said: Dict[str, Any],
+    table: Mapping[str, Any],
+    values: Dict[str, Any],
     teams: List[TeamRow],
     folder: pathlib.Path,
-    drawn: CourseDraws,
+    course_draws: CourseDraws,
 ) -> Conditions:
-    """The conditions of a text, by the values that it has, and for these teams."""
-    is_drawn = said["ports"] in (None, draws.DRAWN)
-    named = {"home", "ports"} & set(found) - ({"ports"} if is_drawn else set())
-    plain = {**said, "ports": None if is_drawn else said["ports"]}
-    played = grid.grid_in(plain, teams, folder)
-    return Conditions(text, folder, drawn, played, frozenset(named))
+    """Builds the conditions of a course from its text, its parsed values and its
+    teams."""
+    is_drawn = values["ports"] in (None, draws.DRAWN)
+    fixed_names = {"home", "ports"} & set(table) - ({"ports"} if is_drawn else set())
+    plain = {**values, "ports": None if is_drawn else values["ports"]}
+    course_grid = grid.grid_in(plain, teams, folder)
+    return Conditions(text, folder, course_draws, course_grid, frozenset(fixed_names))

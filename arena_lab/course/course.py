@@ -27,7 +27,7 @@ from arena_lab.rules import networks
 from arena_lab.sandbox import calls, isolation
 from arena_lab.sandbox.sandboxes import Isolation
 from arena_lab.support import fields
-from arena_lab.support.fields import Field, WrongFile, is_text, is_texts
+from arena_lab.support.fields import Field, FileFormatError, is_text, is_texts
 from arena_lab.sweep import grid, tables
 from arena_lab.sweep.grid import Case, Grid, TeamRow
 
@@ -105,7 +105,7 @@ FIELDS = {
     "team_limit": fields.count(600, "seconds"),
     "match_space": fields.count(8, "MB"),
     "team_space": fields.count(256, "MB"),
-    "tools": fields.MAYBE_NAMES._replace(wanted="a list of folders"),
+    "tools": fields.MAYBE_NAMES._replace(expected="a list of folders"),
     "proc": fields.FLAG,
     "team": grid.FIELDS["team"],
     "agents": grid.AGENTS,
@@ -118,11 +118,12 @@ FIELDS = {
 }
 SECRET = "secret.txt"
 WORDS = ("host", "port", "key", "nodes", "links", "home", "network")
-NEEDED = ("port", "key")
+NEEDED_KEYS = ("port", "key")
 
 
 class CourseFile(NamedTuple):
-    """What a course's file says, and its secret. The files are those of each team."""
+    """A course file with its secret; `files` maps each team to the paths of its
+    hand-in."""
 
     conditions: Conditions
     files: Dict[str, List[pathlib.Path]]
@@ -135,35 +136,34 @@ class CourseFile(NamedTuple):
         return self.conditions.grid
 
     def cases(self) -> List[Case]:
-        """All matches, in the order in which they are played. Teams come in an order
-        that is drawn; each plays the same matches, in an order of its own."""
+        """Returns all matches in the order of play. Teams come in a drawn order; each
+        plays the same matches in an order of its own."""
         draws = self.conditions.draws
-        found = list(self.conditions.cases())
-        found.sort(
+        cases = list(self.conditions.cases())
+        cases.sort(
             key=lambda case: (
-                draws.drawn("order", case.team.name),
-                draws.drawn("order", case.team.name, case[1:3], case[4:]),
+                draws.draw_digits("order", case.team.name),
+                draws.draw_digits("order", case.team.name, case[1:3], case[4:]),
             )
         )
-        return [case._replace(number=number) for number, case in enumerate(found)]
+        return [case._replace(number=number) for number, case in enumerate(cases)]
 
     def digests(self) -> Dict[str, str]:
-        """The SHA-256 of each file on which the matches depend, and of the secret, but
-        for what teams hand in."""
-        own = [
+        """Returns the SHA-256 of the secret and of each file that determines matches.
+        Hand-ins are not included."""
+        course_paths = [
             self.conditions.folder / name.partition(":")[0]
             for name in [*self.grid.schedulers, *self.grid.names]
         ]
         return {
-            **digests([str(path) for path in own]),
-            SECRET: self.conditions.draws.drawn("digest"),
+            **digests([str(path) for path in course_paths]),
+            SECRET: self.conditions.draws.draw_digits("digest"),
         }
 
 
 class ProgramLimits(NamedTuple):
-    """How many seconds programs may take: for a line, in a match, and in all matches of
-    a team. And how many MB: of lines in a match, and of what is written of all matches
-    of a team."""
+    """Limits on programs. Seconds: for one line, for a match, and for all matches of a
+    team. Megabytes: of the lines of one match, and of the files kept for a team."""
 
     line: int
     match: int
@@ -173,10 +173,9 @@ class ProgramLimits(NamedTuple):
 
 
 class Terms(NamedTuple):
-    """What a course's file says besides its matches: how many seconds programs may
-    take, the words that start those of each team, which folders they see besides the
-    system's, whether they see /proc, and which calls of the system they may make
-    besides those of their languages."""
+    """The terms of a course besides its matches: time limits, the teams' commands, the
+    folders visible to programs, whether /proc is visible, and additional system
+    calls."""
 
     limits: ProgramLimits
     commands: Dict[str, str]
@@ -186,122 +185,125 @@ class Terms(NamedTuple):
     calls: Tuple[str, ...]
 
 
-def read(path: pathlib.Path, secret: str) -> CourseFile:
+def read_course(path: pathlib.Path, secret: str) -> CourseFile:
     """The course of a file."""
     try:
         return course_of(grid.text_in(path), path.parent, secret)
-    except WrongFile as fault:
-        raise WrongFile(f"{path}: {fault}") from None
+    except FileFormatError as fault:
+        raise FileFormatError(f"{path}: {fault}") from None
 
 
 def secret_in(
-    out: pathlib.Path, given: Optional[pathlib.Path], handed_in: Mapping[str, str] = {}
+    out: pathlib.Path,
+    secret_path: Optional[pathlib.Path],
+    handed_in: Mapping[str, str] = {},
 ) -> str:
-    """The secret of a course with these results: one that a file gives, or that of the
-    first run, or a new one. These are the digests of what was handed in."""
+    """Returns the secret of a course: from the file given, else from the first run,
+    else a new one. `handed_in` maps teams to digests of their hand-ins."""
     path = out / SECRET
-    said = None if given is None else secret_given(given, handed_in)
+    given_secret = None if secret_path is None else secret_given(secret_path, handed_in)
     if path.exists():
-        kept = grid.text_in(path).strip()
-        if said not in (None, kept):
-            raise WrongFile(
-                f"{path} is another secret than {given}: name another folder by --out, or remove this one"
+        kept_secret = grid.text_in(path).strip()
+        if given_secret not in (None, kept_secret):
+            raise FileFormatError(
+                f"{path} is another secret than {secret_path}: name another folder by --out, or remove this one"
             )
-        return kept
+        return kept_secret
     out.mkdir(parents=True, exist_ok=True)
-    said = said or secrets.token_hex(32)
+    given_secret = given_secret or secrets.token_hex(32)
     with open(
         os.open(path, os.O_WRONLY | os.O_CREAT | os.O_EXCL, 0o600),
         "w",
         encoding="utf-8",
     ) as file:
-        file.write(said + "\n")
-    return said
+        file.write(given_secret + "\n")
+    return given_secret
 
 
-def secret_given(given: pathlib.Path, handed_in: Mapping[str, str]) -> str:
-    """The secret in a file. If results stand beside it, and a team has handed in
-    something else than then, it is another one: what the team was shown of its matches
-    is not to help it."""
-    said = grid.text_in(given).strip()
-    if len(said) < 16:
-        raise WrongFile(
-            f"{given}: a secret has at least 16 characters, or it could be guessed"
+def secret_given(secret_path: pathlib.Path, handed_in: Mapping[str, str]) -> str:
+    """Reads the secret from a file. If results beside the file record another hand-in of
+    a team, a new secret is drawn, and a line says so: the team has seen the matches that
+    the old one draws."""
+    secret = grid.text_in(secret_path).strip()
+    if len(secret) < 16:
+        raise FileFormatError(
+            f"{secret_path}: a secret has at least 16 characters, or it could be guessed"
         )
     before = (
-        tables.record_in(given.parent).get("files", {})
-        if (given.parent / tables.MADE).exists()
+        tables.record_in(secret_path.parent).get("files", {})
+        if (secret_path.parent / tables.RECORD_FILE).exists()
         else {}
     )
-    others = sorted(
+    changed_teams = sorted(
         name for name, digest in handed_in.items() if before.get(name, digest) != digest
     )
-    if not others:
-        return said
+    if not changed_teams:
+        return secret
     print(
-        f"arena-lab: {others[0]} has handed in something else than when {given} was drawn: all is drawn anew",
+        f"arena-lab: {changed_teams[0]} has handed in something else than when "
+        f"{secret_path} was drawn: all is drawn anew",
         file=sys.stderr,
     )
-    return CourseDraws(said).drawn("anew", *sorted(handed_in.items()))
+    return CourseDraws(secret).draw_digits("anew", *sorted(handed_in.items()))
 
 
 @functools.lru_cache(maxsize=4)
 def course_of(text: str, folder: pathlib.Path, secret: str) -> CourseFile:
     """The course that a text says, whose files are looked for in the folder."""
-    found = fields.table_of(text)
-    said = fields.values_of(found, FIELDS, "a course")
-    rows = fields.unlike(teams_in(said), "team")
+    table = fields.table_of(text)
+    values = fields.values_of(table, FIELDS, "a course")
+    rows = fields.unlike(teams_in(values), "team")
     files = {row["name"]: files_of(row[FILES], row["name"], folder) for row in rows}
     teams = [
         TeamRow(row["name"], row["agents"], agent_named(OUTSIDE, row[OUTSIDE]))
         for row in rows
     ]
-    drawn = CourseDraws(secret)
-    asked = conditions_in(text, found, said, teams, folder, drawn)
-    terms = terms_in(said, rows)
+    draws = CourseDraws(secret)
+    conditions = conditions_in(text, table, values, teams, folder, draws)
+    terms = terms_in(values, rows)
     limits = for_matches(
-        terms.limits, sum(1 for _ in asked.cases()) // len(teams), found
+        terms.limits, sum(1 for _ in conditions.cases()) // len(teams), table
     )
     return CourseFile(
-        asked,
+        conditions,
         files,
         terms._replace(limits=limits),
-        said["tries"],
-        points_in(said["points"], asked.grid),
+        values["tries"],
+        points_in(values["points"], conditions.grid),
     )
 
 
 def for_matches(
-    limits: ProgramLimits, matches: int, found: Dict[str, Any]
+    limits: ProgramLimits, matches: int, table: Dict[str, Any]
 ) -> ProgramLimits:
     """The limits where each team has this number of matches, as far as the file does
     not say what these may take."""
     time = (
         limits.team
-        if "team_limit" in found
+        if "team_limit" in table
         else max(limits.team, FOR_A_MATCH * matches)
     )
     space = (
         limits.team_space
-        if "team_space" in found
+        if "team_space" in table
         else max(limits.team_space, SPACE_FOR_A_MATCH * matches)
     )
     return limits._replace(team=time, team_space=space)
 
 
-def terms_in(said: Dict[str, Any], rows: Sequence[Dict[str, Any]]) -> Terms:
+def terms_in(values: Dict[str, Any], rows: Sequence[Dict[str, Any]]) -> Terms:
     """The terms that a file says, with these teams."""
     limits = (
-        said[name]
+        values[name]
         for name in ("limit", "match_limit", "team_limit", "match_space", "team_space")
     )
     return Terms(
         ProgramLimits(*limits),
         {row["name"]: row[OUTSIDE] for row in rows},
-        tools_of(said["tools"]),
-        said["proc"],
-        tuple(said["packages"]),
-        calls_of(said["calls"]),
+        tools_of(values["tools"]),
+        values["proc"],
+        tuple(values["packages"]),
+        calls_of(values["calls"]),
     )
 
 
@@ -310,18 +312,17 @@ def calls_of(names: List[str]) -> Tuple[str, ...]:
     for name in names:
         why = calls.never(name)
         if why:
-            raise WrongFile(f"calls has {name}, which no course may allow: {why}")
+            raise FileFormatError(f"calls has {name}, which no course may allow: {why}")
     return tuple(names)
 
 
 @functools.lru_cache(maxsize=4)
 def terms_of(text: str, matches: int) -> Terms:
-    """The terms of a course that has this text, in which each team has this number of
-    matches."""
-    found = fields.table_of(text)
-    said = fields.values_of(found, FIELDS, "a course")
-    terms = terms_in(said, teams_in(said))
-    return terms._replace(limits=for_matches(terms.limits, matches, found))
+    """Parses the terms of a course in which each team plays `matches` matches."""
+    table = fields.table_of(text)
+    values = fields.values_of(table, FIELDS, "a course")
+    terms = terms_in(values, teams_in(values))
+    return terms._replace(limits=for_matches(terms.limits, matches, table))
 
 
 def tools_of(names: List[str]) -> Tuple[str, ...]:
@@ -332,26 +333,26 @@ def tools_of(names: List[str]) -> Tuple[str, ...]:
             or not os.path.isdir(name)
             or len(pathlib.Path(name).parts) < 3
         ):
-            raise WrongFile(
+            raise FileFormatError(
                 f"tools has {name}, which is no folder that programs may see: write one like /opt/jdk-21"
             )
     return tuple(names)
 
 
-def teams_in(said: Dict[str, Any]) -> List[Dict[str, Any]]:
-    """What the tables of teams say."""
-    return [team_in({"agents": said["agents"], **row}) for row in said["team"]]
+def teams_in(values: Dict[str, Any]) -> List[Dict[str, Any]]:
+    """Parses the tables of all teams."""
+    return [team_in({"agents": values["agents"], **row}) for row in values["team"]]
 
 
 def team_in(row: Dict[str, Any]) -> Dict[str, Any]:
-    """What a team's table says."""
+    """Parses the table of a team."""
     of = f"given for team {row.get('name')}:"
-    said = fields.values_of(
+    values = fields.values_of(
         row,
         {
             "name": Field(
-                lambda it: isinstance(it, str)
-                and bool(re.fullmatch("[a-z0-9-]{1,16}", it)),
+                lambda value: isinstance(value, str)
+                and bool(re.fullmatch("[a-z0-9-]{1,16}", value)),
                 "given for each team, of 1 to 16 characters out of a to z, 0 to 9 and -",
             ),
             OUTSIDE: Field(
@@ -367,28 +368,28 @@ def team_in(row: Dict[str, Any]) -> Dict[str, Any]:
         },
         "a team of a course",
     )
-    check_command(said[OUTSIDE], said["name"])
-    return said
+    check_command(values[OUTSIDE], values["name"])
+    return values
 
 
 def check_command(command: str, team: str) -> None:
     """Refuses a command whose words cannot be filled in."""
     try:
         words = shlex.split(command)
-        said = " ".join(words).format(**{name: f"<{name}>" for name in WORDS})
+        command_text = " ".join(words).format(**{name: f"<{name}>" for name in WORDS})
     except (KeyError, IndexError, ValueError) as fault:
         why = (
             f"has {fault}"
             if isinstance(fault, KeyError)
             else f"cannot be read: {fault}"
         )
-        known = ", ".join(f"{{{name}}}" for name in WORDS)
-        raise WrongFile(
-            f"the command of team {team} {why}; it may have {known}, and a brace is written twice"
+        placeholders = ", ".join(f"{{{name}}}" for name in WORDS)
+        raise FileFormatError(
+            f"the command of team {team} {why}; it may have {placeholders}, and a brace is written twice"
         ) from None
-    for name in NEEDED if not is_module(command) else ():
-        if f"<{name}>" not in said:
-            raise WrongFile(
+    for name in NEEDED_KEYS if not is_module(command) else ():
+        if f"<{name}>" not in command_text:
+            raise FileFormatError(
                 f"the command of team {team} has no {{{name}}}: the program is to connect to {HOST} at "
                 "{port}, and to enter with {key}"
             )
@@ -396,11 +397,13 @@ def check_command(command: str, team: str) -> None:
 
 def files_of(names: List[str], team: str, folder: pathlib.Path) -> List[pathlib.Path]:
     """A team's files and folders."""
-    found = [folder / name for name in names]
-    for name, path in zip(names, found):
+    paths = [folder / name for name in names]
+    for name, path in zip(names, paths):
         if not path.exists():
-            raise WrongFile(f"files of team {team} has {name}, and there is no {path}")
-    return found
+            raise FileFormatError(
+                f"files of team {team} has {name}, and there is no {path}"
+            )
+    return paths
 
 
 def check_walls(
@@ -409,10 +412,12 @@ def check_walls(
     """Refuses a course and results that teams' programs could read in spite of the
     walls."""
     for path in paths:
-        seen = isolation.seen_at(path, tools) if strongest is Isolation.ALL else None
-        if seen:
-            raise WrongFile(
-                f"{path}: teams' programs see {seen}, to find what they run by: name a folder elsewhere"
+        visible_folder = (
+            isolation.seen_at(path, tools) if strongest is Isolation.ALL else None
+        )
+        if visible_folder:
+            raise FileFormatError(
+                f"{path}: teams' programs see {visible_folder}, to find what they run by: name a folder elsewhere"
             )
 
 
@@ -421,7 +426,7 @@ def check_networks(course: CourseFile) -> None:
     for name, network in course.grid.networks.items():
         cut = networks.cut_of(network)
         if cut:
-            raise WrongFile(
+            raise FileFormatError(
                 f"networks has {name}, which is not biconnected: {cut}; take another, as no team can solve "
                 "each match on it"
             )

@@ -23,26 +23,26 @@ AGENT = "agent.py"
 CLIENT = "client.py"
 FILE = "exercise.toml"
 COMMAND = f"python3 {AGENT} {{host}} {{port}} {{key}}"
-# an agent that is told how many nodes there are
-TOLD = f"{COMMAND} {{nodes}}"
+# command of an agent that receives the number of nodes
+TOLD_COMMAND = f"{COMMAND} {{nodes}}"
 # of several lines
-PROSE = Field(lambda it: isinstance(it, str), "a text")
+PROSE = Field(lambda value: isinstance(value, str), "a text")
 FIELDS = {
     "title": fields.TEXT,
     "text": PROSE,
     "hint": PROSE,
     "agents": fields.count(1),
     "nodes": fields.FLAG,
-    "agent": fields.TEXT._replace(usual=AGENT),
-    "solution": fields.TEXT._replace(usual="solution.py"),
-    "every": PROSE._replace(usual=""),
+    "agent": fields.TEXT._replace(default=AGENT),
+    "solution": fields.TEXT._replace(default="solution.py"),
+    "every": PROSE._replace(default=""),
     "match": fields.tables("match"),
 }
 MATCH = {
     "network": Field(is_text, 'given for each match, such as "ring:5"'),
-    "scheduler": fields.TEXT._replace(usual="fair"),
-    "seed": Field(lambda it: isinstance(it, int), "a whole number", 0),
-    "holes": Field(lambda it: isinstance(it, list), "a list of nodes", []),
+    "scheduler": fields.TEXT._replace(default="fair"),
+    "seed": Field(lambda value: isinstance(value, int), "a whole number", 0),
+    "holes": Field(lambda value: isinstance(value, list), "a list of nodes", []),
 }
 
 
@@ -77,7 +77,8 @@ class Exercise(NamedTuple):
         return EXERCISES / self.name
 
     def files(self) -> Dict[str, str]:
-        """What one begins with: the agent, and the client of the kit."""
+        """Returns the start files of an exercise by name: the agent, and the kit's
+        client."""
         agent = (self.folder / self.paths[0]).read_text(encoding="utf-8")
         client = (AGENTS / CLIENT).read_text(encoding="utf-8")
         return {AGENT: agent, CLIENT: client}
@@ -87,7 +88,7 @@ class Exercise(NamedTuple):
 
     def fixture(self, of: ExerciseMatch) -> Fixture:
         """One of its matches before it begins; its home base is node 0."""
-        network = networks.named(of.network)
+        network = networks.network_named(of.network)
         setup = Setup(
             network.nodes,
             network.links,
@@ -100,7 +101,7 @@ class Exercise(NamedTuple):
         return fixture_of(setup, of.seed)
 
     def praise(self) -> str:
-        """What is said of an answer that is right."""
+        """Returns the line that confirms a right answer."""
         count = len(self.matches)
         every = f", and under every schedule of {self.every}" if self.every else ""
         return (
@@ -108,11 +109,11 @@ class Exercise(NamedTuple):
         )
 
     def check(self, match: Match) -> List[str]:
-        """What is to be mended in a match that was played."""
-        found: Callable[[Match], List[str]] = member(
+        """Runs the exercise's own check on a finished match; returns its advice."""
+        check_match: Callable[[Match], List[str]] = member(
             str(self.folder / "check.py"), "check"
         )
-        return found(match)
+        return check_match(match)
 
 
 def exercises() -> Dict[str, Exercise]:
@@ -121,32 +122,32 @@ def exercises() -> Dict[str, Exercise]:
         (path.parent.name for path in EXERCISES.glob(f"*/{FILE}")),
         key=lambda name: int(name.partition("-")[0]),
     )
-    return {name: read(name) for name in names}
+    return {name: read_exercise(name) for name in names}
 
 
-def read(name: str) -> Exercise:
+def read_exercise(name: str) -> Exercise:
     """The exercise of a folder."""
     text = (EXERCISES / name / FILE).read_text(encoding="utf-8")
-    said = fields.values_of(fields.table_of(text), FIELDS, "an exercise")
+    values = fields.values_of(fields.table_of(text), FIELDS, "an exercise")
     matches = [
         ExerciseMatch(**fields.values_of(table, MATCH, "a match"))
-        for table in said["match"]
+        for table in values["match"]
     ]
     return Exercise(
         name,
-        said["title"],
-        " ".join(said["text"].split()),
-        " ".join(said["hint"].split()),
-        said["agents"],
-        TOLD if said["nodes"] else COMMAND,
+        values["title"],
+        " ".join(values["text"].split()),
+        " ".join(values["hint"].split()),
+        values["agents"],
+        TOLD_COMMAND if values["nodes"] else COMMAND,
         matches,
-        said["every"],
-        (said["agent"], said["solution"]),
+        values["every"],
+        (values["agent"], values["solution"]),
     )
 
 
-def done(match: Match, do: str, agent: Optional[int] = None) -> List[Object]:
-    """The events of a kind that were not refused, of one agent or of all."""
+def events_of(match: Match, do: str, agent: Optional[int] = None) -> List[Object]:
+    """Returns the accepted events of one kind, from one agent or from all."""
     return [
         event
         for event in match.log
@@ -158,5 +159,5 @@ def done(match: Match, do: str, agent: Optional[int] = None) -> List[Object]:
 
 
 def board_at_home(match: Match) -> str:
-    """What stands on the whiteboard of the home base in the end."""
+    """Returns the final text on the whiteboard of the home base."""
     return str(match.boards[match.setup.home])

@@ -16,7 +16,7 @@ from typing import Dict, List, Mapping, NamedTuple, Optional, Sequence, Tuple
 
 from arena_lab.course import league
 from arena_lab.course.points import Mark, Points, number, text
-from arena_lab.support.fields import WrongFile
+from arena_lab.support.fields import FileFormatError
 from arena_lab.sweep.report import is_solved
 from arena_lab.sweep.tables import line_of
 
@@ -28,29 +28,28 @@ KINDS = (GRADESCOPE, MOODLE, JUNIT, CSV)
 STUDENTS = "students.csv"
 # of each column of students how Moodle calls it
 IDENTITIES = {"idnumber": "ID number", "email": "Email address"}
-# what no document of XML may have
+# characters that XML forbids
 NO_XML = re.compile("[^\t\n\r\u0020-\ud7ff\ue000-\ufffd\U00010000-\U0010ffff]")
 
 
 class Marks(NamedTuple):
-    """What is exported: the course's title, how points are given, of each team the
-    points of its matches, in the order of the league, and of each match what is said of
-    lines that were refused."""
+    """The data to export: title, grading scheme, each team's marks in league order, and
+    the messages about rejected lines of each match."""
 
     title: str
     points: Points
     teams: Mapping[str, List[Mark]]
-    refused: league.Refused
+    refusals: league.Refusals
 
-    def said(self, mark: Mark) -> str:
-        """What a student is told of a match."""
+    def mark_text(self, mark: Mark) -> str:
+        """Returns the feedback on a match for a student."""
         row = mark.row
-        came = league.came(row["outcome"], row["moves"], row["lost"])
-        return "\n".join([came, *mark.why, *self.refused.get(mark.number, ())])
+        outcome = league.outcome_text(row["outcome"], row["moves"], row["lost"])
+        return "\n".join([outcome, *mark.why, *self.refusals.get(mark.number, ())])
 
 
 class Student(NamedTuple):
-    """A student: by which column a gradebook knows one, and by what."""
+    """A student, identified by the value of a gradebook column (`column`, `name`)."""
 
     column: str
     name: str
@@ -58,88 +57,87 @@ class Student(NamedTuple):
 
 
 def in_all(marks: Sequence[Mark]) -> Tuple[int, int]:
-    """The points of a team, and the most that it could have."""
-    return sum(it.score for it in marks), sum(it.most for it in marks)
+    """Sums a team's points, and the maximum that it could have reached."""
+    return sum(mark.score for mark in marks), sum(mark.most for mark in marks)
 
 
 def summary(marks: Sequence[Mark]) -> str:
-    """What a team has, in a line."""
-    (score, most) = in_all(marks)
-    solved = sum(is_solved(it.row) for it in marks)
-    return (
-        f"{solved} of {len(marks)} matches solved, {text(score)} of {text(most)} points"
-    )
+    """Summarises a team's marks in one line."""
+    (score, max_score) = in_all(marks)
+    solved_count = sum(is_solved(mark.row) for mark in marks)
+    return f"{solved_count} of {len(marks)} matches solved, {text(score)} of {text(max_score)} points"
 
 
 def students_in(path: pathlib.Path, teams: Sequence[str]) -> List[Student]:
-    """The students of a file, each of a team of the course."""
+    """Reads the students of a file. Raises an error if a student's team is not in the
+    course."""
     try:
         with path.open(encoding="utf-8-sig", newline="") as file:
             rows = list(csv.DictReader(file))
             heads = [name for name in IDENTITIES if rows and name in rows[0]]
     except FileNotFoundError:
-        raise WrongFile(
+        raise FileFormatError(
             f"{path}: there is no such file; write a table with the columns team and idnumber or email, or "
             "name one by --students"
         ) from None
     except (UnicodeDecodeError, csv.Error) as fault:
-        raise WrongFile(f"{path}: it is no CSV in UTF-8: {fault}") from None
+        raise FileFormatError(f"{path}: it is no CSV in UTF-8: {fault}") from None
     if not heads or "team" not in rows[0]:
-        raise WrongFile(
+        raise FileFormatError(
             f"{path}: its first line must have the columns team and idnumber or email, and a student "
             "follow"
         )
-    found = [
+    students = [
         Student(heads[0], (row[heads[0]] or "").strip(), (row["team"] or "").strip())
         for row in rows
     ]
-    names = [it.name for it in found]
-    for line, it in enumerate(found, 2):
-        if it.team not in teams:
-            raise WrongFile(
-                f"{path}: line {line} has team {it.team}, which the course does not have"
+    names = [student.name for student in students]
+    for line, student in enumerate(students, 2):
+        if student.team not in teams:
+            raise FileFormatError(
+                f"{path}: line {line} has team {student.team}, which the course does not have"
             )
-        if not it.name or names.count(it.name) > 1:
-            raise WrongFile(f"{path}: line {line} has no {heads[0]} of its own")
-    return found
+        if not student.name or names.count(student.name) > 1:
+            raise FileFormatError(f"{path}: line {line} has no {heads[0]} of its own")
+    return students
 
 
 def gradescope(marks: Marks, team: str) -> str:
     """The `results.json` of an autograder."""
-    own = marks.teams[team]
-    solved = [it for it in own if is_solved(it.row)]
+    marks_of_team = marks.teams[team]
+    solved_marks = [mark for mark in marks_of_team if is_solved(mark.row)]
     tests = [
         {
-            "name": it.name(),
-            "number": str(it.number),
-            "score": number(it.score),
-            "max_score": number(it.most),
-            "status": "passed" if is_solved(it.row) else "failed",
-            "output": marks.said(it),
+            "name": mark.name(),
+            "number": str(mark.number),
+            "score": number(mark.score),
+            "max_score": number(mark.most),
+            "status": "passed" if is_solved(mark.row) else "failed",
+            "output": marks.mark_text(mark),
             "output_format": "text",
             "visibility": marks.points.visibility,
         }
-        for it in own
+        for mark in marks_of_team
     ]
     board = [
-        {"name": "points", "value": number(in_all(own)[0])},
-        {"name": "solved", "value": len(solved)},
+        {"name": "points", "value": number(in_all(marks_of_team)[0])},
+        {"name": "solved", "value": len(solved_marks)},
         {
             "name": "moves",
-            "value": sum(int(it.row["moves"]) for it in solved),
+            "value": sum(int(mark.row["moves"]) for mark in solved_marks),
             "order": "asc",
         },
         {
             "name": "lost",
-            "value": sum(int(it.row["lost"]) for it in solved),
+            "value": sum(int(mark.row["lost"]) for mark in solved_marks),
             "order": "asc",
         },
     ]
     return (
         json.dumps(
             {
-                "score": number(in_all(own)[0]),
-                "output": summary(own),
+                "score": number(in_all(marks_of_team)[0]),
+                "output": summary(marks_of_team),
                 "output_format": "text",
                 "visibility": marks.points.visibility,
                 "stdout_visibility": "hidden",
@@ -158,11 +156,11 @@ def moodle(marks: Marks, students: Sequence[Student]) -> str:
     head = [IDENTITIES[students[0].column], f"{item} (Real)", f"{item} (Feedback)"]
     rows = [
         [
-            it.name,
-            text(in_all(marks.teams[it.team])[0]),
-            f"team {it.team}: {summary(marks.teams[it.team])}",
+            student.name,
+            text(in_all(marks.teams[student.team])[0]),
+            f"team {student.team}: {summary(marks.teams[student.team])}",
         ]
-        for it in students
+        for student in students
     ]
     return "".join(map(line_of, [head, *rows]))
 
@@ -170,37 +168,45 @@ def moodle(marks: Marks, students: Sequence[Student]) -> str:
 def junit(marks: Marks) -> str:
     """A document of JUnit: a suite for each team, and a test for each match."""
     root = ElementTree.Element("testsuites", name=as_xml(marks.title))
-    for team, own in marks.teams.items():
-        unplayed = [it for it in own if it.row["outcome"] == league.UNPLAYED]
-        failed = [it for it in own if not is_solved(it.row) and it not in unplayed]
+    for team, team_marks in marks.teams.items():
+        unplayed_marks = [
+            mark for mark in team_marks if mark.row["outcome"] == league.UNPLAYED
+        ]
+        failed_marks = [
+            mark
+            for mark in team_marks
+            if not is_solved(mark.row) and mark not in unplayed_marks
+        ]
         suite = ElementTree.SubElement(
             root,
             "testsuite",
             name=team,
-            tests=str(len(own)),
-            failures=str(len(failed)),
-            errors=str(len(unplayed)),
+            tests=str(len(team_marks)),
+            failures=str(len(failed_marks)),
+            errors=str(len(unplayed_marks)),
             skipped="0",
         )
-        for it in own:
+        for mark in team_marks:
             case = ElementTree.SubElement(
                 suite,
                 "testcase",
-                classname=f"{team}.{it.row['network']}",
-                name=as_xml(it.name()),
+                classname=f"{team}.{mark.row['network']}",
+                name=as_xml(mark.name()),
             )
-            if not is_solved(it.row):
-                kind = league.kind_of(it.row)
-                said = as_xml(marks.said(it))
+            if not is_solved(mark.row):
+                kind = league.kind_of(mark.row)
+                text = as_xml(marks.mark_text(mark))
                 node = ElementTree.SubElement(
                     case,
-                    "error" if it in unplayed else "failure",
-                    message=said.split("\n")[0],
+                    "error" if mark in unplayed_marks else "failure",
+                    message=text.split("\n")[0],
                     type=kind,
                 )
-                node.text = said
-            elif marks.said(it):
-                ElementTree.SubElement(case, "system-out").text = as_xml(marks.said(it))
+                node.text = text
+            elif marks.mark_text(mark):
+                ElementTree.SubElement(case, "system-out").text = as_xml(
+                    marks.mark_text(mark)
+                )
     ElementTree.indent(root, " ")
     return (
         '<?xml version="1.0" encoding="UTF-8"?>\n'
@@ -209,47 +215,46 @@ def junit(marks: Marks) -> str:
     )
 
 
-def as_xml(said: str) -> str:
-    """A text without what no document of XML may have."""
-    return NO_XML.sub("\ufffd", said)
+def as_xml(text: str) -> str:
+    """Replaces characters that XML forbids."""
+    return NO_XML.sub("\ufffd", text)
 
 
 def table(marks: Marks) -> str:
     """A row for each team: its points, the most, and those on each network."""
     names = list(marks.points.networks)
     rows: List[Sequence[str]] = [["team", "points", "most", *names]]
-    for team, own in marks.teams.items():
-        score, most = in_all(own)
+    for team, team_marks in marks.teams.items():
+        score, max_score = in_all(team_marks)
         each = [
-            text(sum(it.score for it in own if it.row["network"] == name))
+            text(sum(mark.score for mark in team_marks if mark.row["network"] == name))
             for name in names
         ]
-        rows.append([team, text(score), text(most), *each])
+        rows.append([team, text(score), text(max_score), *each])
     return "".join(map(line_of, rows))
 
 
 class Export(NamedTuple):
-    """What is to be exported, and the students of the teams if a gradebook needs
-    them."""
+    """The export formats requested, and the students if a gradebook needs them."""
 
     kinds: Sequence[str] = ()
     students: Sequence[Student] = ()
 
     def files(self, marks: Marks) -> Dict[str, str]:
         """The texts of the files, by their names."""
-        found: Dict[str, str] = {}
+        texts: Dict[str, str] = {}
         if GRADESCOPE in self.kinds:
-            found.update(
+            texts.update(
                 (f"gradescope-{team}.json", gradescope(marks, team))
                 for team in marks.teams
             )
         if MOODLE in self.kinds:
-            found["moodle.csv"] = moodle(marks, self.students)
+            texts["moodle.csv"] = moodle(marks, self.students)
         if JUNIT in self.kinds:
-            found["junit.xml"] = junit(marks)
+            texts["junit.xml"] = junit(marks)
         if CSV in self.kinds:
-            found["points.csv"] = table(marks)
-        return found
+            texts["points.csv"] = table(marks)
+        return texts
 
 
 def export_of(
@@ -258,8 +263,8 @@ def export_of(
     folder: pathlib.Path,
     teams: Sequence[str],
 ) -> Export:
-    """What a command's words ask for."""
-    wanted = tuple(dict.fromkeys(kinds or ()))
-    if MOODLE not in wanted:
-        return Export(wanted)
-    return Export(wanted, students_in(students or folder / STUDENTS, teams))
+    """Returns the export that the arguments ask for."""
+    fromkeys = tuple(dict.fromkeys(kinds or ()))
+    if MOODLE not in fromkeys:
+        return Export(fromkeys)
+    return Export(fromkeys, students_in(students or folder / STUDENTS, teams))

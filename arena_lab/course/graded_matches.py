@@ -26,16 +26,16 @@ from arena_lab.sweep import sweeping, tables
 from arena_lab.sweep.grid import Case
 
 # a program that hangs again is waited for this many times less
-HURRIED = 4
+HURRY_FACTOR = 4
 # of a failed match what came of it, a fact a line
-TOLD = "told.txt"
+REPORT_NAME = "told.txt"
 TEAM_OF = operator.attrgetter("team.name")
 
 
 class GradingRun(NamedTuple):
-    """What plays a course's matches: the text of its file, its folder and its secret,
-    the program or None for the Python model, what keeps programs apart, and where
-    results are written. Workers are sent it."""
+    """Plays the matches of a course: text of the file, folder, secret, program (None
+    for the Python model), sandbox options, and folder of results. Workers receive a
+    copy."""
 
     text: str
     folder: pathlib.Path
@@ -49,8 +49,8 @@ class GradingRun(NamedTuple):
     # whether the machine is to forget what it keeps of files before agents are repeated
     forgets: bool = False
     export: Export = Export()
-    # whether a program is not waited for as long, as others of its team have hung on
-    # the same network
+    # true if programs of this team have hung on the same network: the time limit is
+    # then shorter
     is_hurried: bool = False
 
     @property
@@ -71,46 +71,46 @@ class GradingRun(NamedTuple):
             raise
         except Exception as fault:
             # whatever a team has brought about, other teams are graded
-            row = unplayed(
+            row = unplayed_row(
                 self.course, case, f"{league.LAB_FAILED}: {in_a_line(fault)}"
             )
         return TimedResult(
             row,
             time.monotonic() - began,
-            size_of(self.place(case)) + size_of(self.replay_of(case)),
+            size_of(self.match_folder(case)) + size_of(self.replay_of(case)),
         )
 
     def _row(self, case: Case) -> List[str]:
-        schedule, played = self.match(
+        schedule, match = self.match(
             case,
             self.conditions.scheduler(case),
             self.program,
         )
-        row = sweeping.row_for(case, schedule, played, self.program)
-        place = self.place(case)
-        sandboxes.remove(place)
-        if played.has_failed() or tables.row_of(row)["outcome"] != SOLVED:
-            kept_matches.write_find(place, schedule, played, self.program)
-            (place / TOLD).write_text(
-                "\n".join(referee.told(played.match, played.faults)), encoding="utf-8"
+        row = sweeping.row_for(case, schedule, match, self.program)
+        path = self.match_folder(case)
+        sandboxes.remove(path)
+        if match.has_failed() or tables.row_of(row)["outcome"] != SOLVED:
+            kept_matches.write_find(path, schedule, match, self.program)
+            (path / REPORT_NAME).write_text(
+                "\n".join(referee.report(match.match, match.faults)), encoding="utf-8"
             )
         else:
             self.replay_of(case).parent.mkdir(exist_ok=True)
-            self.replay_of(case).write_bytes(played.replay)
+            self.replay_of(case).write_bytes(match.replay)
             kept_matches.write_refused(
-                rounds.refused_of(self.out, case.team.name, case.number), played
+                rounds.refused_of(self.out, case.team.name, case.number), match
             )
         return row
 
-    def refused(self, case: Case) -> List[str]:
-        """What is said of the lines of a match that were refused."""
-        solved = rounds.refused_of(self.out, case.team.name, case.number)
+    def refusals(self, case: Case) -> List[str]:
+        """Returns the messages about rejected lines of a match."""
+        path = rounds.refused_of(self.out, case.team.name, case.number)
         return kept_matches.lines_in(
-            self.place(case) / kept_matches.REFUSED
-        ) or kept_matches.lines_in(solved)
+            self.match_folder(case) / kept_matches.REFUSED_FILE
+        ) or kept_matches.lines_in(path)
 
     def repeating(self) -> Repeating:
-        """What repeats agents of solved matches."""
+        """Returns the job that repeats agents of solved matches."""
         return Repeating(
             self.out,
             self.text,
@@ -127,23 +127,23 @@ class GradingRun(NamedTuple):
             **(digests([self.program]) if self.program else {}),
         }
 
-    def place(self, case: Case) -> pathlib.Path:
-        """Where a failed match is written."""
+    def match_folder(self, case: Case) -> pathlib.Path:
+        """Returns the folder of a failed match."""
         return self.out / league.folder_of(case.team.name, case.number)
 
     def replay_of(self, case: Case) -> pathlib.Path:
-        """Where the replay of a solved match is written."""
+        """Returns the path of a solved match's replay."""
         return rounds.replay_of(self.out, case.team.name, case.number)
 
     def hand_in(self, team: str) -> HandIn:
-        """What a team has handed in, which is read once."""
+        """Returns the hand-in of a team, which is read once."""
         self._take(team)
         return intake.hand_in_of(self.out, team)
 
     def _take(self, team: str) -> HandInRecord:
-        """What is known of a team's hand-in."""
+        """Reads a team's hand-in, or its stored record."""
         return (
-            intake.taken(self.out, team)
+            intake.record_of(self.out, team)
             if intake.is_kept(self.out, team)
             else taken_anew(self.out, self.course, team)
         )
@@ -166,7 +166,9 @@ class GradingRun(NamedTuple):
             self.sandbox, handed_in, words, fixture.setup, len(agents)
         ) as grounds:
             commands = {number: agent.words for number, agent in enumerate(agents)}
-            line = max(1, limits.line // HURRIED) if self.is_hurried else limits.line
+            line = (
+                max(1, limits.line // HURRY_FACTOR) if self.is_hurried else limits.line
+            )
             team = programs.Team(
                 fixture,
                 commands,
@@ -175,45 +177,47 @@ class GradingRun(NamedTuple):
                 limits.match,
                 room=limits.match_space << 20,
             )
-            played = play(
+            match = play(
                 kept_matches.engine_of(empty, program), team, scheduler, fixture
             )
-        return empty._replace(choices=played.choices), played
+        return empty._replace(choices=match.choices), match
 
 
 def size_of(path: pathlib.Path) -> int:
-    """The bytes of a file, or of all files in a folder."""
+    """Returns the bytes of a file, or of all files below a folder."""
     return sum(
-        it.stat().st_size
-        for it in ([path] if path.is_file() else path.rglob("*"))
-        if it.is_file()
+        file.stat().st_size
+        for file in ([path] if path.is_file() else path.rglob("*"))
+        if file.is_file()
     )
 
 
-def written(out: pathlib.Path, cases: Sequence[Case]) -> Dict[str, float]:
-    """How many MB were written of the matches of each team before."""
-    found: Dict[str, float] = {}
+def written_megabytes(out: pathlib.Path, cases: Sequence[Case]) -> Dict[str, float]:
+    """Returns how many MB were written of the matches of each team before."""
+    megabytes: Dict[str, float] = {}
     for case in cases:
         places = [
             out / league.folder_of(case.team.name, case.number),
             rounds.replay_of(out, case.team.name, case.number),
         ]
-        found[case.team.name] = found.get(case.team.name, 0.0) + sum(
+        megabytes[case.team.name] = megabytes.get(case.team.name, 0.0) + sum(
             map(size_of, places)
         ) / (1 << 20)
-    return found
+    return megabytes
 
 
-def unplayed(played: CourseFile, case: Case, fault: str) -> List[str]:
-    """The row of a match that was not played."""
+def unplayed_row(course: CourseFile, case: Case, fault: str) -> List[str]:
+    """Returns the result row of a match that was skipped."""
     return sweeping.cells_for(
         case,
-        played.conditions.fixture(case),
+        course.conditions.fixture(case),
         Summary(Verdict(league.UNPLAYED, 0, 0), faults=[fault]),
     )
 
 
-def taken_anew(out: pathlib.Path, asked: CourseFile, team: str) -> HandInRecord:
+def taken_anew(out: pathlib.Path, course: CourseFile, team: str) -> HandInRecord:
     """Reads what a team hands in now, and keeps it in a folder."""
-    words = next(it.words.words for it in asked.grid.teams if it.name == team)
-    return intake.take(out, team, asked.files[team], asked.conditions.folder, words)
+    words = next(
+        team_row.words.words for team_row in course.grid.teams if team_row.name == team
+    )
+    return intake.take(out, team, course.files[team], course.conditions.folder, words)

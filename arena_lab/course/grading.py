@@ -18,18 +18,18 @@ from arena_lab.course.graded_matches import (
     TEAM_OF,
     GradingRun,
     taken_anew,
-    unplayed,
-    written,
+    unplayed_row,
+    written_megabytes,
 )
-from arena_lab.course.league import Refused, LeagueRow
+from arena_lab.course.league import Refusals, LeagueRow
 from arena_lab.course.points import marks
-from arena_lab.course.pool import Budget, Limited, in_time
+from arena_lab.course.pool import Budget, LimitedJob, in_time
 from arena_lab.pages import page
 from arena_lab.play.parallel import Result
 from arena_lab.rules.engines import name_of
 from arena_lab.sandbox import sandboxes, isolation
 from arena_lab.sandbox.sandboxes import Isolation
-from arena_lab.support.missing import Missing
+from arena_lab.support.missing import MissingPackageError
 from arena_lab.sweep import report, sweeping, tables
 from arena_lab.sweep.grid import Case
 from arena_lab.sweep.report import Row
@@ -39,37 +39,37 @@ REPEATS = "repeats.csv"
 REPEATS_HEAD = ("run", "team", "fault")
 
 
-def graded_in(graded: GradingRun, workers: int, digests: Dict[str, str]) -> int:
+def graded_in(grading: GradingRun, workers: int, digests: Dict[str, str]) -> int:
     """Plays the matches that are not done yet, and writes everything. `digests` are the
     SHA-256 of the teams' files."""
-    made = {
-        **tables.made_by(graded.program),
-        "course": hashlib.sha256(graded.text.encode()).hexdigest(),
-        "files": {**graded.course.digests(), **digests},
+    record = {
+        **tables.made_by(grading.program),
+        "course": hashlib.sha256(grading.text.encode()).hexdigest(),
+        "files": {**grading.course.digests(), **digests},
     }
-    done = tables.prepared(graded.out, made)
-    (graded.out / intake.COURSE).write_text(graded.text, encoding="utf-8")
-    cases = graded.course.cases()
-    commands = [team.words.words for team in graded.course.grid.teams]
+    done_count = tables.prepare_table(grading.out, record)
+    (grading.out / intake.COURSE).write_text(grading.text, encoding="utf-8")
+    cases = grading.course.cases()
+    commands = [team.words.words for team in grading.course.grid.teams]
     try:
-        with sandboxes.furnished(
-            graded.sandbox, commands, graded.course.terms.packages
+        with sandboxes.furnish(
+            grading.sandbox, commands, grading.course.terms.packages
         ) as sandbox:
-            graded = graded._replace(sandbox=sandbox)
-            prepare(graded)
-            budget = budget_of(graded, cases)
-            left = cases[done:]
-            hangs = Hangs(cases, tables.rows_in(graded.out / tables.RUNS))
+            grading = grading._replace(sandbox=sandbox)
+            prepare(grading)
+            budget = budget_of(grading, cases)
+            remaining_cases = cases[done_count:]
+            hangs = Hangs(cases, tables.rows_in(grading.out / tables.RUNS))
             sweeping.write_rows(
-                played_in_time(graded, left, workers, budget, hangs),
-                len(left),
-                graded.out,
+                played_in_time(grading, remaining_cases, workers, budget, hangs),
+                len(remaining_cases),
+                grading.out,
             )
-            status = write_results(graded, cases, workers, budget)
-        tell_changes(digests, hand_ins(graded.out, graded.course))
+            status = write_results(grading, cases, workers, budget)
+        tell_changes(digests, hand_ins(grading.out, grading.course))
         return status
     except KeyboardInterrupt:
-        count = tables.done_in(graded.out / tables.RUNS)
+        count = tables.done_in(grading.out / tables.RUNS)
         print(
             f"interrupted; {count} of {len(cases)} matches are played: the same command goes on there"
         )
@@ -88,44 +88,45 @@ def tell_changes(before: Dict[str, str], now: Dict[str, str]) -> None:
             )
 
 
-def budget_of(graded: GradingRun, cases: Sequence[Case]) -> Budget:
+def budget_of(grading: GradingRun, cases: Sequence[Case]) -> Budget:
     """The time and the space that teams have for their matches."""
-    limits = graded.course.terms.limits
+    limits = grading.course.terms.limits
     names = {case.team.name for case in cases}
     return Budget(
         limits.team,
         dict.fromkeys(names, 0.0),
         limits.team_space,
-        written(graded.out, cases),
+        written_megabytes(grading.out, cases),
     )
 
 
-def hand_ins(out: pathlib.Path, asked: CourseFile) -> Dict[str, str]:
+def hand_ins(out: pathlib.Path, course: CourseFile) -> Dict[str, str]:
     """Reads what all teams hand in; gives the digest of each. What was read at the
     first run is kept."""
-    is_first = not (out / tables.MADE).exists()
+    is_first = not (out / tables.RECORD_FILE).exists()
 
     def digest(name: str) -> str:
         if is_first or not intake.is_kept(out, name):
-            return taken_anew(out, asked, name).digest
+            return taken_anew(out, course, name).digest
         with tempfile.TemporaryDirectory() as again:
-            return taken_anew(pathlib.Path(again), asked, name).digest
+            return taken_anew(pathlib.Path(again), course, name).digest
 
     with concurrent.futures.ThreadPoolExecutor() as readers:
         return {
-            intake.TEAM + name: found
-            for name, found in zip(asked.files, readers.map(digest, asked.files))
+            intake.TEAM + name: record
+            for name, record in zip(course.files, readers.map(digest, course.files))
         }
 
 
-def prepare(graded: GradingRun) -> None:
-    """Does once what each process that plays would do: they are copies of this one."""
-    if graded.sandbox.isolation is Isolation.ALL:
+def prepare(grading: GradingRun) -> None:
+    """Computes cached values before the worker processes are forked, so that they
+    inherit them."""
+    if grading.sandbox.isolation is Isolation.ALL:
         isolation.words(
-            graded.sandbox.tools, graded.sandbox.has_proc, graded.sandbox.root
+            grading.sandbox.tools, grading.sandbox.has_proc, grading.sandbox.root
         )
-    for network in graded.course.grid.networks.values():
-        with contextlib.suppress(Missing):
+    for network in grading.course.grid.networks.values():
+        with contextlib.suppress(MissingPackageError):
             page.layout({"nodes": network.nodes, "links": network.links})
 
 
@@ -133,7 +134,7 @@ class Hangs:
     """How often teams have hung on each network, each time by the same fault."""
 
     def __init__(self, cases: Sequence[Case], rows: Sequence[Row]) -> None:
-        """With what is known of these cases, of a run that was interrupted."""
+        """Starts with the known rows of an interrupted run."""
         self._count: Dict[Tuple[str, str, str], int] = {}
         for case, row in zip(cases, rows):
             self._note(case, row)
@@ -143,7 +144,8 @@ class Hangs:
         self._note(case, tables.row_of(cells))
 
     def are_many(self, case: Case) -> bool:
-        """Whether the team has hung twice alike on the network of this match."""
+        """Returns whether the team has hung twice alike on the network of this
+        match."""
         return any(
             count >= 2
             for (team, network, _), count in self._count.items()
@@ -157,57 +159,64 @@ class Hangs:
 
 
 def played_in_time(
-    graded: GradingRun, left: Sequence[Case], workers: int, budget: Budget, hangs: Hangs
+    grading: GradingRun,
+    cases: Sequence[Case],
+    workers: int,
+    budget: Budget,
+    hangs: Hangs,
 ) -> Iterator[Result]:
     """The rows of matches. After the second equal hang of a team its other matches on
     that network are not waited for as long."""
 
     def job_of(case: Case) -> GradingRun:
-        return graded._replace(is_hurried=hangs.are_many(case))
+        return grading._replace(is_hurried=hangs.are_many(case))
 
     def instead(case: Case) -> List[str]:
-        return unplayed(
-            graded.course, case, f"{league.UNPLAYED}: {budget.says(case.team.name)}"
+        return unplayed_row(
+            grading.course, case, f"{league.UNPLAYED}: {budget.says(case.team.name)}"
         )
 
     return in_time(
-        graded, left, workers, Limited(budget, TEAM_OF, instead, job_of, hangs.note)
+        grading,
+        cases,
+        workers,
+        LimitedJob(budget, TEAM_OF, instead, job_of, hangs.note),
     )
 
 
 def write_results(
-    graded: GradingRun, cases: List[Case], workers: int, budget: Budget
+    grading: GradingRun, cases: List[Case], workers: int, budget: Budget
 ) -> int:
     """Makes the schedules of failed matches small, and writes the table and the
     pages."""
-    rows = tables.rows_in(graded.out / tables.RUNS)
-    repeat_all(graded, rows, workers)
+    rows = tables.rows_in(grading.out / tables.RUNS)
+    repeat_all(grading, rows, workers)
     failures = cut_down(
-        graded,
+        grading,
         [cases[int(row["run"])] for row in rows if not report.is_solved(row)],
         rows,
         workers,
         budget,
     )
-    engine = name_of(graded.program)
+    engine = name_of(grading.program)
     standings = league.standings_of(
-        rows, [team.name for team in graded.course.grid.teams]
+        rows, [team.name for team in grading.course.grid.teams]
     )
-    (graded.out / league.TABLE).write_text(
+    (grading.out / league.TABLE).write_text(
         "".join(map(tables.line_of, league.table(standings))), encoding="utf-8"
     )
-    refused = {case.number: graded.refused(case) for case in cases}
+    refusals = {case.number: grading.refusals(case) for case in cases}
     for name, text in league.pages(
-        graded.course.grid, rows, failures, engine, refused
+        grading.course.grid, rows, failures, engine, refusals
     ).items():
-        (graded.out / name).write_text(text, encoding="utf-8")
-    export(graded, rows, standings, refused)
+        (grading.out / name).write_text(text, encoding="utf-8")
+    export(grading, rows, standings, refusals)
     print(league.text_of(standings), end="")
     print(
         f"{len(rows)} matches on {engine}; solved {len(rows) - len(failures)}; failed {len(failures)}"
     )
     print(
-        f"read {graded.out / league.PAGE}; the rows are in {graded.out / tables.RUNS}"
+        f"read {grading.out / league.PAGE}; the rows are in {grading.out / tables.RUNS}"
     )
     broken = [
         row["run"]
@@ -223,44 +232,56 @@ def write_results(
 
 
 def export(
-    graded: GradingRun,
+    grading: GradingRun,
     rows: List[Row],
     standings: Sequence[LeagueRow],
-    refused: Refused,
+    refusals: Refusals,
 ) -> None:
     """Writes the points of all teams for gradebooks, as far as that is asked for."""
-    played = graded.course
-    if played.points is None:
+    course = grading.course
+    if course.points is None:
         return
     teams = {
-        it.team: marks(played.points, [row for row in rows if row["team"] == it.team])
-        for it in standings
+        standing.team: marks(
+            course.points, [row for row in rows if row["team"] == standing.team]
+        )
+        for standing in standings
     }
-    for name, text in graded.export.files(
-        Marks(played.grid.title, played.points, teams, refused)
+    for name, text in grading.export.files(
+        Marks(course.grid.title, course.points, teams, refusals)
     ).items():
-        (graded.out / name).write_text(text, encoding="utf-8")
-        print(f"for a gradebook: {graded.out / name}")
+        (grading.out / name).write_text(text, encoding="utf-8")
+        print(f"for a gradebook: {grading.out / name}")
 
 
-def repeat_all(graded: GradingRun, rows: List[Row], workers: int) -> None:
+def repeat_all(grading: GradingRun, rows: List[Row], workers: int) -> None:
     """Repeats the solved matches, writes what came of that, and notes a fault in the
     row of each that does not repeat. The file of rows keeps how they were played."""
-    path = graded.out / REPEATS
+    path = grading.out / REPEATS
     path.unlink(missing_ok=True)
-    if not graded.repeats:
+    if not grading.repeats:
         return
-    solved = rounds.solved_in(rows)
-    found = rounds.repeated(
-        graded.repeating(), solved, workers, random.Random(f"rounds of {graded.secret}")
+    matches = rounds.solved_in(rows)
+    differences = rounds.repeat_agents(
+        grading.repeating(),
+        matches,
+        workers,
+        random.Random(f"rounds of {grading.secret}"),
     )
     lines = [
         REPEATS_HEAD,
-        *((str(it.number), it.team, found.get(it.number, "")) for it in solved),
+        *(
+            (str(match.number), match.team, differences.get(match.number, ""))
+            for match in matches
+        ),
     ]
     path.write_text("".join(map(tables.line_of, lines)), encoding="utf-8")
-    for number, said in found.items():
-        rows[number] = {**rows[number], "fault": said, report.FAULTS: [said]}
+    for number, difference in differences.items():
+        rows[number] = {
+            **rows[number],
+            "fault": difference,
+            report.FAULTS: [difference],
+        }
 
 
 def not_counted_in(out: pathlib.Path) -> Set[int]:

@@ -17,9 +17,8 @@ from arena_lab.sandbox.sandboxes import ProgramFiles, SandboxOptions, sandboxes_
 def grounds_of(
     options: SandboxOptions, handed_in: HandIn, words: str, setup: Setup, count: int
 ) -> Iterator[Sequence[Ground]]:
-    """Where this number of a team's programs run, which these words start: each in a
-    sandbox, unless their hand-in is refused. A module needs no sandbox for its
-    player."""
+    """Yields the grounds of `count` programs of a team: a sandbox each, unless the
+    hand-in is refused. The player of a module needs no sandbox."""
     if handed_in.refusal:
         yield [Nowhere(f"the hand-in is refused: {handed_in.refusal}")] * count
         return
@@ -29,13 +28,13 @@ def grounds_of(
             handed_in.write_file(file_in(words), pathlib.Path(folder))
             yield [LocalRunner(folder)] * count
         return
-    with sandboxes_for(options, files_of(handed_in, words, setup), count) as made:
-        yield made
+    with sandboxes_for(options, files_of(handed_in, words, setup), count) as sandboxes:
+        yield sandboxes
 
 
 def files_of(handed_in: HandIn, words: str, setup: Setup) -> ProgramFiles:
-    """What a program that these words start has in a match: its files, and the match's
-    network if the words name it."""
+    """Returns the files visible to a program in a match: those of the hand-in, and the
+    network file if the words name it."""
     files: Dict[str, bytes] = {}
     if "{network}" in words:
         network = networks.Network(setup.nodes, setup.links)

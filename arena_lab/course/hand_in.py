@@ -1,5 +1,5 @@
-"""What a team hands in: files and folders, read once and kept as an archive. Each of
-its programs has a copy.
+"""Reads the files and folders of a hand-in once, and keeps them as an archive. Each
+program of the team gets its own copy.
 
 No link is followed, as what it leads to may be another's: a link is handed in as a
 link. What is neither file, folder nor link is left out. A hand-in has bounds, and one
@@ -19,14 +19,14 @@ from typing import Dict, Iterator, NamedTuple, Optional, Sequence, Tuple
 
 from arena_lab.play.imports import SUFFIX, files_behind
 
-MOST_BYTES = 32 << 20
-MOST_FILES = 2_000
-MOST_DEPTH = 32
+MAX_BYTES = 32 << 20
+MAX_FILES = 2_000
+MAX_DEPTH = 32
 # the file of the network, for programs that have the map
 NETWORK = "network.toml"
 
 
-class HandInRefused(Exception):
+class HandInRefusedError(Exception):
     """A hand-in is beyond a bound, or cannot be read; says which."""
 
 
@@ -40,15 +40,15 @@ class HandInEntry(NamedTuple):
 
 
 class HandIn(NamedTuple):
-    """A team's files by their names, a folder before what is in it; or why they are
-    refused."""
+    """The files and folders of a team by name, each folder before its contents; or the
+    reason for a refusal."""
 
     entries: Dict[str, HandInEntry]
     refusal: str = ""
 
     def digest(self) -> str:
-        """The SHA-256 of all of it."""
-        found = hashlib.sha256(self.refusal.encode())
+        """Returns the SHA-256 over all entries and the refusal."""
+        digest = hashlib.sha256(self.refusal.encode())
         for name, entry in self.entries.items():
             for part in (
                 os.fsencode(name),
@@ -56,24 +56,24 @@ class HandIn(NamedTuple):
                 entry.content,
                 b"x" if entry.is_program else b"-",
             ):
-                found.update(b"%d:" % len(part) + part)
-        return found.hexdigest()
+                digest.update(b"%d:" % len(part) + part)
+        return digest.hexdigest()
 
     def digests(self, words: str) -> Dict[str, str]:
-        """The SHA-256 of each of its files that these words of a command name, and of
-        those that they import, by its name in the hand-in."""
+        """Returns the SHA-256 of each file that a command line names, and of the files
+        that those import, by name in the hand-in."""
         names = {
             str(pathlib.PurePath(word.partition(":")[0])) for word in words.split()
         }
-        read = {
+        contents = {
             name: entry.content
             for name, entry in self.entries.items()
             if entry.kind == tarfile.REGTYPE
             and (name in names or name.endswith(SUFFIX))
         }
-        with tempfile.TemporaryDirectory() as place:
-            folder = pathlib.Path(place).resolve()
-            for name, content in read.items():
+        with tempfile.TemporaryDirectory() as directory:
+            folder = pathlib.Path(directory).resolve()
+            for name, content in contents.items():
                 # one whose name is too long here is imported by nobody
                 with contextlib.suppress(OSError):
                     (folder / name).parent.mkdir(parents=True, exist_ok=True)
@@ -85,12 +85,12 @@ class HandIn(NamedTuple):
             ]
             return {
                 os.path.relpath(name, folder): digest
-                for found in behind
-                for name, digest in found.items()
+                for file in behind
+                for name, digest in file.items()
             }
 
     def content_of(self, name: str) -> Optional[bytes]:
-        """The content of the file of a name, if it is one and no link."""
+        """Returns the bytes of a regular file of the hand-in, else None."""
         entry = self.entries.get(os.path.normpath(name))
         return (
             entry.content
@@ -99,20 +99,20 @@ class HandIn(NamedTuple):
         )
 
     def write_file(self, name: str, folder: pathlib.Path) -> None:
-        """Writes the file of a name there, if it is one and no link."""
+        """Writes a regular file of the hand-in below a folder."""
         content = self.content_of(name)
         path = folder / os.path.normpath(name)
         if content is not None:
             path.parent.mkdir(parents=True, exist_ok=True)
             path.write_bytes(content)
 
-    def archive(self, **more: bytes) -> bytes:
+    def archive(self, **extra: bytes) -> bytes:
         """All of it as a tar archive, and more files by their names."""
         entries = dict(self.entries)
-        for name, content in more.items():
-            put(entries, name, HandInEntry(tarfile.REGTYPE, content))
-        made = io.BytesIO()
-        with tarfile.open(fileobj=made, mode="w", format=tarfile.GNU_FORMAT) as tar:
+        for name, content in extra.items():
+            put_entry(entries, name, HandInEntry(tarfile.REGTYPE, content))
+        buffer = io.BytesIO()
+        with tarfile.open(fileobj=buffer, mode="w", format=tarfile.GNU_FORMAT) as tar:
             for name, entry in entries.items():
                 head = tarfile.TarInfo(name)
                 head.type = entry.kind
@@ -124,10 +124,10 @@ class HandIn(NamedTuple):
                 else:
                     head.size = len(entry.content)
                     tar.addfile(head, io.BytesIO(entry.content))
-        return made.getvalue()
+        return buffer.getvalue()
 
 
-def unpacked(archive: bytes, refusal: str = "") -> HandIn:
+def unpack(archive: bytes, refusal: str = "") -> HandIn:
     """The hand-in of an archive that `archive` has made."""
     entries: Dict[str, HandInEntry] = {}
     with tarfile.open(fileobj=io.BytesIO(archive)) as tar:
@@ -146,30 +146,35 @@ def unpacked(archive: bytes, refusal: str = "") -> HandIn:
     return HandIn(entries, refusal)
 
 
-def read(paths: Sequence[pathlib.Path], course: pathlib.Path) -> HandIn:
-    """The hand-in of these files, and of all that is in these folders, which a course's
-    file names. What is named later takes the place of what has the same name."""
+def read_files(paths: Sequence[pathlib.Path], course: pathlib.Path) -> HandIn:
+    """Reads the paths that a course file lists into a hand-in. A later path replaces
+    earlier entries of the same name."""
     entries: Dict[str, HandInEntry] = {}
     try:
-        left = MOST_BYTES
-        for name, path in [found for path in paths for found in named(path, course)]:
-            entry = entry_at(path, left)
+        bytes_left = MAX_BYTES
+        for name, path in [file for path in paths for file in walk_files(path, course)]:
+            entry = entry_at(path, bytes_left)
             if entry is None:
                 continue
-            left -= len(entry.content)
-            put(entries, name, entry)
+            bytes_left -= len(entry.content)
+            put_entry(entries, name, entry)
         return HandIn(entries)
-    except HandInRefused as fault:
+    except HandInRefusedError as fault:
         return HandIn({}, str(fault))
     except OSError as fault:
         return HandIn({}, f"its files cannot be read: {fault.strerror}")
 
 
-def named(path: pathlib.Path, course: pathlib.Path) -> Iterator[Tuple[str, str]]:
-    """A file, or all that is in a folder: each name in the hand-in with its path."""
-    own = [it for it in path.parents if it != course and it.is_relative_to(course)]
-    for link in filter(os.path.islink, [path, *own]):
-        raise HandInRefused(f"{link.name} is a link: name what it leads to")
+def walk_files(path: pathlib.Path, course: pathlib.Path) -> Iterator[Tuple[str, str]]:
+    """Yields (name in the hand-in, path) for a file, or for everything below a
+    folder."""
+    parents = [
+        parent
+        for parent in path.parents
+        if parent != course and parent.is_relative_to(course)
+    ]
+    for link in filter(os.path.islink, [path, *parents]):
+        raise HandInRefusedError(f"{link.name} is a link: name what it leads to")
     top = str(path)
     if not os.path.isdir(top):
         yield path.name, top
@@ -178,22 +183,22 @@ def named(path: pathlib.Path, course: pathlib.Path) -> Iterator[Tuple[str, str]]
     waiting = [("", top, 0)]
     while waiting:
         prefix, folder, depth = waiting.pop()
-        if depth > MOST_DEPTH:
-            raise HandInRefused(f"its folders are more than {MOST_DEPTH} deep")
-        with os.scandir(folder) as found:
-            listed = list(itertools.islice(found, MOST_FILES + 1))
-        count += len(listed)
-        if count > MOST_FILES:
-            raise HandInRefused(f"it has more than {MOST_FILES} files and folders")
-        for inside in sorted(listed, key=lambda it: os.fsencode(it.name)):
+        if depth > MAX_DEPTH:
+            raise HandInRefusedError(f"its folders are more than {MAX_DEPTH} deep")
+        with os.scandir(folder) as entries:
+            entry_list = list(itertools.islice(entries, MAX_FILES + 1))
+        count += len(entry_list)
+        if count > MAX_FILES:
+            raise HandInRefusedError(f"it has more than {MAX_FILES} files and folders")
+        for inside in sorted(entry_list, key=lambda entry: os.fsencode(entry.name)):
             yield prefix + inside.name, inside.path
             if inside.is_dir(follow_symlinks=False):
                 waiting.append((f"{prefix}{inside.name}/", inside.path, depth + 1))
 
 
-def entry_at(path: str, most: int) -> Optional[HandInEntry]:
-    """What is at a path, of at most this many bytes; None if it is neither file, folder
-    nor link."""
+def entry_at(path: str, limit: int) -> Optional[HandInEntry]:
+    """Reads the entry at a path, of at most `limit` bytes; None if it is neither file,
+    folder nor link."""
     mode = os.lstat(path).st_mode
     if stat.S_ISLNK(mode):
         return HandInEntry(tarfile.SYMTYPE, os.fsencode(os.readlink(path)))
@@ -202,28 +207,28 @@ def entry_at(path: str, most: int) -> Optional[HandInEntry]:
     if not stat.S_ISREG(mode):
         return None
     try:
-        opened = os.open(path, os.O_RDONLY | os.O_NOFOLLOW | os.O_NONBLOCK)
+        descriptor = os.open(path, os.O_RDONLY | os.O_NOFOLLOW | os.O_NONBLOCK)
     except OSError as fault:
         if fault.errno == errno.ELOOP:
             return None
         raise
-    with open(opened, "rb") as file:
-        content = file.read(most + 1)
-        if len(content) > most:
-            raise HandInRefused(f"its files have more than {MOST_BYTES >> 20} MB")
+    with open(descriptor, "rb") as file:
+        content = file.read(limit + 1)
+        if len(content) > limit:
+            raise HandInRefusedError(f"its files have more than {MAX_BYTES >> 20} MB")
         return HandInEntry(
-            tarfile.REGTYPE, content, bool(os.fstat(opened).st_mode & 0o111)
+            tarfile.REGTYPE, content, bool(os.fstat(descriptor).st_mode & 0o111)
         )
 
 
-def put(entries: Dict[str, HandInEntry], name: str, entry: HandInEntry) -> None:
-    """Puts an entry in its place: nothing is left there that it would be written
-    through or into."""
+def put_entry(entries: Dict[str, HandInEntry], name: str, entry: HandInEntry) -> None:
+    """Stores an entry. Entries that would make writing it follow a link are replaced by
+    folders."""
     parts = name.split("/")
     for above in ("/".join(parts[:count]) for count in range(1, len(parts))):
         if entries.get(above, entry).kind != tarfile.DIRTYPE:
             entries[above] = HandInEntry(tarfile.DIRTYPE)
     if entry.kind != tarfile.DIRTYPE and name in entries:
-        for inside in [it for it in entries if it.startswith(f"{name}/")]:
+        for inside in [entry for entry in entries if entry.startswith(f"{name}/")]:
             del entries[inside]
     entries[name] = entry

@@ -16,19 +16,19 @@ from arena_lab.course import hand_in
 from arena_lab.course.hand_in import HandIn
 from arena_lab.course.reading import CANNOT, SECONDS
 from arena_lab.support.built import TOP
-from arena_lab.sweep.tables import NoTable
+from arena_lab.sweep.tables import TableError
 
 COURSE = "course.toml"
 HAND_INS = "hand-ins"
 # in the record of what rows depend on: the name of a team's hand-in
 TEAM = "team "
 # reads a hand-in, in a process of its own
-READ = f"import sys; sys.path.insert(0, {str(TOP)!r}); from arena_lab.course import reading; reading.main()"
+READ_PROGRAM = f"import sys; sys.path.insert(0, {str(TOP)!r}); from arena_lab.course import reading; reading.main()"
 
 
 class HandInRecord(NamedTuple):
-    """A hand-in that was read: its digest, why it is refused, and the SHA-256 of each
-    file of its program."""
+    """A stored hand-in: digest, reason for a refusal, and SHA-256 of each program
+    file."""
 
     digest: str
     refusal: str
@@ -47,25 +47,27 @@ def take(
     in it stops nothing else."""
     archive, record = places(out, team)
     archive.parent.mkdir(parents=True, exist_ok=True)
-    given = json.dumps([str(archive), str(folder), words, *map(str, paths)])
+    message = json.dumps([str(archive), str(folder), words, *map(str, paths)])
     try:
-        ran = subprocess.run(
-            [sys.executable, "-c", READ],
-            input=given,
+        result = subprocess.run(
+            [sys.executable, "-c", READ_PROGRAM],
+            input=message,
             capture_output=True,
             text=True,
             timeout=SECONDS,
         )
-        found = HandInRecord(*json.loads(ran.stdout))
+        hand_in_record = HandInRecord(*json.loads(result.stdout))
     except (subprocess.TimeoutExpired, TypeError, ValueError):
         archive.write_bytes(HandIn({}).archive())
-        found = HandInRecord(HandIn({}, CANNOT).digest(), CANNOT, {})
-    record.write_text(json.dumps(found._asdict(), indent=1) + "\n", encoding="utf-8")
-    return found
+        hand_in_record = HandInRecord(HandIn({}, CANNOT).digest(), CANNOT, {})
+    record.write_text(
+        json.dumps(hand_in_record._asdict(), indent=1) + "\n", encoding="utf-8"
+    )
+    return hand_in_record
 
 
 def places(out: pathlib.Path, team: str) -> List[pathlib.Path]:
-    """Where a hand-in is kept."""
+    """Returns the paths of a stored hand-in: its archive and its record."""
     return [out / HAND_INS / f"{team}{suffix}" for suffix in (".tar", ".json")]
 
 
@@ -73,31 +75,34 @@ def is_kept(out: pathlib.Path, team: str) -> bool:
     return all(path.is_file() for path in places(out, team))
 
 
-def taken(out: pathlib.Path, team: str) -> HandInRecord:
-    """What is known of a hand-in that is kept."""
+def record_of(out: pathlib.Path, team: str) -> HandInRecord:
+    """Reads the record of a stored hand-in."""
     record = places(out, team)[1]
     try:
-        found = json.loads(record.read_text(encoding="utf-8"))
-        return HandInRecord(found["digest"], found["refusal"], found["files"])
+        values = json.loads(record.read_text(encoding="utf-8"))
+        return HandInRecord(values["digest"], values["refusal"], values["files"])
     except (KeyError, TypeError, ValueError):
-        raise NoTable(
+        raise TableError(
             f"{record}: it is not as it was written: name another folder"
         ) from None
 
 
 def hand_in_of(out: pathlib.Path, team: str) -> HandIn:
-    """A hand-in that is kept. One that is another than when it was read is refused."""
-    known = taken(out, team)
-    return unpacked(str(places(out, team)[0]), known.digest, known.refusal)
+    """Reads a stored hand-in. Raises TableError if its archive does not match the
+    recorded digest."""
+    hand_in_record = record_of(out, team)
+    return unpack(
+        str(places(out, team)[0]), hand_in_record.digest, hand_in_record.refusal
+    )
 
 
 @functools.lru_cache(maxsize=4)
-def unpacked(archive: str, digest: str, refusal: str) -> HandIn:
-    """The hand-in in an archive, which has this digest."""
-    found = hand_in.unpacked(pathlib.Path(archive).read_bytes(), refusal)
-    if found.digest() != digest:
-        raise NoTable(
+def unpack(archive: str, digest: str, refusal: str) -> HandIn:
+    """Unpacks an archive, and raises TableError if its digest is not the one given."""
+    hand_in_read = hand_in.unpack(pathlib.Path(archive).read_bytes(), refusal)
+    if hand_in_read.digest() != digest:
+        raise TableError(
             f"{archive}: it is not what the team has handed in, as its digest is another: name another "
             "folder by --out, and start again"
         )
-    return found
+    return hand_in_read

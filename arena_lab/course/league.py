@@ -2,7 +2,7 @@
 import re
 from typing import Any, Dict, List, Mapping, NamedTuple, Optional, Sequence, Tuple
 
-from arena_lab.pages.parts import filled
+from arena_lab.pages.parts import fill_page
 from arena_lab.play import bounds, kept_matches
 from arena_lab.play.repeating import SAYS_OTHERWISE
 from arena_lab.sweep.grid import Grid
@@ -13,7 +13,7 @@ PAGE = "league.html"
 FAILED = "failed"
 SMALLEST = "smallest"
 HEAD = ("place", "team", "matches", "solved", "moves", "lost")
-# what is kept of a match: its page, if there is one, its schedule and its replay
+# files kept for a match: page (if one was made), schedule and replay
 FILES = {
     "watch": kept_matches.PAGE,
     "schedule": kept_matches.SCHEDULE,
@@ -95,7 +95,7 @@ class Failure(NamedTuple):
     """A failed match."""
 
     number: int
-    # the length of its schedule, if it was played
+    # number of choices of the schedule; None if the match was skipped
     choices: Optional[int]
     has_smallest: bool
     # about the smallest schedule
@@ -110,40 +110,41 @@ class Failure(NamedTuple):
 def standings_of(rows: Sequence[Row], teams: Sequence[str]) -> List[LeagueRow]:
     """The teams, best first. Equal teams share a place, and stand in the order of the
     course's file."""
-    found = []
+    league_rows = []
     for team in teams:
-        own = [row for row in rows if row["team"] == team]
-        solved = [row for row in own if is_solved(row)]
-        found.append(
+        team_rows = [row for row in rows if row["team"] == team]
+        solved_rows = [row for row in team_rows if is_solved(row)]
+        league_rows.append(
             LeagueRow(
                 0,
                 team,
-                len(own),
-                len(solved),
-                sum(int(row["moves"]) for row in solved),
-                sum(int(row["lost"]) for row in solved),
-                by_network(own),
-                by_kind(own),
+                len(team_rows),
+                len(solved_rows),
+                sum(int(row["moves"]) for row in solved_rows),
+                sum(int(row["lost"]) for row in solved_rows),
+                by_network(team_rows),
+                by_kind(team_rows),
             )
         )
-    found.sort(key=LeagueRow.rank)
-    ranks = [standing.rank() for standing in found]
+    league_rows.sort(key=LeagueRow.rank)
+    ranks = [standing.rank() for standing in league_rows]
     return [
-        standing._replace(place=1 + ranks.index(standing.rank())) for standing in found
+        standing._replace(place=1 + ranks.index(standing.rank()))
+        for standing in league_rows
     ]
 
 
 def by_network(rows: Sequence[Row]) -> Dict[str, Tuple[int, int]]:
-    """How many matches on each network were solved, and how many there are."""
-    found: Dict[str, Tuple[int, int]] = {}
+    """Returns how many matches on each network were solved, and how many there are."""
+    counts: Dict[str, Tuple[int, int]] = {}
     for row in rows:
-        solved, count = found.get(row["network"], (0, 0))
-        found[row["network"]] = solved + is_solved(row), count + 1
-    return found
+        solved_count, count = counts.get(row["network"], (0, 0))
+        counts[row["network"]] = solved_count + is_solved(row), count + 1
+    return counts
 
 
 def by_kind(rows: Sequence[Row]) -> Dict[str, int]:
-    """How many matches failed in each way, in the order of the kinds."""
+    """Returns how many matches failed in each way, in the order of the kinds."""
     kinds = [kind_of(row) for row in rows if not is_solved(row)]
     return {kind: kinds.count(kind) for kind in KINDS if kind in kinds}
 
@@ -157,8 +158,8 @@ def kind_of(row: Row) -> str:
 
 
 def is_of(kind: str, fault: str) -> bool:
-    """Whether a fault is of this kind. Only its beginning tells, as a program's last
-    words may stand at its end."""
+    """Returns whether a fault begins with the text of this kind. The end of a fault may
+    quote the program, so it is ignored."""
     return re.sub(r"^agent \d+: ", "", fault).startswith(KINDS_OF_FAULTS[kind])
 
 
@@ -167,8 +168,11 @@ def table(standings: Sequence[LeagueRow]) -> List[Sequence[str]]:
     return [
         [*HEAD, *standings[0].networks],
         *(
-            [*it.cells(), *(str(solved) for solved, _ in it.networks.values())]
-            for it in standings
+            [
+                *standing.cells(),
+                *(str(solved_count) for solved_count, _ in standing.networks.values()),
+            ]
+            for standing in standings
         ),
     ]
 
@@ -178,19 +182,19 @@ def text_of(standings: Sequence[LeagueRow]) -> str:
     lines = [("#", "team", "solved", "moves", "lost")]
     lines += [
         (
-            str(it.place),
-            it.team,
-            f"{it.solved} of {it.matches}",
-            str(it.moves),
-            str(it.lost),
+            str(standing.place),
+            standing.team,
+            f"{standing.solved} of {standing.matches}",
+            str(standing.moves),
+            str(standing.lost),
         )
-        for it in standings
+        for standing in standings
     ]
     return "".join(f"{a:>3} {b:<16} {c:<10} {d:>6} {e:>4}\n" for a, b, c, d, e in lines)
 
 
 def folder_of(team: str, number: int) -> str:
-    """Where a failed match is written, in the folder of results."""
+    """Returns the folder of a failed match below the results."""
     return f"{FAILED}/{team}-{number}"
 
 
@@ -198,8 +202,8 @@ def page_name(team: str) -> str:
     return f"team-{team}.html"
 
 
-# what is said of the lines of matches that were refused, by the numbers of matches
-Refused = Mapping[int, Sequence[str]]
+# match number -> messages about its rejected lines
+Refusals = Mapping[int, Sequence[str]]
 
 
 def pages(
@@ -207,21 +211,22 @@ def pages(
     rows: Sequence[Row],
     failures: Dict[int, Failure],
     engine: str,
-    refused: Refused = {},
+    refusals: Refusals = {},
 ) -> Dict[str, str]:
     """The league's page and a page for each team, by the names of their files."""
     standings = standings_of(rows, [team.name for team in grid.teams])
-    found = {PAGE: league_page(grid, standings, engine)}
+    texts = {PAGE: league_page(grid, standings, engine)}
     for standing in standings:
-        own = [row for row in rows if row["team"] == standing.team]
-        found[page_name(standing.team)] = team_page(
-            grid, standing, own, failures, refused
+        team_rows = [row for row in rows if row["team"] == standing.team]
+        texts[page_name(standing.team)] = team_page(
+            grid, standing, team_rows, failures, refusals
         )
-    return found
+    return texts
 
 
 def met_in(standings: Sequence[LeagueRow]) -> List[str]:
-    """The kinds of failures that there are, in the order of the kinds."""
+    """Returns the kinds of failures that occur in the standings, in the order of
+    KINDS."""
     return [
         kind for kind in KINDS if any(kind in standing.kinds for standing in standings)
     ]
@@ -242,7 +247,7 @@ def league_page(grid: Grid, standings: Sequence[LeagueRow], engine: str) -> str:
         "lost",
         "failed",
     ]
-    return filled(
+    return fill_page(
         "league.html",
         title=grid.title,
         about=about,
@@ -253,14 +258,14 @@ def league_page(grid: Grid, standings: Sequence[LeagueRow], engine: str) -> str:
     )
 
 
-def refused_in(rows: Sequence[Row], refused: Refused) -> List[Tuple[str, List[int]]]:
-    """What is said of lines of a team's matches that were refused, each once, with the
-    numbers of the matches."""
-    found: Dict[str, List[int]] = {}
+def refused_in(rows: Sequence[Row], refusals: Refusals) -> List[Tuple[str, List[int]]]:
+    """Returns each message about rejected lines of a team once, with the numbers of its
+    matches."""
+    runs_by_text: Dict[str, List[int]] = {}
     for row in rows:
-        for said in refused.get(int(row["run"]), ()):
-            found.setdefault(said, []).append(int(row["run"]))
-    return list(found.items())
+        for text in refusals.get(int(row["run"]), ()):
+            runs_by_text.setdefault(text, []).append(int(row["run"]))
+    return list(runs_by_text.items())
 
 
 def team_page(
@@ -268,14 +273,14 @@ def team_page(
     standing: LeagueRow,
     rows: Sequence[Row],
     failures: Dict[int, Failure],
-    refused: Refused,
+    refusals: Refusals,
 ) -> str:
-    failed = [row for row in rows if not is_solved(row)]
+    failed_rows = [row for row in rows if not is_solved(row)]
     about = (
         f"Place {standing.place} of {len(grid.teams)} in the league: solved {standing.solved} of "
         f"{standing.matches} matches, with {standing.moves} moves and {standing.lost} lost agents in these."
     )
-    return filled(
+    return fill_page(
         "team.html",
         title=f"Team {standing.team}",
         course=grid.title,
@@ -284,14 +289,16 @@ def team_page(
         met=met_in([standing]),
         head=MATCH_HEAD,
         files=FILES,
-        refused=refused_in(rows, refused),
-        cards=cards([failed_match(row, failures[int(row["run"])]) for row in failed]),
+        refused=refused_in(rows, refusals),
+        cards=cards(
+            [failed_match(row, failures[int(row["run"])]) for row in failed_rows]
+        ),
         rows=[(row, "" if is_solved(row) else kind_of(row)) for row in rows],
     )
 
 
 def failed_match(row: Row, failure: Failure) -> Dict[str, Any]:
-    """What the page of a team says of a match that it failed."""
+    """Returns the data of a failed match for the team's page."""
     folder = folder_of(row["team"], failure.number)
     return {
         "row": row,
@@ -299,24 +306,24 @@ def failed_match(row: Row, failure: Failure) -> Dict[str, Any]:
         "kind": kind_of(row),
         "folder": folder,
         "smallest": f"{folder}/{SMALLEST}",
-        "came": came(row["outcome"], row["moves"], row["lost"]),
+        "came": outcome_text(row["outcome"], row["moves"], row["lost"]),
     }
 
 
 def cards(
-    failed: Sequence[Dict[str, Any]]
+    failed_rows: Sequence[Dict[str, Any]]
 ) -> List[Tuple[Dict[str, Any], List[Dict[str, Any]]]]:
     """Failed matches as cards: the first of each network that failed in a way and with
     these faults, and the others."""
-    found: Dict[Tuple[str, ...], List[Dict[str, Any]]] = {}
-    for it in failed:
-        found.setdefault(
-            (it["row"]["network"], it["kind"], *map(alike, it["row"][FAULTS])), []
-        ).append(it)
+    groups: Dict[Tuple[str, ...], List[Dict[str, Any]]] = {}
+    for row in failed_rows:
+        groups.setdefault(
+            (row["row"]["network"], row["kind"], *map(alike, row["row"][FAULTS])), []
+        ).append(row)
     return [
-        (first, others)
-        for first, *others in (
-            sorted(equal, key=has_no_smallest) for equal in found.values()
+        (first, similar)
+        for first, *similar in (
+            sorted(equal, key=has_no_smallest) for equal in groups.values()
         )
     ]
 
@@ -327,11 +334,11 @@ def alike(fault: str) -> str:
     return re.sub(rf"({bounds.SENT_NOTHING}|{bounds.READ_NOTHING}) \d+ s", r"\1", fault)
 
 
-def has_no_smallest(failed: Dict[str, Any]) -> bool:
-    """Of equal failures the one whose schedule was made small stands first."""
-    return not failed["failure"].has_smallest
+def has_no_smallest(row: Dict[str, Any]) -> bool:
+    """Sort key of similar failures: those with a minimised schedule come first."""
+    return not row["failure"].has_smallest
 
 
-def came(outcome: str, moves: str, lost: str) -> str:
-    """What a match came to."""
+def outcome_text(outcome: str, moves: str, lost: str) -> str:
+    """Formats the outcome of a match."""
     return f"{outcome}, {moves} moves, {lost} lost"

@@ -23,18 +23,18 @@ import math
 from typing import Any, Dict, List, Mapping, NamedTuple, Sequence, Union
 
 from arena_lab.support import fields
-from arena_lab.support.fields import Field, WrongFile
+from arena_lab.support.fields import Field, FileFormatError
 from arena_lab.sweep.grid import BOUNDS, Grid
 from arena_lab.sweep.report import FAULTS, Row, is_solved
 
-# points of a network if nothing else is said
-USUAL = 10
+# default points of a network
+DEFAULT_POINTS = 10
 VISIBLE = ("visible", "hidden", "after_due_date", "after_published")
 CENTS = 100
 
 
 class Points(NamedTuple):
-    """How points are given. Those of networks are in hundredths."""
+    """The grading scheme; points of networks are in hundredths."""
 
     networks: Mapping[str, int]
     moves: float
@@ -67,7 +67,7 @@ class Mark(NamedTuple):
         return int(self.row["run"])
 
     def name(self) -> str:
-        """What the match is called in gradebooks."""
+        """Returns the match's name in gradebooks."""
         return f"match {self.number}: {self.row['network']}, {self.row['scheduler']} {self.row['seed']}"
 
 
@@ -101,78 +101,83 @@ FIELDS = {
     "network": Field(
         are_amounts,
         'a number of points from 0, or a table such as {"ring:8" = 5}',
-        USUAL,
+        DEFAULT_POINTS,
     ),
-    "moves": Field(lambda it: is_amount(it) and it <= 1, "a part from 0 to 1", 0),
+    "moves": Field(
+        lambda value: is_amount(value) and value <= 1, "a part from 0 to 1", 0
+    ),
     "bound": Field(is_bound, f"a number of moves or one of {', '.join(BOUNDS)}", None),
     "lost": Field(is_amount, "a number from 0", 0),
     "visibility": fields.one_of(VISIBLE, VISIBLE[0]),
 }
 
 
-def points_in(table: Dict[str, Any], played: Grid) -> Points:
+def points_in(table: Dict[str, Any], grid: Grid) -> Points:
     """The points that a table of a course's file gives."""
-    said = fields.values_of(table, FIELDS, "[points]")
-    if said["moves"] and said["bound"] is None:
-        raise WrongFile(
+    values = fields.values_of(table, FIELDS, "[points]")
+    if values["moves"] and values["bound"] is None:
+        raise FileFormatError(
             '[points] has moves, and no bound of which they are: write for example bound = "2 n log2 n"'
         )
     return Points(
-        of_networks(said["network"], played),
-        said["moves"],
-        said["bound"],
-        said["lost"],
-        said["visibility"],
-        len(played.dark),
+        of_networks(values["network"], grid),
+        values["moves"],
+        values["bound"],
+        values["lost"],
+        values["visibility"],
+        len(grid.dark),
     )
 
 
-def of_networks(said: Any, played: Grid) -> Dict[str, int]:
+def of_networks(points: Any, grid: Grid) -> Dict[str, int]:
     """The points of each network, in hundredths."""
-    if isinstance(said, dict):
-        for name in said:
-            if name not in played.names:
-                raise WrongFile(
+    if isinstance(points, dict):
+        for name in points:
+            if name not in grid.names:
+                raise FileFormatError(
                     f"[points] has points for {name}, which is not in networks"
                 )
     return {
-        name: round(CENTS * (said.get(name, USUAL) if isinstance(said, dict) else said))
-        for name in played.names
+        name: round(
+            CENTS
+            * (points.get(name, DEFAULT_POINTS) if isinstance(points, dict) else points)
+        )
+        for name in grid.names
     }
 
 
 def marks(points: Points, rows: Sequence[Row]) -> List[Mark]:
-    """The points of a team's matches. Those of a network sum up to what it has, to the
-    last hundredth."""
+    """Distributes the points of each network over a team's matches, so that they sum up
+    to the network's points exactly."""
     count: Dict[str, int] = {}
     for row in rows:
         count[row["network"]] = count.get(row["network"], 0) + 1
-    met: Dict[str, int] = {}
-    found = []
+    match_counts: Dict[str, int] = {}
+    marks_found = []
     for row in rows:
         name = row["network"]
         whole = points.networks[name]
-        place = met.get(name, 0)
-        met[name] = place + 1
-        found.append(
+        index = match_counts.get(name, 0)
+        match_counts[name] = index + 1
+        marks_found.append(
             mark(
                 points,
                 row,
-                whole * (place + 1) // count[name] - whole * place // count[name],
+                whole * (index + 1) // count[name] - whole * index // count[name],
             )
         )
-    return found
+    return marks_found
 
 
-def mark(points: Points, row: Row, most: int) -> Mark:
-    """The points of a match that may have this number of hundredths."""
+def mark(points: Points, row: Row, limit: int) -> Mark:
+    """Marks one match, which is worth at most `limit` hundredths."""
     if not is_solved(row):
-        return Mark(row, 0, most, list(row[FAULTS]))
+        return Mark(row, 0, limit, list(row[FAULTS]))
     moves = int(row["moves"])
     bound = points.most_moves(int(row["nodes"]))
     over = min(1.0, max(0.0, moves / bound - 1))
     extra = max(0, int(row["lost"]) - len(row["hole"].split()) - points.dark)
-    for_moves = round(most * points.moves * over)
+    for_moves = round(limit * points.moves * over)
     for_lost = round(CENTS * points.lost * extra)
     why = (
         [f"{text(for_moves)} less for {moves} moves, where the bound is {bound:.1f}"]
@@ -183,7 +188,7 @@ def mark(points: Points, row: Row, most: int) -> Mark:
         why.append(
             f"{text(for_lost)} less for {extra} more lost than there are black holes and dark links"
         )
-    return Mark(row, max(0, most - for_moves - for_lost), most, why)
+    return Mark(row, max(0, limit - for_moves - for_lost), limit, why)
 
 
 def text(cents: int) -> str:

@@ -12,10 +12,9 @@ from arena_lab.play.parallel import KILLED, Job, Result, begin, result_of
 
 
 class TimedResult(NamedTuple):
-    """What came of a match, how many seconds it took, and how many bytes were written
-    of it."""
+    """The result of a match, with its seconds and the bytes written."""
 
-    found: Any
+    result: Any
     seconds: float
     size: int = 0
 
@@ -25,39 +24,40 @@ class Budget(NamedTuple):
     taken, and the same of the MB that are written of them."""
 
     limit: int
-    spent: Dict[str, float]
+    seconds: Dict[str, float]
     space: float = math.inf
     wrote: Dict[str, float] = {}
 
-    def take(self, team: str, it: TimedResult) -> None:
+    def take(self, team: str, timed_result: TimedResult) -> None:
         """Counts what came of a match."""
-        self.spent[team] += it.seconds
-        self.wrote[team] = self.wrote.get(team, 0.0) + it.size / (1 << 20)
+        self.seconds[team] += timed_result.seconds
+        self.wrote[team] = self.wrote.get(team, 0.0) + timed_result.size / (1 << 20)
 
     def says(self, team: str) -> str:
-        """What is said of what there was no time or no space for, or nothing if there
-        is."""
-        if self.spent[team] > self.limit:
+        """Returns why a match of this team is skipped: its time or its disk quota is
+        used up; "" if neither is."""
+        if self.seconds[team] > self.limit:
             return f"the matches of the team have taken the {self.limit} s that it has"
         if self.wrote.get(team, 0.0) > self.space:
             return f"the matches of the team have taken the {self.space:g} MB of disk that it has"
         return ""
 
 
-class Limited(NamedTuple):
+class LimitedJob(NamedTuple):
     """The time of the teams, whose a match is, and what comes instead of a result once
     the time of its team is up."""
 
     budget: Budget
     team_of: Callable[[Any], str]
     instead: Callable[[Any], Any]
-    # which job plays a match that begins now, and what is told of each that has ended
+    # the job that plays a match which starts now, and a callback for each finished
+    # match
     job_of: Optional[Callable[[Any], Job]] = None
     note: Optional[Callable[[Any, Any], None]] = None
 
 
 def in_time(
-    job: Job, left: Sequence[Any], workers: int, limited: Limited
+    job: Job, queue: Sequence[Any], workers: int, limited_job: LimitedJob
 ) -> Iterator[Result]:
     """The results of matches, or of repetitions, in order, by this number of processes.
     Once a team's time is up, others come instead of its results."""
@@ -66,7 +66,7 @@ def in_time(
         workers, initializer=begin, initargs=(over, os.getpid())
     )
     try:
-        yield from MatchQueue(job, left, limited).results(pool, workers)
+        yield from MatchQueue(job, queue, limited_job).results(pool, workers)
     except BrokenProcessPool:
         yield Result(None, KILLED.format(workers=workers))
     finally:
@@ -78,10 +78,10 @@ class MatchQueue:
     """Matches that wait for a process, those that are played, and results that wait for
     earlier ones."""
 
-    def __init__(self, job: Job, left: Sequence[Any], limited: Limited) -> None:
+    def __init__(self, job: Job, queue: Sequence[Any], limited_job: LimitedJob) -> None:
         self._job = job
-        self._left = left
-        self._limited = limited
+        self._left = queue
+        self._limited = limited_job
         self._begun = 0
         self._running: "Dict[Future[Result], int]" = {}
         self._done: Dict[int, Result] = {}
@@ -114,16 +114,18 @@ class MatchQueue:
                 self._running[pool.submit(result_of, job, match)] = number
 
     def _wait(self) -> None:
-        """Waits until a match is over, if one is played."""
-        ended, _ = concurrent.futures.wait(self._running, return_when=FIRST_COMPLETED)
-        for future in ended:
+        """Waits until a running match ends; returns at once if none runs."""
+        finished_futures, _ = concurrent.futures.wait(
+            self._running, return_when=FIRST_COMPLETED
+        )
+        for future in finished_futures:
             number = self._running.pop(future)
             result = future.result()
             if not result.fault:
                 self._limited.budget.take(
-                    self._limited.team_of(self._left[number]), result.found
+                    self._limited.team_of(self._left[number]), result.result
                 )
-                result = Result(result.found.found, "")
+                result = Result(result.result.result, "")
                 if self._limited.note:
-                    self._limited.note(self._left[number], result.found)
+                    self._limited.note(self._left[number], result.result)
             self._done[number] = result

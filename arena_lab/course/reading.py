@@ -20,23 +20,25 @@ CANNOT = f"it cannot be read within {SECONDS} s and {MEMORY >> 30} GB of memory"
 
 
 def main() -> None:
-    for kind, most in (
+    for kind, limit in (
         (resource.RLIMIT_AS, MEMORY),
         (resource.RLIMIT_CPU, SECONDS),
         (resource.RLIMIT_CORE, 0),
     ):
-        resource.setrlimit(kind, (most, most))
-    place, folder, words, *paths = json.load(sys.stdin)
-    archive = pathlib.Path(place)
-    found = hand_in.read(list(map(pathlib.Path, paths)), pathlib.Path(folder))
+        resource.setrlimit(kind, (limit, limit))
+    archive_path, folder, words, *paths = json.load(sys.stdin)
+    archive = pathlib.Path(archive_path)
+    hand_in_read = hand_in.read_files(
+        list(map(pathlib.Path, paths)), pathlib.Path(folder)
+    )
     try:
-        files = found.digests(words)
-        archive.write_bytes(found.archive())
+        files = hand_in_read.digests(words)
+        archive.write_bytes(hand_in_read.archive())
     except (OSError, MemoryError, RecursionError, ValueError) as fault:
-        found = HandIn({}, f"its files cannot be read: {type(fault).__name__}")
+        hand_in_read = HandIn({}, f"its files cannot be read: {type(fault).__name__}")
         files = {}
-        archive.write_bytes(found.archive())
-    print(json.dumps([found.digest(), found.refusal, files]))
+        archive.write_bytes(hand_in_read.archive())
+    print(json.dumps([hand_in_read.digest(), hand_in_read.refusal, files]))
 
 
 if __name__ == "__main__":

@@ -8,7 +8,7 @@ from typing import Dict, List, Set
 from arena_lab.course import course, intake, rounds
 from arena_lab.course.conditions import CourseDraws
 from arena_lab.course.grading import not_counted_in
-from arena_lab.course.rounds import Repeating, Solved
+from arena_lab.course.rounds import Repeating, SolvedMatch
 from arena_lab.sandbox import sandboxes
 from arena_lab.sandbox.sandboxes import Isolation, SandboxOptions
 from arena_lab.sweep import grid, tables
@@ -20,7 +20,7 @@ def repeat_graded(out: pathlib.Path, workers: int, forgets: bool) -> int:
     with tables.alone_in(out, is_there=True):
         text = grid.text_in(out / intake.COURSE)
         rows = tables.rows_in(out / tables.RUNS)
-        solved = rounds.solved_in(rows)
+        matches = rounds.solved_in(rows)
         counts = [
             sum(row["team"] == team for row in rows)
             for team in {row["team"] for row in rows}
@@ -34,24 +34,26 @@ def repeat_graded(out: pathlib.Path, workers: int, forgets: bool) -> int:
         plain = SandboxOptions(
             strongest, terms.tools, terms.has_proc, calls=terms.calls
         )
-        with sandboxes.furnished(
+        with sandboxes.furnish(
             plain, terms.commands.values(), terms.packages
         ) as sandbox:
             job = Repeating(out, text, draws, sandbox, terms.limits, forgets)
-            found = rounds.repeated(job, solved, workers, random.SystemRandom())
-        return report_repetitions(solved, found, not_counted_in(out))
+            differences = rounds.repeat_agents(
+                job, matches, workers, random.SystemRandom()
+            )
+        return report_repetitions(matches, differences, not_counted_in(out))
 
 
 def report_repetitions(
-    solved: List[Solved], found: Dict[int, str], before: Set[int]
+    matches: List[SolvedMatch], differences: Dict[int, str], before: Set[int]
 ) -> int:
     """Says which matches repeat; some did not count before."""
-    for name in sorted({it.team for it in solved}):
-        own = [it.number for it in solved if it.team == name]
+    for name in sorted({match.team for match in matches}):
+        numbers = [match.number for match in matches if match.team == name]
         print(
-            f"{name}: {sum(number not in found for number in own)} of {len(own)} solved matches repeat"
+            f"{name}: {sum(number not in differences for number in numbers)} of {len(numbers)} solved matches repeat"
         )
-    for number, said in sorted(found.items()):
+    for number, difference in sorted(differences.items()):
         also = " (as when the course was graded)" if number in before else ""
-        print(f"match {number}{also}: {said}")
-    return 1 if set(found) - before else 0
+        print(f"match {number}{also}: {difference}")
+    return 1 if set(differences) - before else 0

@@ -16,33 +16,42 @@ from arena_lab.course import intake, league
 from arena_lab.course.conditions import CourseDraws
 from arena_lab.course.course import ProgramLimits, terms_of
 from arena_lab.course.grounds import grounds_of
-from arena_lab.course.pool import Budget, Limited, TimedResult, in_time
+from arena_lab.course.pool import Budget, LimitedJob, TimedResult, in_time
 from arena_lab.play import mistakes, programs, repeating
-from arena_lab.play.agent_files import NoAgent
-from arena_lab.play.schedulers import Impossible
+from arena_lab.play.agent_files import AgentError
+from arena_lab.play.schedulers import ImpossibleError
 from arena_lab.play.parallel import Result
 from arena_lab.rules.fixtures import Fixture
-from arena_lab.rules.model import begun, objects_of
+from arena_lab.rules.model import begin_match, objects_of
 from arena_lab.sandbox import kernel_traces
 from arena_lab.sandbox.sandboxes import SandboxOptions
-from arena_lab.sandbox.isolation import NoCell
-from arena_lab.sandbox.users import NoUser
-from arena_lab.support.built import NoProgram
-from arena_lab.support.fields import WrongFile
-from arena_lab.support.missing import Missing
+from arena_lab.sandbox.isolation import CellError
+from arena_lab.sandbox.users import UserError
+from arena_lab.support.built import ProgramError
+from arena_lab.support.fields import FileFormatError
+from arena_lab.support.missing import MissingPackageError
 from arena_lab.support.progress import along
 from arena_lab.sweep import report
 from arena_lab.sweep.report import Row
-from arena_lab.sweep.tables import NoTable
+from arena_lab.sweep.tables import TableError
 
 # the replays of solved matches
-SOLVED = "solved"
+SOLVED_FOLDER = "solved"
 # faults of the machine or of the course's file, which end the command: all others are
 # of a match alone
-OF_ALL = (Impossible, Missing, NoAgent, NoCell, NoProgram, NoTable, NoUser, OSError)
+OF_ALL = (
+    ImpossibleError,
+    MissingPackageError,
+    AgentError,
+    CellError,
+    ProgramError,
+    TableError,
+    UserError,
+    OSError,
+)
 
 
-class Solved(NamedTuple):
+class SolvedMatch(NamedTuple):
     """A match that was solved: its number, its team, and how many agents it has."""
 
     number: int
@@ -70,41 +79,47 @@ class Repeating(NamedTuple):
     # whether the machine is to forget what it keeps of files before each round
     forgets: bool = False
 
-    def play(self, it: Repetition) -> TimedResult:
+    def play(self, repetition: Repetition) -> TimedResult:
         """The match's number, and what the agent says otherwise, or nothing."""
         began = time.monotonic()
         try:
-            said = self._repeat(it)
+            difference = self._repeat(repetition)
         except OF_ALL:
             raise
         except Exception as fault:
-            said = f"{league.LAB_FAILED} when it was to repeat agent {it.agent}: {in_a_line(fault)}"
-        return TimedResult((it.number, said), time.monotonic() - began)
+            difference = f"{league.LAB_FAILED} when it was to repeat agent {repetition.agent}: {in_a_line(fault)}"
+        return TimedResult((repetition.number, difference), time.monotonic() - began)
 
     def digests(self) -> Dict[str, str]:
         return {}
 
-    def _repeat(self, it: Repetition) -> str:
-        replay = replay_of(self.out, it.team, it.number).read_text(encoding="utf-8")
-        setup = begun(objects_of(replay)[0]).setup
-        played = Fixture(
-            it.team, setup, self.draws.keys(self.text, it.number, setup.agents)
+    def _repeat(self, repetition: Repetition) -> str:
+        replay = replay_of(self.out, repetition.team, repetition.number).read_text(
+            encoding="utf-8"
         )
-        again = repeating.with_new_keys(played)
-        words = terms_of(self.text, 0).commands[it.team]
-        handed_in = intake.hand_in_of(self.out, it.team)
+        setup = begin_match(objects_of(replay)[0]).setup
+        fixture = Fixture(
+            repetition.team,
+            setup,
+            self.draws.keys(self.text, repetition.number, setup.agents),
+        )
+        again = repeating.with_new_keys(fixture)
+        words = terms_of(self.text, 0).commands[repetition.team]
+        handed_in = intake.hand_in_of(self.out, repetition.team)
         with grounds_of(self.sandbox, handed_in, words, setup, 1) as grounds:
             team = programs.Team(
                 again,
-                {it.agent: words},
+                {repetition.agent: words},
                 self.limits.line,
-                {it.agent: grounds[0]},
+                {repetition.agent: grounds[0]},
                 self.limits.match,
-                programs.seeds_of(played),
+                programs.seeds_of(fixture),
                 self.limits.match_space << 20,
             )
             return str(
-                repeating.repeated(team, again, repeating.past_of(replay, it.agent))
+                repeating.repeat_agent(
+                    team, again, repeating.past_of(replay, repetition.agent)
+                )
                 or ""
             )
 
@@ -115,53 +130,57 @@ def in_a_line(fault: Exception) -> str:
 
 
 def replay_of(out: pathlib.Path, team: str, number: int) -> pathlib.Path:
-    """Where the replay of a solved match is."""
-    return out / SOLVED / f"{team}-{number}.jsonl"
+    """Returns the path of a solved match's replay."""
+    return out / SOLVED_FOLDER / f"{team}-{number}.jsonl"
 
 
 def refused_of(out: pathlib.Path, team: str, number: int) -> pathlib.Path:
-    """Where it is written which lines of a solved match were refused."""
-    return out / SOLVED / f"{team}-{number}.refused.txt"
+    """Returns the path of the messages about rejected lines of a solved match."""
+    return out / SOLVED_FOLDER / f"{team}-{number}.refused.txt"
 
 
-def solved_in(rows: Sequence[Row]) -> List[Solved]:
+def solved_in(rows: Sequence[Row]) -> List[SolvedMatch]:
     """The solved matches of these rows."""
     return [
-        Solved(int(row["run"]), row["team"], int(row["agents"]))
+        SolvedMatch(int(row["run"]), row["team"], int(row["agents"]))
         for row in rows
         if report.is_solved(row)
     ]
 
 
-def repeated(
-    job: Repeating, solved: Sequence[Solved], workers: int, chance: random.Random
+def repeat_agents(
+    job: Repeating, matches: Sequence[SolvedMatch], workers: int, rng: random.Random
 ) -> Dict[int, str]:
     """Repeats the agents of solved matches; gives what one of them says otherwise, by
     the numbers of matches. A team has as much time for its repetitions as for its
     matches."""
-    budget = Budget(job.limits.team, {it.team: 0.0 for it in solved})
-    orders = {it.number: chance.sample(range(it.agents), it.agents) for it in solved}
-    found: Dict[int, str] = {}
+    budget = Budget(job.limits.team, {match.team: 0.0 for match in matches})
+    orders = {
+        match.number: rng.sample(range(match.agents), match.agents) for match in matches
+    }
+    differences: Dict[int, str] = {}
 
     def results() -> Iterator[Result]:
-        for turn in range(max((it.agents for it in solved), default=0)):
+        for turn in range(max((match.agents for match in matches), default=0)):
             kernel_traces.stir()
             if job.forgets:
                 kernel_traces.forget()
             due = [
-                Repetition(it.number, it.team, orders[it.number][turn])
-                for it in solved
-                if turn < it.agents and it.number not in found
+                Repetition(match.number, match.team, orders[match.number][turn])
+                for match in matches
+                if turn < match.agents and match.number not in differences
             ]
-            yield from one_round(job, chance.sample(due, len(due)), workers, budget)
+            yield from one_round(job, rng.sample(due, len(due)), workers, budget)
 
-    for result in along(results(), sum(it.agents for it in solved), "repetition"):
+    for result in along(
+        results(), sum(match.agents for match in matches), "repetition"
+    ):
         if result.fault:
-            raise WrongFile(result.fault)
-        number, said = result.found
-        if said:
-            found[number] = said
-    return found
+            raise FileFormatError(result.fault)
+        number, difference = result.result
+        if difference:
+            differences[number] = difference
+    return differences
 
 
 def one_round(
@@ -169,12 +188,12 @@ def one_round(
 ) -> Iterator[Result]:
     """The results of a round."""
 
-    def instead(it: Repetition) -> Tuple[int, str]:
+    def instead(repetition: Repetition) -> Tuple[int, str]:
         return (
-            it.number,
-            f"agent {it.agent}: {league.NOT_REPEATED}: {budget.says(it.team)}",
+            repetition.number,
+            f"agent {repetition.agent}: {league.NOT_REPEATED}: {budget.says(repetition.team)}",
         )
 
     return in_time(
-        job, due, workers, Limited(budget, operator.attrgetter("team"), instead)
+        job, due, workers, LimitedJob(budget, operator.attrgetter("team"), instead)
     )

@@ -11,7 +11,7 @@ from arena_lab.course.hand_in import HandIn, HandInEntry
 from arena_lab.play.last_words import MARK
 
 # a mark: the number of the command, the file and the line
-MARKED = re.compile(rf"(?:{MARK}|\\x1e)(\d{{1,5}}) ([\w.-]{{1,60}}):(\d{{1,6}})$")
+MARK_PATTERN = re.compile(rf"(?:{MARK}|\\x1e)(\d{{1,5}}) ([\w.-]{{1,60}}):(\d{{1,6}})$")
 # what is put behind the client in Python: a mark for each line that is sent, by the
 # frame that called the client, and where a program is that sends nothing for seconds
 PYTHON = """
@@ -122,11 +122,11 @@ class SentBy(NamedTuple):
 NOWHERE = SentBy("", 0)
 
 
-def marked(handed_in: HandIn, silent: float) -> HandIn:
+def mark_program(handed_in: HandIn, silent: float) -> HandIn:
     """The program with a client that marks what it sends, if it has a kit's client. A
     program in Python that sends nothing for so many seconds says where it is."""
     python = PYTHON.replace("SILENT", f"{silent:g}")
-    changed = {
+    texts = {
         name: text
         for name, text in (
             ("client.py", behind(handed_in, "client.py", python, "class Lines")),
@@ -139,8 +139,8 @@ def marked(handed_in: HandIn, silent: float) -> HandIn:
     }
     return HandIn(
         {
-            name: HandInEntry(entry.kind, changed[name].encode(), entry.is_program)
-            if name in changed
+            name: HandInEntry(entry.kind, texts[name].encode(), entry.is_program)
+            if name in texts
             else entry
             for name, entry in handed_in.entries.items()
         }
@@ -151,10 +151,11 @@ def text_of(handed_in: HandIn, name: str) -> str:
     return (handed_in.content_of(name) or b"").decode(errors="replace")
 
 
-def behind(handed_in: HandIn, name: str, more: str, has: str) -> str:
-    """A client with these lines behind it, if it is as in the kit."""
+def behind(handed_in: HandIn, name: str, extra: str, has: str) -> str:
+    """Returns the client's text with extra lines appended, or "" if the client is not
+    the kit's."""
     text = text_of(handed_in, name)
-    return text + more if has in text else ""
+    return text + extra if has in text else ""
 
 
 def in_header(handed_in: HandIn) -> str:
@@ -177,35 +178,39 @@ def in_class(handed_in: HandIn) -> str:
     return text
 
 
-def parted(errors: Dict[int, str]) -> Tuple[Dict[int, str], Dict[int, List[SentBy]]]:
-    """What programs wrote to standard error themselves, and the places by which each
-    agent sent its commands."""
-    written: Dict[int, str] = {}
+def split_errors(
+    errors: Dict[int, str]
+) -> Tuple[Dict[int, str], Dict[int, List[SentBy]]]:
+    """Splits standard error of programs into their own output and the marks of sending
+    lines, by agent."""
+    outputs: Dict[int, str] = {}
     places: Dict[int, Dict[int, SentBy]] = {}
     for agent, text in errors.items():
-        own = []
-        found = places.setdefault(agent, {})
+        lines = []
+        senders = places.setdefault(agent, {})
         for line in text.split("\n"):
-            mark = MARKED.match(line)
+            mark = MARK_PATTERN.match(line)
             if mark is None:
-                own.append(line)
+                lines.append(line)
             else:
-                found[int(mark[1])] = SentBy(mark[2], int(mark[3]))
-        written[agent] = "\n".join(own).strip()
-    return written, {agent: in_order(found) for agent, found in places.items()}
+                senders[int(mark[1])] = SentBy(mark[2], int(mark[3]))
+        outputs[agent] = "\n".join(lines).strip()
+    return outputs, {agent: in_order(senders) for agent, senders in places.items()}
 
 
-def in_order(found: Dict[int, SentBy]) -> List[SentBy]:
+def in_order(senders: Dict[int, SentBy]) -> List[SentBy]:
     """The places by the numbers of commands. What was cut has none."""
-    return [found.get(it, NOWHERE) for it in range(1, max(found, default=0) + 1)]
+    return [
+        senders.get(number, NOWHERE) for number in range(1, max(senders, default=0) + 1)
+    ]
 
 
 def along(log: Sequence[Any], places: Dict[int, List[SentBy]]) -> List[SentBy]:
-    """Of each event of a log the place that sent it, or none."""
-    left = {agent: iter(found) for agent, found in places.items()}
+    """Returns for each event of a log the source line that sent it, or NOWHERE."""
+    iterators = {agent: iter(senders) for agent, senders in places.items()}
     return [
         NOWHERE
         if event["do"] in ("deliver", "close")
-        else next(left.get(event["agent"], iter(())), NOWHERE)
+        else next(iterators.get(event["agent"], iter(())), NOWHERE)
         for event in log
     ]

@@ -8,9 +8,9 @@ EXPLORE = "explore"
 KINDS = (PLAY, CHECK, EXPLORE)
 # the files in a trial's folder: the request, the program's files, the findings, the
 # process's own output, and the replay and page of the match that shows the findings
-ASKED = "asked.json"
+REQUEST_FILE = "asked.json"
 FILES = "files"
-FOUND = "found.json"
+RESULT_FILE = "found.json"
 LOG = "log.txt"
 REPLAY = "m0.jsonl"
 PAGE = "m0.html"

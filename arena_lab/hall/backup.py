@@ -1,7 +1,6 @@
-"""An archive of a hall, written while it is served: its database as it stood at one
-moment, its secrets, and the files of attempts and hand-ins. Files that come or go
-meanwhile are those of attempts that are not over. A hall is restored of it as a whole:
-what was there before is put aside."""
+"""Writes an archive of a running hall: a snapshot of its database, its secrets, and the
+files of attempts and hand-ins. Files that change meanwhile belong to unfinished
+attempts. Restoring replaces the whole hall and moves the previous one aside."""
 import contextlib
 import os
 import pathlib
@@ -13,7 +12,7 @@ import tempfile
 import time
 from typing import IO, List, Optional, cast
 
-from arena_lab.hall.course import NoHall
+from arena_lab.hall.course import HallError
 from arena_lab.hall.place import HallFolder, at
 
 DATABASE = "hall.sqlite3"
@@ -22,30 +21,30 @@ DUMP = "hall.sql"
 LEFT_OUT = ("lock",)
 
 
-def write(place: HallFolder, archive: pathlib.Path) -> pathlib.Path:
+def write(hall_folder: HallFolder, archive: pathlib.Path) -> pathlib.Path:
     """Writes the archive, whole or not at all."""
     new = archive.with_name(f".{archive.name}.new")
     with tempfile.TemporaryDirectory() as apart:
         with open(
             os.open(new, os.O_WRONLY | os.O_CREAT | os.O_TRUNC, 0o600), "wb"
         ) as file, tarfile.open(fileobj=file, mode="w:gz") as tar:
-            database = dumped(pathlib.Path(apart))
-            tar.add(database, f"{place.folder.name}/{database.name}")
-            tar.add(place.course, place.course.name)
-            for folder, folders, names in os.walk(place.folder):
+            database = dump_database(pathlib.Path(apart))
+            tar.add(database, f"{hall_folder.folder.name}/{database.name}")
+            tar.add(hall_folder.course, hall_folder.course.name)
+            for folder, folders, names in os.walk(hall_folder.folder):
                 for path in (pathlib.Path(folder, name) for name in (*folders, *names)):
                     with contextlib.suppress(FileNotFoundError):
                         tar.add(
                             path,
-                            str(path.relative_to(place.folder.parent)),
+                            str(path.relative_to(hall_folder.folder.parent)),
                             recursive=False,
-                            filter=kept,
+                            filter=filter_entry,
                         )
     new.replace(archive)
     return archive
 
 
-def kept(entry: tarfile.TarInfo) -> Optional[tarfile.TarInfo]:
+def filter_entry(entry: tarfile.TarInfo) -> Optional[tarfile.TarInfo]:
     """An entry of the hall's folder, unless it is left out."""
     name = entry.name.partition("/")[2]
     is_out = (
@@ -56,7 +55,7 @@ def kept(entry: tarfile.TarInfo) -> Optional[tarfile.TarInfo]:
     return None if is_out else entry
 
 
-def dumped(folder: pathlib.Path) -> pathlib.Path:
+def dump_database(folder: pathlib.Path) -> pathlib.Path:
     """A copy of the database as it stands now."""
     from django.db import connection
 
@@ -74,15 +73,19 @@ def postgres(program: str, *words: str) -> None:
     """Runs a program of PostgreSQL on the hall's database."""
     from django.db import connection
 
-    found = connection.get_connection_params()
+    connection_params = connection.get_connection_params()
     names = {
         "PGUSER": "user",
         "PGPASSWORD": "password",
         "PGHOST": "host",
         "PGPORT": "port",
-        "PGDATABASE": "dbname" if "dbname" in found else "database",
+        "PGDATABASE": "dbname" if "dbname" in connection_params else "database",
     }
-    variables = {name: str(found[key]) for name, key in names.items() if found.get(key)}
+    variables = {
+        name: str(connection_params[key])
+        for name, key in names.items()
+        if connection_params.get(key)
+    }
     try:
         subprocess.run(
             [program, *words],
@@ -91,32 +94,31 @@ def postgres(program: str, *words: str) -> None:
             env={**os.environ, **variables},
         )
     except (OSError, subprocess.CalledProcessError) as fault:
-        raise NoHall(
+        raise HallError(
             f"{program} does not do its part: {getattr(fault, 'stderr', b'') or fault}"
         ) from None
 
 
-def restore(place: HallFolder, archive: pathlib.Path) -> Optional[pathlib.Path]:
-    """Puts the hall of an archive in the place of the one that is there; gives where
-    that one is now. An archive that cannot be read, or whose database is broken, leaves
-    everything as it was."""
-    new = place.folder.with_name(f".{place.folder.name}.new")
+def restore(hall_folder: HallFolder, archive: pathlib.Path) -> Optional[pathlib.Path]:
+    """Replaces a hall by the one in an archive; returns the folder that keeps the
+    previous hall. An unreadable archive or a broken database changes nothing."""
+    new = hall_folder.folder.with_name(f".{hall_folder.folder.name}.new")
     shutil.rmtree(new, ignore_errors=True)
     try:
         unpack(archive, new)
         check_database(new)
-        made = at(new)
-    except (OSError, EOFError, tarfile.TarError, NoHall) as fault:
+        new_folder = at(new)
+    except (OSError, EOFError, tarfile.TarError, HallError) as fault:
         shutil.rmtree(new, ignore_errors=True)
-        raise NoHall(f"{archive}: no hall can be restored of it: {fault}") from None
-    HallFolder(new, place.course, made.program).write()
+        raise HallError(f"{archive}: no hall can be restored of it: {fault}") from None
+    HallFolder(new, hall_folder.course, new_folder.program).write()
     aside = None
-    if place.folder.exists():
-        aside = place.folder.with_name(
-            f"{place.folder.name}.{time.strftime('%Y-%m-%d-%H%M%S')}"
+    if hall_folder.folder.exists():
+        aside = hall_folder.folder.with_name(
+            f"{hall_folder.folder.name}.{time.strftime('%Y-%m-%d-%H%M%S')}"
         )
-        place.folder.rename(aside)
-    new.rename(place.folder)
+        hall_folder.folder.rename(aside)
+    new.rename(hall_folder.folder)
     return aside
 
 
@@ -140,17 +142,20 @@ def unpack(archive: pathlib.Path, folder: pathlib.Path) -> None:
 
 
 def take_course(archive: pathlib.Path, course: pathlib.Path) -> None:
-    """Writes the file of the course that an archive has, where there is none, as on
-    another machine."""
+    """Writes the archive's course file if this machine has none."""
     if course.exists():
         return
     try:
         with tarfile.open(archive) as tar:
-            entry = next(it for it in tar if it.isfile() and "/" not in it.name)
+            entry = next(
+                entry_file
+                for entry_file in tar
+                if entry_file.isfile() and "/" not in entry_file.name
+            )
             with cast(IO[bytes], tar.extractfile(entry)) as file:
                 course.write_bytes(file.read())
     except (OSError, EOFError, tarfile.TarError, StopIteration) as fault:
-        raise NoHall(f"{archive}: it has no course: {fault}") from None
+        raise HallError(f"{archive}: it has no course: {fault}") from None
 
 
 def check_database(folder: pathlib.Path) -> None:
@@ -158,25 +163,24 @@ def check_database(folder: pathlib.Path) -> None:
     if (folder / DUMP).exists():
         return
     if not (folder / DATABASE).exists():
-        raise NoHall("it has no database")
+        raise HallError("it has no database")
     with contextlib.closing(sqlite3.connect(folder / DATABASE)) as database:
         try:
-            found = database.execute("PRAGMA integrity_check").fetchone()
+            row = database.execute("PRAGMA integrity_check").fetchone()
         except sqlite3.DatabaseError as fault:
-            found = (str(fault),)
-    if found != ("ok",):
-        raise NoHall(f"its database is broken: {found[0]}")
+            row = (str(fault),)
+    if row != ("ok",):
+        raise HallError(f"its database is broken: {row[0]}")
 
 
-def load(place: HallFolder, aside: Optional[pathlib.Path]) -> None:
-    """Puts the rows of an archive into PostgreSQL, in the place of those that are
-    there, which are kept as a file in the folder that was put aside. Django has
-    begun."""
-    dump = place.folder / DUMP
+def load(hall_folder: HallFolder, aside: Optional[pathlib.Path]) -> None:
+    """Loads an archive's rows into PostgreSQL. The previous rows are dumped to a file
+    in `aside`. Django must be set up."""
+    dump = hall_folder.folder / DUMP
     if not dump.exists():
         return
     if aside is not None:
-        dumped(aside)
+        dump_database(aside)
     words: List[str] = [
         "-1",
         "-q",

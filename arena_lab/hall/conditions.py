@@ -7,31 +7,31 @@ from arena_lab.rules import draws
 from arena_lab.rules.fixtures import toml_of
 from arena_lab.rules.limits import SMALL_BOARD, SMALL_QUOTA
 
-# what a course has if nothing is said
+# default settings of a course
 AGENTS = 2
-USUAL: Dict[str, Any] = {
+DEFAULTS: Dict[str, Any] = {
     "quota": SMALL_QUOTA,
     "board": SMALL_BOARD,
     "ports": draws.DRAWN,
 }
 
 
-def text_of(hall: Hall, names: Mapping[str, str], more: Mapping[str, Any] = {}) -> str:
+def text_of(hall: Hall, names: Mapping[str, str], extra: Mapping[str, Any] = {}) -> str:
     """The course of networks, by the words that name them with their names on pages,
     without its teams."""
-    given = hall.hand_ins
-    assert given is not None
+    rules = hall.hand_ins
+    assert rules is not None
     rows = {
         "title": hall.title,
         "networks": list(names),
-        "agents": given.agents or AGENTS,
-        "holes": given.holes,
-        "schedulers": given.schedulers,
-        "seeds": given.seeds,
-        **({"packages": given.packages} if given.packages else {}),
-        **more,
+        "agents": rules.agents or AGENTS,
+        "holes": rules.holes,
+        "schedulers": rules.schedulers,
+        "seeds": rules.seeds,
+        **({"packages": rules.packages} if rules.packages else {}),
+        **extra,
     }
-    return rows_in(rows) + "".join(terms_on(hall, *it) for it in names.items())
+    return rows_in(rows) + "".join(terms_on(hall, *item) for item in names.items())
 
 
 def rows_in(rows: Mapping[str, Any]) -> str:
@@ -40,32 +40,34 @@ def rows_in(rows: Mapping[str, Any]) -> str:
 
 
 def terms_on(hall: Hall, word: str, name: str) -> str:
-    """What is otherwise on a network, as it is in practice on one of this name, or else
-    on the same network."""
-    nets = sorted(hall.nets.values(), key=lambda it: it.name != name)
-    net = next((it for it in nets if it.word == word), None)
+    """Returns the settings of a network that differ from the defaults: those of the
+    practice network of this name, else of the same network."""
+    nets = sorted(hall.nets.values(), key=lambda net: net.name != name)
+    net = next((net for net in nets if net.word == word), None)
     if net is None or hall.hand_ins is None:
         return ""
-    said = hall.hand_ins.agents
+    agents = hall.hand_ins.agents
     ports = draws.DRAWN if net.labels == DRAWN else draws.GIVEN
-    own: Dict[str, Any] = {
-        "agents": said or net.agents,
+    terms: Dict[str, Any] = {
+        "agents": agents or net.agents,
         "quota": net.quota,
         "board": net.board,
         "ports": ports,
     }
-    usual = {**USUAL, "agents": said or AGENTS}
-    other = {key: value for key, value in own.items() if value != usual[key]}
-    return f"\n[conditions.{toml_of(word)}]\n{rows_in(other)}" if other else ""
+    default = {**DEFAULTS, "agents": agents or AGENTS}
+    other_terms = {key: value for key, value in terms.items() if value != default[key]}
+    return (
+        f"\n[conditions.{toml_of(word)}]\n{rows_in(other_terms)}" if other_terms else ""
+    )
 
 
 def for_teams(hall: Hall, names: Mapping[str, str]) -> str:
-    """The text for teams, with the networks that they have: a file of the hall is not
-    theirs."""
-    named = {word: name for word, name in names.items() if ":" in word}
-    told = [
+    """Returns the course text for teams. Networks from files of the hall are replaced
+    by comments."""
+    named_files = {word: name for word, name in names.items() if ":" in word}
+    comments = [
         f"# {name} is a file: ask your teacher for it\n"
         for word, name in names.items()
-        if word not in named
+        if word not in named_files
     ]
-    return "".join(told) + (text_of(hall, named) if named else "")
+    return "".join(comments) + (text_of(hall, named_files) if named_files else "")

@@ -33,7 +33,7 @@ class ConnectionBounds(NamedTuple):
 
 
 class Request(HTTPRequestParser):
-    """A request that comes, and since when."""
+    """An HTTP request that is arriving, with its start time."""
 
     def __init__(self, channel: "Channel", adj: Any) -> None:
         super().__init__(adj)
@@ -45,30 +45,30 @@ class Request(HTTPRequestParser):
         self._channel.is_of(self.headers.get("X_FORWARDED_FOR", ""))
 
     def length(self) -> int:
-        """The bytes that it may have behind its head."""
+        """Returns the largest allowed length of its body in bytes."""
         return int(
             self.adj.max_request_body_size if self.chunked else self.content_length
         )
 
 
 class Channel(HTTPChannel):
-    """A connection, and the address that it is of: behind a server that encrypts, the
-    one of its last request, or none."""
+    """A connection with its client's address. Behind a reverse proxy the address is
+    that of the last request, "" before the first."""
 
     def __init__(self, server: Any, sock: Any, addr: Any, adj: Any, map: Any) -> None:
         self.is_trusted = adj.trusted_proxy in ("*", addr[0])
         self.address = "" if self.is_trusted else network_of(str(addr[0]))
         self.parser_class = functools.partial(Request, self)
-        # when there was nothing left to send, and the bytes that were sent since then
+        # time since which the output buffer is empty, and bytes sent since then
         self.idle = time.monotonic()
         self.sent = 0
         super().__init__(server, sock, addr, adj, map)
 
-    def is_of(self, forwarded: str) -> None:
+    def is_of(self, forwarded_for: str) -> None:
         """Notes whose a request is, by the last address that the server before the hall
         names."""
-        if self.is_trusted and forwarded:
-            self.address = network_of(forwarded.rpartition(",")[2].strip())
+        if self.is_trusted and forwarded_for:
+            self.address = network_of(forwarded_for.rpartition(",")[2].strip())
             self.server.news = OFTEN
 
     def received(self, data: bytes) -> bool:
@@ -90,15 +90,17 @@ class Channel(HTTPChannel):
     def size(self) -> int:
         """The bytes of its requests that wait."""
         return sum(
-            it.body_bytes_received for it in (*self.requests, self.request) if it
+            request.body_bytes_received
+            for request in (*self.requests, self.request)
+            if request
         )
 
     def smallness(self) -> int:
-        """What goes first of the bytes that wait: the largest."""
+        """Sort key for closing connections: the most waiting bytes go first."""
         return -self.size()
 
     def waits(self) -> bool:
-        """Whether nothing of it is being answered."""
+        """Returns whether no request is being answered."""
         return self.connected and not self.requests
 
     def send(self, data: bytes, do_close: bool = True) -> int:
@@ -107,28 +109,30 @@ class Channel(HTTPChannel):
         return count
 
     def is_late(self, bounds: ConnectionBounds) -> bool:
-        """Whether its request comes too slowly, or the answer is taken so. This is
-        asked again and again."""
+        """Returns whether the request arrives, or the client reads the response, too
+        slowly. It is called repeatedly."""
         now = time.monotonic()
         if not self.total_outbufs_len:
             self.sent = 0
             self.idle = now
-        came = self.request if self.waits() else None
-        if came is not None:
-            return bool(now - came.begun > bounds.head + came.length() / bounds.rate)
+        request = self.request if self.waits() else None
+        if request is not None:
+            return bool(
+                now - request.begun > bounds.head + request.length() / bounds.rate
+            )
         return now - self.idle > bounds.head + self.sent / bounds.rate
 
     def age(self) -> Tuple[bool, float]:
-        """What goes first: the oldest request that has not come whole, and then the
-        connection that has been silent for longest."""
-        begun = self.last_activity if self.request is None else self.request.begun
-        return self.request is None, begun
+        """Sort key for closing connections: the oldest incomplete request goes first,
+        then the connection that has been silent longest."""
+        begin = self.last_activity if self.request is None else self.request.begun
+        return self.request is None, begin
 
 
 class HallServer(TcpWSGIServer):
-    """waitress within bounds. Its one thread that reads ends connections before it asks
-    which of the others are ready, and at no other time: a new one may get the number of
-    one that was ended."""
+    """A waitress server with limits on connections. The reading thread closes
+    connections only before it polls the others, because a new connection may reuse a
+    closed descriptor."""
 
     channel_class = Channel
     bounds = ConnectionBounds()
@@ -147,10 +151,10 @@ class HallServer(TcpWSGIServer):
     def readable(self) -> bool:
         if self.news >= OFTEN:
             self.news = 0
-            most = self.bounds
-            self.end_some(lambda it: 1, Channel.age, most.of_address, most.all)
+            bounds = self.bounds
+            self.end_some(lambda channel: 1, Channel.age, bounds.of_address, bounds.all)
             self.end_some(
-                Channel.size, Channel.smallness, most.bytes_of_address, most.bytes
+                Channel.size, Channel.smallness, bounds.bytes_of_address, bounds.bytes
             )
         return bool(super().readable())
 
@@ -164,22 +168,26 @@ class HallServer(TcpWSGIServer):
         """Ends connections that wait, in this order, where an address has too much:
         more than it may, or so much that all together have too much."""
         sizes: "collections.Counter[str]" = collections.Counter()
-        for it in self.channels():
-            sizes[it.address] += weigh(it)
-        while sum(min(it, of_address) for it in sizes.values()) > of_all:
+        for channel in self.channels():
+            sizes[channel.address] += weigh(channel)
+        while sum(min(size, of_address) for size in sizes.values()) > of_all:
             of_address = of_address * 9 // 10
-        for it in sorted(filter(Channel.waits, self.channels()), key=order):
+        for channel in sorted(filter(Channel.waits, self.channels()), key=order):
             # whose a connection of a server before the hall is, its head will say
-            is_over = it.address and weigh(it) and sizes[it.address] > of_address
+            is_over = (
+                channel.address
+                and weigh(channel)
+                and sizes[channel.address] > of_address
+            )
             if is_over and (of_address or sizes.total() > of_all):
-                sizes[it.address] -= weigh(it)
-                it.handle_close()
+                sizes[channel.address] -= weigh(channel)
+                channel.handle_close()
 
     def maintenance(self, now: float) -> None:
         super().maintenance(now)
-        for it in self.channels():
-            if it.is_late(self.bounds):
-                it.handle_close()
+        for channel in self.channels():
+            if channel.is_late(self.bounds):
+                channel.handle_close()
 
 
 def servers(
@@ -189,4 +197,7 @@ def servers(
     host. Any of them runs all."""
     adj = Adjustments(**options)
     sockets: Any = {}
-    return [kind(application, sockets, adj=adj, sockinfo=it) for it in adj.listen]
+    return [
+        kind(application, sockets, adj=adj, sockinfo=socket_info)
+        for socket_info in adj.listen
+    ]

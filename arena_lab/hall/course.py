@@ -9,13 +9,13 @@ from typing import Any, Dict, List, NamedTuple, Optional, Sequence, Tuple, Union
 from arena_lab.course.course import check_command
 from arena_lab.play.wasm_modules import file_in, is_module
 from arena_lab.rules import networks
-from arena_lab.rules.limits import MOST_BOARD, MOST_QUOTA, SMALL_BOARD, SMALL_QUOTA
-from arena_lab.rules.networks import Network, NoNetwork
+from arena_lab.rules.limits import MAX_BOARD, MAX_QUOTA, SMALL_BOARD, SMALL_QUOTA
+from arena_lab.rules.networks import Network, NetworkError
 from arena_lab.support import fields
-from arena_lab.support.faults import Fault
+from arena_lab.support.faults import ArenaError
 from arena_lab.support.fields import (
     Field,
-    WrongFile,
+    FileFormatError,
     is_count,
     is_number,
     is_text,
@@ -124,18 +124,20 @@ def is_zone(value: Any) -> bool:
 
 
 TIME = Field(
-    lambda it: it is None or isinstance(it, (str, datetime.datetime)), TIMES, None
+    lambda value: value is None or isinstance(value, (str, datetime.datetime)),
+    TIMES,
+    None,
 )
-# those that a hall has as they stand, and the others
+# keys copied to the hall unchanged
 PLAIN = {
     "title": fields.TEXT,
-    "host": fields.TEXT._replace(usual="127.0.0.1"),
-    "address": fields.TEXT._replace(usual="127.0.0.1"),
+    "host": fields.TEXT._replace(default="127.0.0.1"),
+    "address": fields.TEXT._replace(default="127.0.0.1"),
     "names": fields.MAYBE_NAMES,
     "https": fields.FLAG,
     "zone": Field(is_zone, 'a time zone such as "Europe/Berlin"', "UTC"),
     "language": fields.one_of(LANGUAGES, "en"),
-    "database": fields.TEXT._replace(usual="sqlite"),
+    "database": fields.TEXT._replace(default="sqlite"),
     "minutes": fields.count(8),
     "gather": fields.count(60),
     "pause": fields.count(5),
@@ -149,7 +151,7 @@ FIELDS = {
     "freeze": TIME,
     "team": fields.tables("team", []),
     "network": fields.tables("network"),
-    RATED: Field(lambda it: True, "", None),
+    RATED: Field(lambda value: True, "", None),
     "limits": fields.table("limits", {}),
     "hand_ins": fields.table("hand_ins", None),
     "editor": fields.table("editor", None),
@@ -164,7 +166,7 @@ LIMITS = {
 }
 MEMBER = {
     "name": Field(
-        lambda it: isinstance(it, str) and bool(TEAM.fullmatch(it)),
+        lambda value: isinstance(value, str) and bool(TEAM.fullmatch(value)),
         "given for each team, of 1 to 16 "
         "characters out of a to z, 0 to 9 and -, which does not come first",
     ),
@@ -173,15 +175,17 @@ MEMBER = {
 HOLES = "a whole number less than the nodes"
 NET = {
     "name": Field(
-        lambda it: is_text(it) and len(it) <= 60,
+        lambda value: is_text(value) and len(value) <= 60,
         "given for each network: a text of at most 60 characters, "
         'such as "ring of 16"',
     ),
     "agents": AGENTS,
     "holes": Field(is_number, HOLES, 1),
-    "quota": fields.up_to(MOST_QUOTA, SMALL_QUOTA),
-    "board": fields.up_to(MOST_BOARD, SMALL_BOARD, 0),
-    "labels": Field(lambda it: it in (DRAWN, FIXED), f'"{DRAWN}" or "{FIXED}"', DRAWN),
+    "quota": fields.up_to(MAX_QUOTA, SMALL_QUOTA),
+    "board": fields.up_to(MAX_BOARD, SMALL_BOARD, 0),
+    "labels": Field(
+        lambda value: value in (DRAWN, FIXED), f'"{DRAWN}" or "{FIXED}"', DRAWN
+    ),
     "map": fields.FLAG,
 }
 HAND_INS = {
@@ -189,7 +193,7 @@ HAND_INS = {
         is_text, "given in [hand_ins]: the words that start the program of one agent"
     ),
     "file": Field(
-        lambda it: is_text(it) and bool(re.fullmatch(r"\w[\w.-]{0,60}", it)),
+        lambda value: is_text(value) and bool(re.fullmatch(r"\w[\w.-]{0,60}", value)),
         "the name of a file",
         "agent.py",
     ),
@@ -207,7 +211,7 @@ HAND_INS = {
 
 EDITOR = {
     "languages": Field(
-        lambda it: is_texts(it) and set(it) <= set(KITS),
+        lambda value: is_texts(value) and set(value) <= set(KITS),
         f"a list of {', '.join(KITS)}",
         ["python"],
     ),
@@ -219,20 +223,20 @@ EDITOR = {
 }
 
 
-class NoHall(Fault):
+class HallError(ArenaError):
     """A file is no hall; says what to change."""
 
 
 class Member(NamedTuple):
-    """A team: its name, and how it is shown."""
+    """A team: its name, and the name for display."""
 
     name: str
     display: str
 
 
 class Net(NamedTuple):
-    """A network of the hall: by which word or file it is named, and how matches on it
-    are drawn."""
+    """A network of the hall: its name, the word or file that defines it, and the
+    settings of draws."""
 
     name: str
     word: str
@@ -246,7 +250,7 @@ class Net(NamedTuple):
 
 
 class TeamLimits(NamedTuple):
-    """What a team may take, and how much is done at a time."""
+    """Limits on a team's resources and on concurrent work."""
 
     at_once: int
     a_day: int
@@ -274,8 +278,8 @@ class HandInRules(NamedTuple):
 
 
 class EditorRules(NamedTuple):
-    """What teams may try in the browser: with which kits, for how many seconds, how many
-    programs at a time, and how many a day."""
+    """Limits on the browser editor: kits, seconds, concurrent programs, and trials per
+    day."""
 
     languages: List[str]
     seconds: int
@@ -286,7 +290,7 @@ class EditorRules(NamedTuple):
 
 
 class Hall(NamedTuple):
-    """What a hall's file says."""
+    """The contents of a hall's file."""
 
     path: pathlib.Path
     text: str
@@ -309,65 +313,65 @@ class Hall(NamedTuple):
     limits: TeamLimits
     hand_ins: Optional[HandInRules]
     editor: Optional[EditorRules]
-    # what the teacher is told when the hall starts
+    # messages for the teacher at the start of the hall
     notes: List[str]
 
     @property
     def turns(self) -> int:
-        """How many turns a match has."""
+        """Returns how many turns a match has."""
         return self.minutes * 60_000 // self.pause
 
 
-def read(path: pathlib.Path, kept: Optional[pathlib.Path] = None) -> Hall:
-    """The hall of a file, or of a copy of it that was kept."""
+def read_hall(path: pathlib.Path, copy: Optional[pathlib.Path] = None) -> Hall:
+    """Reads the hall of a file, or of a saved copy of the file."""
     try:
-        return hall_of((kept or path).read_text(encoding="utf-8"), path.resolve())
+        return hall_of((copy or path).read_text(encoding="utf-8"), path.resolve())
     except FileNotFoundError:
-        raise NoHall(
+        raise HallError(
             f"{path}: there is no such file: `arena-lab hall new FILE` writes one"
         ) from None
     except UnicodeDecodeError:
-        raise NoHall(f"{path}: it is no text in UTF-8") from None
-    except (WrongFile, NoNetwork) as fault:
-        raise NoHall(f"{path}: {fault}") from None
+        raise HallError(f"{path}: it is no text in UTF-8") from None
+    except (FileFormatError, NetworkError) as fault:
+        raise HallError(f"{path}: {fault}") from None
 
 
 @functools.lru_cache(maxsize=4)
 def hall_of(text: str, path: pathlib.Path) -> Hall:
     """The hall that a text says."""
-    found = fields.table_of(text)
-    said = fields.values_of(found, FIELDS, "a hall")
-    nets = nets_of(said["network"], path.parent)
-    limits = TeamLimits(**fields.values_of(said["limits"], LIMITS, "limits"))
-    check_ports(said["ports"], limits)
-    zone = said["zone"]
+    table = fields.table_of(text)
+    values = fields.values_of(table, FIELDS, "a hall")
+    nets = nets_of(values["network"], path.parent)
+    limits = TeamLimits(**fields.values_of(values["limits"], LIMITS, "limits"))
+    check_ports(values["ports"], limits)
+    zone = values["zone"]
     return Hall(
-        **{name: said[name] for name in PLAIN},
+        **{name: values[name] for name in PLAIN},
         path=path,
         text=text,
-        ports=(said["ports"][0], said["ports"][1]),
-        freeze=time_of(said, "freeze", zone),
-        teams=teams_of(said["team"]),
+        ports=(values["ports"][0], values["ports"][1]),
+        freeze=time_of(values, "freeze", zone),
+        teams=teams_of(values["team"]),
         nets=nets,
         limits=limits,
         hand_ins=None
-        if said["hand_ins"] is None
-        else hand_ins_of(said["hand_ins"], zone, path.parent),
+        if values["hand_ins"] is None
+        else hand_ins_of(values["hand_ins"], zone, path.parent),
         editor=None
-        if said["editor"] is None
-        else EditorRules(**fields.values_of(said["editor"], EDITOR, "editor")),
-        notes=notes_of(found),
+        if values["editor"] is None
+        else EditorRules(**fields.values_of(values["editor"], EDITOR, "editor")),
+        notes=notes_of(table),
     )
 
 
-def notes_of(found: Dict[str, Any]) -> List[str]:
-    """What a file says that comes to nothing."""
+def notes_of(table: Dict[str, Any]) -> List[str]:
+    """Returns notes about settings of the file that have no effect."""
     notes = []
-    if RATED in found:
+    if RATED in table:
         notes.append(
             f"[{RATED}] is passed over: matches over sockets are practice, and only hand-ins are ranked"
         )
-    if "hand_ins" in found and "deadline" not in found["hand_ins"]:
+    if "hand_ins" in table and "deadline" not in table["hand_ins"]:
         notes.append(
             "[hand_ins] has no deadline: no hand-in is graded by the secret draw until you write one"
         )
@@ -378,31 +382,32 @@ def check_ports(ports: Sequence[int], limits: TeamLimits) -> None:
     """Refuses a hall that could play more matches than it has ports for."""
     count = ports[1] - ports[0] + 1
     if limits.matches > count:
-        raise WrongFile(
+        raise FileFormatError(
             f"[limits] has matches = {limits.matches}, and there are only {count} ports: name more by "
             "ports"
         )
 
 
-def time_of(said: Dict[str, Any], name: str, zone: str) -> Optional[datetime.datetime]:
+def time_of(table: Dict[str, Any], name: str, zone: str) -> Optional[datetime.datetime]:
     """A time of the zone."""
     try:
-        found = (
-            datetime.datetime.fromisoformat(said[name])
-            if isinstance(said[name], str)
-            else said[name]
+        time = (
+            datetime.datetime.fromisoformat(table[name])
+            if isinstance(table[name], str)
+            else table[name]
         )
     except ValueError:
-        raise WrongFile(f"{name} must be {TIMES}") from None
+        raise FileFormatError(f"{name} must be {TIMES}") from None
     return (
-        found
-        if found is None or found.tzinfo is not None
-        else found.replace(tzinfo=zoneinfo.ZoneInfo(zone))
+        time
+        if time is None or time.tzinfo is not None
+        else time.replace(tzinfo=zoneinfo.ZoneInfo(zone))
     )
 
 
 def teams_of(tables: List[Dict[str, Any]]) -> List[Member]:
-    """The teams, which may be none: the teacher may add them later."""
+    """Parses the tables of teams. There may be none, because the teacher can add teams
+    later."""
     rows = fields.unlike(
         [fields.values_of(table, MEMBER, "a team") for table in tables], "team"
     )
@@ -422,9 +427,9 @@ def net_of(row: Dict[str, Any], folder: pathlib.Path) -> Net:
     """The network that a [[network]] table says."""
     word = word_of(row["network"], folder)
     agents = row["agents"]
-    network = networks.biconnected(word)
+    network = networks.check_biconnected(word)
     if row["holes"] >= network.nodes:
-        raise WrongFile(f"holes must be {HOLES}")
+        raise FileFormatError(f"holes must be {HOLES}")
     return Net(
         row["name"],
         word,
@@ -447,17 +452,17 @@ def word_of(name: str, folder: pathlib.Path) -> str:
 def hand_ins_of(table: Dict[str, Any], zone: str, folder: pathlib.Path) -> HandInRules:
     """How programs are handed in."""
     command = str(table.get("command"))
-    usual = {"file": file_in(command)} if is_module(command) else {}
-    said = fields.values_of({**usual, **table}, HAND_INS, "hand_ins")
-    check_command(said["command"], "of the hall")
-    public = {word_of(name, folder): name for name in said["networks"]}
-    secret = {word_of(name, folder): name for name in said["secret"]}
+    default = {"file": file_in(command)} if is_module(command) else {}
+    values = fields.values_of({**default, **table}, HAND_INS, "hand_ins")
+    check_command(values["command"], "of the hall")
+    public = {word_of(name, folder): name for name in values["networks"]}
+    secret = {word_of(name, folder): name for name in values["secret"]}
     for word in {**public, **secret}:
-        networks.biconnected(word)
-    given: Dict[str, Any] = {
-        **said,
+        networks.check_biconnected(word)
+    rules: Dict[str, Any] = {
+        **values,
         "networks": public,
         "secret": secret or public,
-        "deadline": time_of(said, "deadline", zone),
+        "deadline": time_of(values, "deadline", zone),
     }
-    return HandInRules(**given)
+    return HandInRules(**rules)

@@ -30,12 +30,12 @@ def sync(hall: Hall) -> None:
 
 def new_tokens(teams: Iterable[Team], who: str) -> Sheet:
     """Draws new tokens for teams; gives the rows of their sheets."""
-    found: Sheet = []
+    sheet: Sheet = []
     with transaction.atomic():
         for team in teams:
-            found.append((team.name, str(team), team.new_token()))
+            sheet.append((team.name, str(team), team.new_token()))
             note(who, f"draws a token for {team.name}")
-    return found
+    return sheet
 
 
 def draw_missing(path: pathlib.Path) -> int:
@@ -61,10 +61,10 @@ def safe(rows: Iterable[Iterable[Any]]) -> List[List[Any]]:
     """The rows of a table in which no program takes a text for a formula."""
     return [
         [
-            f"'{it}"
-            if isinstance(it, str) and it[:1] in ("=", "+", "-", "@", "\t", "\r")
-            else it
-            for it in row
+            f"'{cell}"
+            if isinstance(cell, str) and cell[:1] in ("=", "+", "-", "@", "\t", "\r")
+            else cell
+            for cell in row
         ]
         for row in rows
     ]

@@ -13,7 +13,7 @@ begun again, without end. What fails by itself would fail again, and is not.
 """
 from typing import FrozenSet, List, NamedTuple, Tuple
 
-from arena_lab.support.faults import Fault
+from arena_lab.support.faults import ArenaError
 
 WAITING = "waiting"
 HELD = "held"
@@ -21,7 +21,7 @@ RUNNING = "running"
 OVER = "over"
 LOST = "lost"
 CANCELLED = "cancelled"
-# no step leads out of these
+# final states
 ENDED: FrozenSet[str] = frozenset((OVER, LOST, CANCELLED))
 ACTIVE: FrozenSet[str] = frozenset((HELD, RUNNING))
 
@@ -38,7 +38,7 @@ CANCEL = "cancel"
 BY_HOLDER: FrozenSet[str] = frozenset((BEGIN, RENEW, FINISH, FAIL))
 
 
-class MachineFault(Fault):
+class MachineFaultError(ArenaError):
     """A run came to nothing by a fault of the machine, as another may not: it may find
     another port, or a machine that has room. Says why."""
 

@@ -6,7 +6,7 @@ from typing import IO, Any, cast
 
 SUFFIX = ".gz"
 # bytes of a file that is worth it
-LEAST = 4_096
+MIN_BYTES = 4_096
 
 
 def size_of(folder: pathlib.Path) -> int:
@@ -19,21 +19,23 @@ def pack(folder: pathlib.Path) -> int:
     bytes of all of them then. Whatever ends it, each file is there."""
     for path in list(folder.rglob("*")):
         is_packed = path.suffix == SUFFIX or path.is_symlink() or not path.is_file()
-        if not is_packed and path.stat().st_size > LEAST:
-            with path.open("rb") as plain, gzip.open(f"{path}{SUFFIX}", "wb") as packed:
-                shutil.copyfileobj(plain, packed)
+        if not is_packed and path.stat().st_size > MIN_BYTES:
+            with path.open("rb") as plain, gzip.open(
+                f"{path}{SUFFIX}", "wb"
+            ) as gzip_file:
+                shutil.copyfileobj(plain, gzip_file)
             path.unlink()
     return size_of(folder)
 
 
-def place(path: pathlib.Path) -> pathlib.Path:
-    """Where a file is: by itself, or compressed."""
+def packed_path(path: pathlib.Path) -> pathlib.Path:
+    """Returns the path of a file, or of its compressed version."""
     return path if path.is_file() else path.with_name(path.name + SUFFIX)
 
 
-def opened(path: pathlib.Path) -> IO[Any]:
-    """A file as it was, in bytes."""
-    found = place(path)
-    if found == path:
+def open_packed(path: pathlib.Path) -> IO[Any]:
+    """Opens a file, decompressed if needed, for reading bytes."""
+    packed = packed_path(path)
+    if packed == path:
         return path.open("rb")
-    return cast(IO[Any], gzip.open(found))
+    return cast(IO[Any], gzip.open(packed))

@@ -12,17 +12,17 @@ import tempfile
 import zlib
 from typing import NamedTuple, Optional
 
-from arena_lab.hall.course import Hall, NoHall, read
+from arena_lab.hall.course import Hall, HallError, read_hall
 
 VARIABLE = "ARENA_HALL"
-PLACE = "hall.json"
+PLACE_FILE = "hall.json"
 KEY = "key.txt"
 SECRET = "secret.txt"
 PASSWORD = "password.txt"
 # with this behind it a password is looked at however many were wrong
 LOGIN = "login.txt"
 # the course's file as it was when the hall was started last
-KEPT = "course.toml"
+COURSE_COPY = "course.toml"
 
 
 class HallFolder(NamedTuple):
@@ -36,19 +36,19 @@ class HallFolder(NamedTuple):
     def hall(self) -> Hall:
         """The course as it was when the hall was started: what is saved meanwhile is
         read at the next start."""
-        kept = self.folder / KEPT
-        return read(self.course, kept if kept.exists() else None)
+        copy = self.folder / COURSE_COPY
+        return read_hall(self.course, copy if copy.exists() else None)
 
     def to_serve(self) -> Hall:
-        """The course for a start, which writes nothing yet. If its file has a mistake,
-        that is said, and the file of the last start is taken, so that a hall that was
-        up comes up again."""
+        """Reads the course for a start, without writing. If its file is invalid, it
+        prints the error and returns the course of the last start, so that a hall
+        restarts in any case."""
         try:
-            return read(self.course)
-        except NoHall as fault:
-            if not (self.folder / KEPT).exists():
+            return read_hall(self.course)
+        except HallError as fault:
+            if not (self.folder / COURSE_COPY).exists():
                 raise
-            tell(
+            log_line(
                 f"{fault}; until you mend it, the hall goes on by the file of its last start"
             )
             return self.hall()
@@ -59,12 +59,12 @@ class HallFolder(NamedTuple):
         self.folder.chmod(0o700)
 
     def write(self, hall: Optional[Hall] = None) -> None:
-        """Makes the folder, and notes what it is of, and by what file it is served."""
+        """Creates the folder and records the course file and the program."""
         self.make()
-        found = {"course": str(self.course.resolve()), "program": self.program}
-        write_whole(self.folder / PLACE, json.dumps(found) + "\n")
+        record = {"course": str(self.course.resolve()), "program": self.program}
+        write_whole(self.folder / PLACE_FILE, json.dumps(record) + "\n")
         if hall is not None:
-            write_whole(self.folder / KEPT, hall.text)
+            write_whole(self.folder / COURSE_COPY, hall.text)
 
     def secret(self, name: str) -> str:
         """A secret of the hall, which is drawn when it is first asked for."""
@@ -97,38 +97,38 @@ def remove_left(folder: pathlib.Path) -> None:
     """Removes what processes that were killed have left: hand-ins that are not taken
     yet, and temporary files of gradings. Nobody serves the hall meanwhile."""
     temporary = pathlib.Path(tempfile.gettempdir())
-    for left in (
+    for leftover in (
         *folder.glob("hand-ins/new-*"),
         *temporary.glob(f"{temporary_of(folder)}*"),
     ):
-        shutil.rmtree(left, ignore_errors=True)
+        shutil.rmtree(leftover, ignore_errors=True)
 
 
 def folder_of(course: pathlib.Path) -> pathlib.Path:
-    """Where the hall of a course is, unless another folder is named."""
+    """Returns the default folder of a course's hall."""
     return course.resolve().with_suffix(".hall")
 
 
 def at(folder: pathlib.Path) -> HallFolder:
-    """The place that a folder is."""
+    """Opens the hall folder; raises HallError if it has no record of a hall."""
     try:
-        found = json.loads((folder / PLACE).read_text(encoding="utf-8"))
+        record = json.loads((folder / PLACE_FILE).read_text(encoding="utf-8"))
     except FileNotFoundError:
-        raise NoHall(
+        raise HallError(
             f"{folder}: there is no hall: start one by `arena-lab hall COURSE.toml`"
         ) from None
-    return HallFolder(folder, pathlib.Path(found["course"]), found["program"])
+    return HallFolder(folder, pathlib.Path(record["course"]), record["program"])
 
 
 def current() -> HallFolder:
     """The place of the hall that this process belongs to."""
     folder = os.environ.get(VARIABLE)
     if not folder:
-        raise NoHall(f"{VARIABLE} names no hall")
+        raise HallError(f"{VARIABLE} names no hall")
     return at(pathlib.Path(folder))
 
 
-def tell(line: str) -> None:
+def log_line(line: str) -> None:
     """Says a line to whoever runs the hall. A full disk, which may not take it, ends
     nothing."""
     with contextlib.suppress(OSError):

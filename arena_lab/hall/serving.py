@@ -11,60 +11,68 @@ import time
 from typing import Dict, Iterator, List, NamedTuple, Optional
 
 from arena_lab.hall.attempts.servers import bound
-from arena_lab.hall.course import NoHall
-from arena_lab.hall.place import VARIABLE, HallFolder, tell
+from arena_lab.hall.course import HallError
+from arena_lab.hall.place import VARIABLE, HallFolder, log_line
 from arena_lab.support.built import TOP
 
 LOCK = "lock"
 # seconds between two looks, before a process that has ended is started again, and that
 # all may take to end
 LOOK = 0.3
-AGAIN = 1.0
+RETRY_SECONDS = 1.0
 PATIENCE = 8.0
 Children = Dict[str, "subprocess.Popen[bytes]"]
 
 
 class Options(NamedTuple):
-    """How a hall is served: where its pages are, or None if it only works for another
-    machine's, and how many workers it has."""
+    """Options of a hall: address of its pages (None for a machine with workers only),
+    and the number of workers."""
 
     pages: Optional[List[object]]
     workers: int
 
 
 @contextlib.contextmanager
-def alone(place: HallFolder) -> Iterator[None]:
+def alone(hall_folder: HallFolder) -> Iterator[None]:
     """Refuses a folder whose hall is served already."""
-    with (place.folder / LOCK).open("a") as lock:
+    with (hall_folder.folder / LOCK).open("a") as lock:
         try:
             fcntl.flock(lock, fcntl.LOCK_EX | fcntl.LOCK_NB)
         except BlockingIOError:
-            raise NoHall(f"{place.folder}: this hall is served already") from None
+            raise HallError(
+                f"{hall_folder.folder}: this hall is served already"
+            ) from None
         yield
 
 
 def commands(options: Options) -> Dict[str, List[object]]:
     """The commands of the hall's processes, by their names."""
-    found: Dict[str, List[object]] = {
+    processes: Dict[str, List[object]] = {
         f"worker {number}": ["worker", number] for number in range(options.workers)
     }
-    return found if options.pages is None else {**found, "web": ["web", *options.pages]}
+    return (
+        processes
+        if options.pages is None
+        else {**processes, "web": ["web", *options.pages]}
+    )
 
 
-def started(place: HallFolder, words: List[object]) -> "subprocess.Popen[bytes]":
+def start_process(
+    hall_folder: HallFolder, words: List[object]
+) -> "subprocess.Popen[bytes]":
     # strangers choose the keys of forms: sets and dictionaries have an order of their
     # own in each process
     variables = {
         **os.environ,
-        VARIABLE: str(place.folder),
+        VARIABLE: str(hall_folder.folder),
         "PYTHONPATH": str(TOP),
         "PYTHONHASHSEED": "random",
     }
     command = bound(
-        [sys.executable, "-m", "arena_lab.hall.entry", place.folder, *words]
+        [sys.executable, "-m", "arena_lab.hall.entry", hall_folder.folder, *words]
     )
     return subprocess.Popen(
-        command, stdin=subprocess.DEVNULL, env=variables, cwd=place.folder
+        command, stdin=subprocess.DEVNULL, env=variables, cwd=hall_folder.folder
     )
 
 
@@ -80,11 +88,13 @@ def end(children: Children) -> None:
         child.wait()
 
 
-def serve(place: HallFolder, options: Options, seconds: Optional[float] = None) -> None:
+def serve(
+    hall_folder: HallFolder, options: Options, seconds: Optional[float] = None
+) -> None:
     """Serves a hall until it is ended, or for this number of seconds."""
     limit = float("inf") if seconds is None else time.monotonic() + seconds
     children: Children = {}
-    begun: Dict[str, float] = {}
+    begin_times: Dict[str, float] = {}
     try:
         while time.monotonic() < limit:
             for name, words in commands(options).items():
@@ -92,15 +102,16 @@ def serve(place: HallFolder, options: Options, seconds: Optional[float] = None) 
                 if (
                     child is not None
                     and child.poll() is None
-                    or time.monotonic() - begun.get(name, -AGAIN) < AGAIN
+                    or time.monotonic() - begin_times.get(name, -RETRY_SECONDS)
+                    < RETRY_SECONDS
                 ):
                     continue
                 if child is not None:
-                    tell(
+                    log_line(
                         f"{name} has ended with status {child.returncode} and is started again"
                     )
-                children[name] = started(place, words)
-                begun[name] = time.monotonic()
+                children[name] = start_process(hall_folder, words)
+                begin_times[name] = time.monotonic()
             time.sleep(LOOK)
     finally:
         signal.signal(signal.SIGTERM, signal.SIG_IGN)

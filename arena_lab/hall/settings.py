@@ -62,31 +62,31 @@ TEMPLATES = [
                 "django.template.context_processors.request",
                 "django.contrib.auth.context_processors.auth",
                 "django.contrib.messages.context_processors.messages",
-                "arena_lab.hall.teams.logins.shown",
+                "arena_lab.hall.teams.logins.page_context",
             ]
         },
     }
 ]
 
 
-def database_of(said: str) -> Dict[str, Any]:
+def database_of(address: str) -> Dict[str, Any]:
     """The database: a file in the hall's folder, or the PostgreSQL of an address."""
-    if said == "sqlite":
+    if address == "sqlite":
         return {
             "ENGINE": "arena_lab.hall.sqlite",
             "NAME": str(PLACE.folder / "hall.sqlite3"),
             "OPTIONS": {"timeout": 30},
         }
-    found = urllib.parse.urlsplit(said)
+    url = urllib.parse.urlsplit(address)
     parts = {
-        "USER": found.username,
-        "PASSWORD": found.password,
-        "HOST": found.hostname,
-        "PORT": found.port,
+        "USER": url.username,
+        "PASSWORD": url.password,
+        "HOST": url.hostname,
+        "PORT": url.port,
     }
     return {
         "ENGINE": "django.db.backends.postgresql",
-        "NAME": found.path.lstrip("/"),
+        "NAME": url.path.lstrip("/"),
         "CONN_MAX_AGE": 60,
         # a worker whose machine has gone does not keep the others from the queue
         "OPTIONS": {"options": "-c idle_in_transaction_session_timeout=10s"},

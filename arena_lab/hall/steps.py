@@ -16,23 +16,24 @@ from django.utils import timezone
 from django.utils.translation import gettext_lazy as _
 
 from arena_lab.hall import machine
-from arena_lab.hall.place import tell
+from arena_lab.hall.place import log_line
 from arena_lab.hall.teams.models import note
-from arena_lab.support.faults import Fault
+from arena_lab.support.faults import ArenaError
 
 # how many seconds a worker may be silent, and how often it says that it is there
 LEASE = float(os.environ.get("ARENA_HALL_LEASE", "30"))
-RENEWED = LEASE / 5
-# after how many faults of the machine the teacher is told, and how many seconds pass at
-# most before work is begun again
-TOLD = 3
+RENEWAL_SECONDS = LEASE / 5
+# machine faults after which the teacher is informed, and maximal seconds before work
+# restarts
+MAX_ATTEMPTS = 3
 LONGEST = 600.0
 # seconds between two looks at what does the work
 LOOK = 0.2
-# set once this process is told to end: what it does is given up, and done again by the
-# next
-STOPPED = threading.Event()
-AGAIN = _("the hall was stopped meanwhile: it is done again, a match with other keys")
+# set when this process must end: its work is given up, and the next process repeats it
+STOP_EVENT = threading.Event()
+REPEATED_TEXT = _(
+    "the hall was stopped meanwhile: it is done again, a match with other keys"
+)
 MACHINE = _("the machine has a fault: it is done again, a match with other keys")
 
 
@@ -65,11 +66,10 @@ class Work(models.Model):
 
 
 class StoredWork(Work):
-    """Work with a folder of its own, below one of the hall's folders that all of its
-    kind have."""
+    """Work that stores files, in a folder below the common folder of its kind."""
 
     FOLDERS = ""
-    # the bytes of its files, and of what came of it
+    # bytes of its files, results included
     size = models.BigIntegerField(default=0)
 
     class Meta:
@@ -92,55 +92,61 @@ def step(
     if event in machine.BY_HOLDER:
         rows = rows.filter(holder=holder)
     for row in machine.steps_of(event):
-        if rows.filter(state=row.state).update(**{**changed(row, holder), **changes}):
+        if rows.filter(state=row.state).update(
+            **{**step_columns(row, holder), **changes}
+        ):
             work.refresh_from_db()
             # meanwhile it may have been silent for long, and the row be another's
             return row.after not in machine.ACTIVE or work.holder == holder
     return False
 
 
-def changed(row: machine.Transition, holder: str) -> Dict[str, Any]:
-    """What a step changes of the columns that all work has."""
-    found: Dict[str, Any] = {"state": row.after, "beats": models.F("beats") + 1}
+def step_columns(row: machine.Transition, holder: str) -> Dict[str, Any]:
+    """Returns the changes of a step to the columns that all work has."""
+    columns: Dict[str, Any] = {"state": row.after, "beats": models.F("beats") + 1}
     if row.event == machine.CLAIM:
-        found.update(holder=holder)
+        columns.update(holder=holder)
     elif row.after not in machine.ACTIVE:
-        found.update(holder="")
+        columns.update(holder="")
     if row.event == machine.BEGIN:
-        found.update(runs=models.F("runs") + 1, begun=timezone.now(), fault="")
+        columns.update(runs=models.F("runs") + 1, begun=timezone.now(), fault="")
     if row.event == machine.LOSE:
-        found.update(faults=models.F("faults") + 1)
+        columns.update(faults=models.F("faults") + 1)
     if row.after in machine.ENDED:
-        found.update(ended=timezone.now(), fault="")
-    return found
+        columns.update(ended=timezone.now(), fault="")
+    return columns
 
 
-def claimed(work: Work) -> Optional[str]:
+def claim_work(work: Work) -> Optional[str]:
     """Claims work that waits; gives the holder, or nothing if another was faster."""
     holder = secrets.token_hex(16)
     return holder if step(work, machine.CLAIM, holder) else None
 
 
 def lose(work: Work, only: models.Q, why: str) -> bool:
-    """Notes a fault of the machine, after which work is begun again; the teacher is
-    told of work that does not come to an end."""
+    """Records a machine fault and queues the work again; the teacher is informed about
+    work that fails repeatedly."""
     is_lost = step(work, machine.LOSE, "", only, fault=why[:300])
-    if is_lost and work.faults == TOLD:
-        note("hall", f"{type(work).__name__} {work.pk}: {TOLD} faults of the machine")
-        tell(
-            f"{type(work).__name__} {work.pk}: {TOLD} faults, and is begun again: {why}"
+    if is_lost and work.faults == MAX_ATTEMPTS:
+        note(
+            "hall",
+            f"{type(work).__name__} {work.pk}: {MAX_ATTEMPTS} faults of the machine",
+        )
+        log_line(
+            f"{type(work).__name__} {work.pk}: {MAX_ATTEMPTS} faults, and is begun again: {why}"
         )
     return is_lost
 
 
 def pause(faults: int) -> float:
-    """How many seconds pass before work with this many faults is begun again."""
+    """Returns how many seconds pass before work with this many faults is begun
+    again."""
     return min(LONGEST, 4.0 ** min(faults - 1, 9)) if faults else 0.0
 
 
 class Watch:
-    """What this process has seen of one kind of work, and since when it stands so, by a
-    clock that nobody sets."""
+    """The last observed state of one kind of work, and since when it stands still by a
+    monotonic clock."""
 
     def __init__(self, kind: Any) -> None:
         self._kind = kind
@@ -167,27 +173,30 @@ class Watch:
         return resting
 
 
-class WorkerStopped(Exception):
-    """This process is told to end."""
+class WorkerStoppedError(Exception):
+    """This process must end."""
 
 
-class WorkLost(Exception):
-    """The work is not this worker's any more: it was given up, or another has it."""
+class WorkLostError(Exception):
+    """The worker does not hold the work any more: it has given it up, or another worker
+    holds it."""
 
 
 class Lease:
     """The hold that a worker has on the work that it does, as long as it counts on, every
     so many seconds."""
 
-    def __init__(self, work: Work, holder: str, renewed: float = RENEWED) -> None:
+    def __init__(
+        self, work: Work, holder: str, renewal_time: float = RENEWAL_SECONDS
+    ) -> None:
         self._work = work
         self._holder = holder
-        self._every = renewed
+        self._every = renewal_time
         self._renewed = time.monotonic()
 
     def renew(self) -> None:
         if not step(self._work, machine.RENEW, self._holder):
-            raise WorkLost
+            raise WorkLostError
         self._renewed = time.monotonic()
 
     def wait(self, seconds: float = LOOK) -> None:
@@ -195,38 +204,40 @@ class Lease:
         asked again, as long as the lease holds."""
         time.sleep(seconds)
         silent = time.monotonic() - self._renewed
-        if STOPPED.is_set():
-            raise WorkerStopped
+        if STOP_EVENT.is_set():
+            raise WorkerStoppedError
         if silent > self._every:
             try:
                 self.renew()
             except OperationalError:
                 if silent > LEASE:
-                    raise WorkLost from None
+                    raise WorkLostError from None
             finally:
                 if not connection.in_atomic_block:
                     connection.close()
 
 
 @contextlib.contextmanager
-def begun(kind: Any, number: int, holder: str, *related: str) -> Iterator[Any]:
-    """Work of this number that begins, or nothing if this holder does not hold it. What
-    ends it is noted; after a fault of the machine it is begun again."""
-    work = kind.objects.filter(pk=number).select_related(*related).first()
+def begin_work(
+    kind: Any, number: int, holder: str, *related_names: str
+) -> Iterator[Any]:
+    """Starts work as its holder, and yields it; yields None if the work has another
+    holder. Exceptions are recorded, and a machine fault queues the work again."""
+    work = kind.objects.filter(pk=number).select_related(*related_names).first()
     if work is None or not step(work, machine.BEGIN, holder):
         yield None
         return
     try:
         yield work
-    except WorkLost:
+    except WorkLostError:
         pass
-    except WorkerStopped:
-        lose(work, models.Q(holder=holder), str(AGAIN))
-    except (machine.MachineFault, OSError) as fault:
-        # it may name files, which teams are not told
-        tell(f"{type(work).__name__} {work.pk}: {fault}")
+    except WorkerStoppedError:
+        lose(work, models.Q(holder=holder), str(REPEATED_TEXT))
+    except (machine.MachineFaultError, OSError) as fault:
+        # the text may contain file names, which teams must not see
+        log_line(f"{type(work).__name__} {work.pk}: {fault}")
         lose(work, models.Q(holder=holder), str(MACHINE))
-    except Fault as fault:
+    except ArenaError as fault:
         step(work, machine.FAIL, holder, fault=str(fault)[:300])
 
 
@@ -240,10 +251,10 @@ class Stages(NamedTuple):
 
 
 def do_in_folder(
-    kind: Any, number: int, holder: str, stages: Stages, *related: str
+    kind: Any, number: int, holder: str, stages: Stages, *related_names: str
 ) -> None:
     """Does the work of this number, if this holder holds it."""
-    with begun(kind, number, holder, *related) as work:
+    with begin_work(kind, number, holder, *related_names) as work:
         if work is None:
             return
         # a worker that comes back too late finds the files of no other

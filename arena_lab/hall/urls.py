@@ -30,7 +30,7 @@ OPENAPI = pathlib.Path(__file__).resolve().parent / "openapi.json"
 
 
 def openapi(request: Any) -> HttpResponse:
-    """What REST has."""
+    """Sends the OpenAPI description of the REST interface."""
     return HttpResponse(OPENAPI.read_bytes(), content_type="application/json")
 
 
@@ -71,13 +71,13 @@ def health(request: Any) -> JsonResponse:
 
 
 def fault(request: Any) -> HttpResponse:
-    """What is answered if something ends a request. On a full disk nothing can be
-    written, and the hall goes on once there is room."""
-    found = sys.exc_info()[1]
+    """Handles exceptions of views. On a full disk nothing can be written, and the hall
+    continues once there is space."""
+    error = sys.exc_info()[1]
     if (
-        isinstance(found, OperationalError)
-        or isinstance(found, OSError)
-        and found.errno == errno.ENOSPC
+        isinstance(error, OperationalError)
+        or isinstance(error, OSError)
+        and error.errno == errno.ENOSPC
     ):
         return refusal(503, _("the hall cannot write this now: tell your teacher"))
     return server_error(request)
@@ -120,20 +120,20 @@ urlpatterns = [
     path("contests/<number:number>/screen", standings.screen),
     path("login", teams.login),
     path("logout", teams.logout),
-    path("matches", attempts.listed),
+    path("matches", attempts.list_attempts),
     path("matches/ask", attempts.ask),
-    path("matches/<number:number>", attempts.one),
+    path("matches/<number:number>", attempts.show_attempt),
     path("matches/<number:number>/close", attempts.close),
     path("matches/<number:number>/<number:match>/replay", attempts.replay),
     path("matches/<number:number>/<number:match>/page", attempts.page),
     path("write", drafts.page),
     path("write/guest", drafts.begin_as_guest),
-    path("write/trials/<number:number>/page", drafts.watched),
-    path("hand-ins", handins.listed),
+    path("write/trials/<number:number>/page", drafts.match_page),
+    path("hand-ins", handins.list_hand_ins),
     path("hand-ins/take", handins.take),
     path("hand-ins/conditions.toml", handins.conditions),
     path("hand-ins/conditions-<number:number>.toml", handins.conditions),
-    path("hand-ins/<number:number>", handins.one),
+    path("hand-ins/<number:number>", handins.show_hand_in),
     path("messages", teams.messages),
     re_path(
         r"^hand-ins/(?P<number>\d{1,9})/result/(?P<path>[\w./-]*)$", handins.result

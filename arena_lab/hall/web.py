@@ -14,13 +14,13 @@ SILENT = 20
 # files that are open at a time, and connections with more than the hall has of them
 FILES = 3 * HallServer.bounds.all
 LOOPBACK = ("127.0.0.1", "::1", "localhost")
-FORWARDED = {"x-forwarded-for", "x-forwarded-proto"}
+FORWARDED_HEADERS = {"x-forwarded-for", "x-forwarded-proto"}
 
 
 def options(address: str, is_behind: bool) -> Dict[str, Any]:
-    """How waitress serves. Who asks is said by the server before the hall, if there is
-    one, and by nobody else."""
-    found: Dict[str, Any] = {
+    """Returns waitress's options. The client's address comes from the reverse proxy, if
+    there is one, and is never taken from other clients."""
+    server_options: Dict[str, Any] = {
         "threads": THREADS,
         "connection_limit": FILES,
         "channel_timeout": SILENT,
@@ -32,17 +32,17 @@ def options(address: str, is_behind: bool) -> Dict[str, Any]:
         "clear_untrusted_proxy_headers": True,
     }
     if is_behind:
-        found.update(
+        server_options.update(
             trusted_proxy="127.0.0.1" if address in LOOPBACK else "*",
-            trusted_proxy_headers=FORWARDED,
+            trusted_proxy_headers=FORWARDED_HEADERS,
         )
-    return found
+    return server_options
 
 
 def main(address: str, port: str) -> None:
-    _, most = resource.getrlimit(resource.RLIMIT_NOFILE)
+    _, limit = resource.getrlimit(resource.RLIMIT_NOFILE)
     resource.setrlimit(
-        resource.RLIMIT_NOFILE, (min(most, FILES) if most > 0 else FILES, most)
+        resource.RLIMIT_NOFILE, (min(limit, FILES) if limit > 0 else FILES, limit)
     )
     servers(
         get_wsgi_application(),

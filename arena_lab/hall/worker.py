@@ -1,6 +1,6 @@
-"""A worker claims work that waits in the database, and does each piece in a thread.
-There may be any number of workers, also on other machines. They keep in mind only since
-when work stands as it does, so each may be killed and started again at any moment."""
+"""A worker claims queued work from the database and runs each piece in a thread.
+Several workers, also on several machines, may run. A worker remembers only
+since when work stands still, so killing and restarting it is safe at any moment."""
 import collections
 import signal
 import threading
@@ -17,13 +17,13 @@ from arena_lab.hall.attempts import playing
 from arena_lab.hall.attempts.models import Attempt, Pages
 from arena_lab.hall.drafts import playing as tried
 from arena_lab.hall.drafts import trying
-from arena_lab.hall.drafts.forking import PARENT
+from arena_lab.hall.drafts.forking import FORK_SERVER
 from arena_lab.hall.drafts.models import Trial
 from arena_lab.hall.handins import grading
 from arena_lab.hall.handins.models import Grading
 from arena_lab.hall.handins.taking import grade_secretly
-from arena_lab.hall.place import tell
-from arena_lab.hall.steps import STOPPED, Watch, claimed
+from arena_lab.hall.place import log_line
+from arena_lab.hall.steps import STOP_EVENT, Watch, claim_work
 
 KINDS = (Attempt, Pages, Grading, Trial)
 # seconds between two looks, and between two that ask for gradings by the secret draw
@@ -34,24 +34,30 @@ Job = Tuple[Callable[[int, str], None], Any]
 
 
 def watches() -> List[Watch]:
-    """What a worker that has just begun has seen: nothing."""
+    """Returns the initial watches of a new worker."""
     return [Watch(kind) for kind in KINDS]
 
 
 def due(resting: Dict[Any, Set[int]]) -> List[Job]:
-    """What may begin now."""
+    """Returns the jobs that may start now."""
     limits = settings.HALL.limits
     pages = Pages.objects.filter(state__in=machine.ACTIVE).count()
     return [
-        *((playing.play, it) for it in due_attempts(limits.matches, resting[Attempt])),
         *(
-            (playing.make_pages, it)
-            for it in Pages.objects.filter(state=machine.WAITING)
+            (playing.play, attempt)
+            for attempt in due_attempts(limits.matches, resting[Attempt])
+        ),
+        *(
+            (playing.make_pages, pages)
+            for pages in Pages.objects.filter(state=machine.WAITING)
             .exclude(pk__in=resting[Pages])
             .order_by("pk")[: max(0, 2 - pages)]
         ),
-        *((grading.grade, it) for it in grading.due(limits.gradings, resting[Grading])),
-        *((tried.play, it) for it in due_trials(resting[Trial])),
+        *(
+            (grading.grade, grading_row)
+            for grading_row in grading.due(limits.gradings, resting[Grading])
+        ),
+        *((tried.play, trial) for trial in due_trials(resting[Trial])),
     ]
 
 
@@ -61,12 +67,12 @@ def due_trials(resting: Set[int]) -> List[Trial]:
     return [] if rules is None else trying.due(rules.trials, resting)
 
 
-def due_attempts(most: int, resting: Collection[int] = ()) -> List[Any]:
+def due_attempts(limit: int, resting: Collection[int] = ()) -> List[Any]:
     """The attempts that may begin, fairly: first those of teams with the fewest that
     run, up to this number, and none that rests."""
     running = Attempt.objects.filter(state__in=machine.ACTIVE).order_by()
     busy = collections.Counter(running.values_list("team", flat=True))
-    free = max(0, most - sum(busy.values()))
+    free = max(0, limit - sum(busy.values()))
     waiting = []
     for attempt in Attempt.objects.filter(state=machine.WAITING).order_by("pk"):
         if attempt.pk in resting:
@@ -76,19 +82,18 @@ def due_attempts(most: int, resting: Collection[int] = ()) -> List[Any]:
     return [attempt for _, _, attempt in sorted(waiting)[:free]]
 
 
-def claim(seen: List[Watch]) -> List[Tuple[Job, str]]:
-    """Claims what may begin now, with the holder of each piece. Workers take turns, so
-    that no two of them count what runs at the same time: a row that always is there
-    stands for the queue, and SQLite lets one write at a time. Who has waited for its
-    turn may be told to end meanwhile, and claims nothing then."""
+def claim(watches_list: List[Watch]) -> List[Tuple[Job, str]]:
+    """Claims all work that may begin, each with its holder. Workers lock a row that
+    always exists (SQLite allows one writer anyway), so that no two of them count
+    running work at the same time. A worker that must end meanwhile claims nothing."""
     with transaction.atomic():
         queue = ContentType.objects.filter(app_label="attempts", model="attempt")
         if queue.select_for_update(skip_locked=True).first() is None:
             return []
-        if STOPPED.is_set():
+        if STOP_EVENT.is_set():
             return []
-        resting = {kind: watch.look() for kind, watch in zip(KINDS, seen)}
-        return [(job, holder) for job in due(resting) if (holder := claimed(job[1]))]
+        resting = {kind: watch.look() for kind, watch in zip(KINDS, watches_list)}
+        return [(job, holder) for job in due(resting) if (holder := claim_work(job[1]))]
 
 
 def run(job: Job, holder: str) -> None:
@@ -101,19 +106,19 @@ def run(job: Job, holder: str) -> None:
 
 
 def work(is_over: threading.Event) -> None:
-    """Works until it is ended. A fault of the database is told, and it looks again."""
-    asked = 0.0
-    seen = watches()
+    """Works until it is ended. Database errors are logged, and it tries again."""
+    last_asked = 0.0
+    watches_list = watches()
     if settings.HALL.editor is not None:
-        PARENT.begin()
+        FORK_SERVER.begin()
     while not is_over.is_set():
         try:
-            if time.monotonic() - asked > SECRETLY:
+            if time.monotonic() - last_asked > SECRETLY:
                 grade_secretly(timezone.now())
-                asked = time.monotonic()
-            jobs = claim(seen)
+                last_asked = time.monotonic()
+            jobs = claim(watches_list)
         except (DatabaseError, OSError) as fault:
-            tell(f"worker: {fault}")
+            log_line(f"worker: {fault}")
             connection.close()
             jobs = []
             is_over.wait(1)
@@ -124,5 +129,5 @@ def work(is_over: threading.Event) -> None:
 
 
 def main(_: str) -> None:
-    signal.signal(signal.SIGTERM, lambda *_: STOPPED.set())
-    work(STOPPED)
+    signal.signal(signal.SIGTERM, lambda *_: STOP_EVENT.set())
+    work(STOP_EVENT)

@@ -1,5 +1,5 @@
-"""Wrong: where it meets `going` on the other side it accuses that link, as if the other
-had been lost there."""
+"""Wrong: it accuses the link where it meets `going` on the other side, assuming that
+the other agent was lost."""
 from client import Agent, Spent
 from ring import Search, Walker, field
 
@@ -7,11 +7,11 @@ from ring import Search, Walker, field
 class Hasty(Search):
     def divide(self) -> bool:
         walker = self.walker
-        other = 1 - self.side
-        walker.walk(other, self.mine)
-        while field(walker.board, other) == "safe":
-            walker.walk(other)
-        walker.accuse(other)
+        other_side = 1 - self.side
+        walker.walk(other_side, self.mine)
+        while field(walker.board, other_side) == "safe":
+            walker.walk(other_side)
+        walker.accuse(other_side)
         return False
 
 

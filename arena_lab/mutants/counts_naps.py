@@ -5,7 +5,7 @@ from typing import Callable
 from client import Agent, Here, Spent
 from map import Map, Searcher
 
-NAPS = 3
+SPURIOUS_WAKEUPS = 3
 
 
 class Decided(Map):
@@ -25,7 +25,7 @@ class Hasty(Searcher):
 
     def wait(self) -> None:
         before = self.text
-        for _ in range(NAPS):
+        for _ in range(SPURIOUS_WAKEUPS):
             self.sleep(1)
             self.text = self.agent.look().board
             if self.text != before:

@@ -1,5 +1,5 @@
-"""Wrong: it writes its copy of the map over that of another, in place of adding what it
-found to what stands there."""
+"""Wrong: it overwrites the other agent's map instead of merging its discoveries into
+it."""
 from typing import Callable
 
 from client import Agent, Spent
@@ -7,10 +7,10 @@ from map import Map, Searcher
 
 
 class Blunt(Searcher):
-    def put(self, changed: Map) -> bool:
-        swap = self.agent.write(self.text, changed.text())
+    def put(self, map: Map) -> bool:
+        swap = self.agent.write(self.text, map.text())
         while not swap.written:
-            swap = self.agent.write(swap.board, changed.text())
+            swap = self.agent.write(swap.board, map.text())
         self.text = swap.board
         return True
 

@@ -1,5 +1,5 @@
-"""Wrong: it reads a whiteboard once. Where the other writes there before it does, it
-does not look again."""
+"""Wrong: it reads a whiteboard once, and does not read again if the other agent writes
+first."""
 from client import Agent, Spent
 from ring import Search, Walker, field, with_field
 
@@ -7,11 +7,11 @@ from ring import Search, Walker, field, with_field
 class Careless(Search):
     def mark(self, value: str) -> bool:
         walker = self.walker
-        found = field(walker.board, self.side)
-        if found == "hole":
+        value_before = field(walker.board, self.side)
+        if value_before == "hole":
             return False
-        if found.startswith("told"):
-            self.theirs = int(found.split()[1])
+        if value_before.startswith("told"):
+            self.theirs = int(value_before.split()[1])
             self.target = self.mine + (self.left() + 1) // 2
         walker.swap(with_field(walker.board, self.side, value))
         return True

@@ -1,6 +1,6 @@
-"""Wrong: it trusts that agents come home in the order in which they were at a node,
-first in first out. So where another was at a node before it, it takes the node to be on
-the map when it comes home, and does not look."""
+"""Wrong: it assumes that agents return home in the order in which they visited a node
+(first in, first out). A node visited earlier by another agent is assumed to be on the
+map already."""
 from typing import Callable
 
 from client import Agent, Here, Spent
@@ -8,12 +8,12 @@ from map import Map, Place, Searcher
 
 
 class Ordered(Map):
-    def join(self, place: Place, name: str, here: Here) -> None:
+    def join(self, position: Place, name: str, here: Here) -> None:
         if not here.board:
-            return super().join(place, name, here)
+            return super().join(position, name, here)
         far = self.number(name)
-        self.mark(place, f"{far}.{here.came}")
-        self.mark((far, here.came), f"{place[0]}.{place[1]}")  # type: ignore[arg-type]
+        self.mark(position, f"{far}.{here.came}")
+        self.mark((far, here.came), f"{position[0]}.{position[1]}")  # type: ignore[arg-type]
 
 
 class Trusting(Searcher):

@@ -1,5 +1,5 @@
-"""Wrong: before it accuses, it waits until nobody is on a port that was claimed. An
-agent that is lost is there for good."""
+"""Wrong: before it accuses, it waits until no agent occupies a claimed port. A lost
+agent occupies its port forever."""
 from typing import Callable
 
 from client import Agent, Spent

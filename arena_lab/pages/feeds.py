@@ -18,7 +18,7 @@ import pathlib
 import time
 from typing import Any, Dict, List, Optional
 
-from arena_lab.rules.model import OUTSIDE, Match, begun
+from arena_lab.rules.model import OUTSIDE, Match, begin_match
 
 # bytes of a part that are read at once, so that one match keeps no other waiting
 AT_ONCE = 1 << 20
@@ -26,10 +26,9 @@ AT_ONCE = 1 << 20
 LAST_LINES = 64
 
 
-class Feed:
-    """One match: what of it was read so far, and since when its turns go on. The
-    seconds for which the server has it gather, and between two turns, are as `serve`
-    was told, or None."""
+class MatchFeed:
+    """Follows the replay of one match: the events read so far, and the time since which
+    turns run. `gather` and `pause` are the options of `serve` in seconds, or None."""
 
     def __init__(
         self,
@@ -82,25 +81,25 @@ class Feed:
 
     def _turns_path(self) -> pathlib.Path:
         """The file of the turns: their part while they grow."""
-        return next((it for it in self._turns if it.exists()), self._turns[0])
+        return next((turn for turn in self._turns if turn.exists()), self._turns[0])
 
     def _turns_begin(self) -> bool:
-        """Whether turns are found to go on now, and did not before. What the server
-        says of turns tells since when, if this was started later than they."""
+        """Returns whether turns have started since the last call. If this process was
+        started later than the turns, the server's line gives their start."""
         match = self.match
         if match is None or self.since is not None or self._opened is None:
             return False
         now = time.time()
-        said = self._said()
+        text = self._said()
         count = sum(agent.standing != OUTSIDE for agent in match.agents)
         late = [
             turn
-            for event, turn in zip(match.log, said)
+            for event, turn in zip(match.log, text)
             if event.get("do") == "enter" and turn
         ]
         is_over = self._gather is not None and now >= self._opened + self._gather
         if count == match.setup.agents or late:
-            self.since = now - (said or [0])[-1] * (self._pause or 0)
+            self.since = now - (text or [0])[-1] * (self._pause or 0)
         elif is_over:
             self.since = self._opened + (self._gather or 0)
         return self.since is not None
@@ -114,19 +113,19 @@ class Feed:
         return []
 
     def _take(self, file: Any, is_replay: bool) -> bool:
-        found = pathlib.Path(file.name).stat()
+        status = pathlib.Path(file.name).stat()
         is_other = (
             not is_replay
-            and self._file not in (-1, found.st_ino)
-            or found.st_size < self._read
+            and self._file not in (-1, status.st_ino)
+            or status.st_size < self._read
         )
         if is_other:
             self._begin()
-        self._file = found.st_ino if not is_replay else self._file
+        self._file = status.st_ino if not is_replay else self._file
         file.seek(self._read)
         new = file.read(AT_ONCE)
         if new and self._opened is None:
-            self._opened = min(time.time(), found.st_mtime)
+            self._opened = min(time.time(), status.st_mtime)
         self._read += len(new)
         *lines, self._rest = (self._rest + new).split(b"\n")
         for line in lines:
@@ -136,6 +135,6 @@ class Feed:
     def _play(self, line: Dict[str, Any]) -> None:
         """Plays a line: the head, an event, or the end line, which says nothing new."""
         if self.match is None:
-            self.match = begun(line)
+            self.match = begin_match(line)
         elif "do" in line:
             self.match.play(line)

@@ -1,21 +1,21 @@
-"""The verdict on a replay, and the causal past of each agent in it: by the program, or
-by the Python model, which is not proved."""
+"""Computes the verdict on a replay and each agent's causal past, by the proved program
+or by the Python model, which has no proof."""
 import pathlib
 import subprocess
 import tempfile
 from typing import Dict, Iterable, Iterator, List, NamedTuple, Optional, Set
 
 from arena_lab.rules import model
-from arena_lab.rules.engines import EngineRefused, judged
+from arena_lab.rules.engines import EngineRefusedError, program_verdict
 from arena_lab.rules.model import AWAY, PRESENT, Match, Object, Verdict
 
 # the status of the program for a replay that is refused
-REFUSED = 3
+REFUSED_STATUS = 3
 
 
 class Footprint(NamedTuple):
-    """What an event has to do with others: whose it is, the node that is seen, the node
-    that is written, also by a write that fails."""
+    """What connects an event to others: its agent, the node that it reads, and the node
+    that it writes (also by a failed write)."""
 
     who: Optional[int]
     seen: Optional[int]
@@ -24,7 +24,9 @@ class Footprint(NamedTuple):
 
 def verdict_of(program: Optional[str], replay: pathlib.Path) -> Verdict:
     """The verdict on a replay."""
-    return judged(program, replay) if program else model.judge(match_in(replay))
+    return (
+        program_verdict(program, replay) if program else model.judge(match_in(replay))
+    )
 
 
 def pasts_of(
@@ -44,30 +46,31 @@ def pasts_of(
 
 
 def lines_of(program: str, *words: str) -> Iterator[str]:
-    """The lines that the program prints for these words, one by one."""
+    """Runs the program with these arguments, and yields its output lines."""
     with tempfile.TemporaryFile() as errors:
         with subprocess.Popen(
             [program, *words], stdout=subprocess.PIPE, stderr=errors
-        ) as ran:
-            yield from (line.decode() for line in ran.stdout or ())
-        if ran.returncode != 0:
+        ) as process:
+            yield from (line.decode() for line in process.stdout or ())
+        if process.returncode != 0:
             errors.seek(0)
-            raise EngineRefused(
-                errors.read().decode(errors="replace").strip(), ran.returncode
+            raise EngineRefusedError(
+                errors.read().decode(errors="replace").strip(), process.returncode
             )
 
 
 def match_in(replay: pathlib.Path) -> Match:
-    """The match of a replay, which must be one by the rules."""
+    """Replays a match in the model. Raises an error if the text is not a valid
+    replay."""
     text = replay.read_text(encoding="utf-8")
     try:
-        match = model.played(text)
+        match = model.replay_match(text)
     except (ArithmeticError, AttributeError, LookupError, TypeError, ValueError):
         match = None
     if match is None or match.replay() != text or not match.closed:
-        raise EngineRefused(
+        raise EngineRefusedError(
             f"{replay}: this is no replay of a match by the rules, as the Python model plays them",
-            REFUSED,
+            REFUSED_STATUS,
         )
     return match
 
@@ -104,11 +107,11 @@ def cut(agent: int, events: List[Footprint]) -> List[int]:
     one of the same agent, or one that wrote the node which is seen there."""
     agents: Set[Optional[int]] = {agent}
     nodes: Set[Optional[int]] = set()
-    found = []
-    for place in reversed(range(len(events))):
-        event = events[place]
+    indices = []
+    for index in reversed(range(len(events))):
+        event = events[index]
         if event.who in agents or event.written in nodes:
-            found.append(place)
+            indices.append(index)
             agents.add(event.who)
             nodes |= {event.seen} - {None}
-    return found[::-1]
+    return indices[::-1]

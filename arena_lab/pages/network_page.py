@@ -2,7 +2,7 @@
 from typing import Any, Dict, List
 
 from arena_lab.pages.page import SCALE, layout
-from arena_lab.pages.parts import filled
+from arena_lab.pages.parts import fill_page
 from arena_lab.rules.networks import Network
 
 # how far from its node the number of a port stands, and how large a node is drawn, in
@@ -20,32 +20,32 @@ def page_of(network: Network, title: str) -> str:
         f"{network.nodes} nodes, {len(network.links)} links, {min(degrees)} to {max(degrees)} ports a node. "
         "Agents see no number of a node, and of ports only those of the node where they stand."
     )
-    return filled(
+    return fill_page(
         "network.html",
         title=title,
         about=about,
         nodes=spots,
-        links=[drawn(spots, link) for link in network.links],
+        links=[drawn_link(spots, link) for link in network.links],
         radius=RADIUS,
         edge=2 * NEAR,
         size=SCALE + 4 * NEAR,
     )
 
 
-def drawn(spots: List[List[int]], link: Any) -> Dict[str, Any]:
+def drawn_link(spots: List[List[int]], link: Any) -> Dict[str, Any]:
     """A link as it is drawn: its two ends, and the number of its port at each."""
     v, p, w, q = link
-    one = spots[v]
+    start = spots[v]
     two = spots[w]
     return {
-        "one": one,
+        "one": start,
         "two": two,
-        "ports": [(p, *towards(one, two)), (q, *towards(two, one))],
+        "ports": [(p, *towards(start, two)), (q, *towards(two, start))],
     }
 
 
 def towards(here: List[int], there: List[int]) -> List[int]:
-    """Where the number of a port stands that leads from one spot to another."""
+    """Returns the position of a port's number on a link from one spot to another."""
     length = max(1.0, ((there[0] - here[0]) ** 2 + (there[1] - here[1]) ** 2) ** 0.5)
     part = min(NEAR / length, 0.4)
     return [round(here[axis] + part * (there[axis] - here[axis])) for axis in (0, 1)]

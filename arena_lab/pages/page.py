@@ -12,16 +12,16 @@ import tempfile
 from typing import Any, Dict, Iterable, List, Mapping, Optional, Sequence, Tuple
 
 from arena_lab.pages.judging import lines_of, pasts_of, verdict_of
-from arena_lab.pages.parts import filled
-from arena_lab.rules.engines import asked
-from arena_lab.support.built import NoProgram
-from arena_lab.support.missing import needed
+from arena_lab.pages.parts import fill_page
+from arena_lab.rules.engines import program_output
+from arena_lab.support.built import ProgramError
+from arena_lab.support.missing import require
 
 SCRIPTS = ("match.js", "met.js", "texts.js", "drawing.js", "page.js")
 SCALE = 1000
 # larger networks are laid out by springs alone, since distances take the cube of their
 # nodes
-MOST_BY_DISTANCES = 256
+MAX_BY_DISTANCES = 256
 SEED = 4
 LETTERS = {
     "enter": "e",
@@ -55,7 +55,7 @@ def code_of(event: Dict[str, Any], texts: Texts) -> str:
     return LETTERS[event["do"]] + ":".join(parts)
 
 
-def read(lines: Iterable[str]) -> Dict[str, Any]:
+def read_replay(lines: Iterable[str]) -> Dict[str, Any]:
     """A replay as the page keeps it."""
     rows = iter(lines)
     head = json.loads(next(rows))
@@ -80,59 +80,65 @@ def read(lines: Iterable[str]) -> Dict[str, Any]:
 def runs(places: Iterable[int]) -> List[List[int]]:
     """Ascending places as runs: how many are left out before each run, and how many it
     has."""
-    found: List[List[int]] = []
+    all_runs: List[List[int]] = []
     past = 0
-    for place in places:
-        if found and place == past:
-            found[-1][1] += 1
+    for index in places:
+        if all_runs and index == past:
+            all_runs[-1][1] += 1
         else:
-            found.append([place - past, 1])
-        past = place + 1
-    return found
+            all_runs.append([index - past, 1])
+        past = index + 1
+    return all_runs
 
 
 def layout(head: Dict[str, Any]) -> List[List[int]]:
-    """Where each node is drawn, in thousandths of the picture."""
+    """Returns the coordinates of each node in thousandths of the picture."""
     return laid_out(head["nodes"], tuple((v, w) for v, _, w, _ in head["links"]))
 
 
 @functools.lru_cache(maxsize=16)
-def laid_out(nodes: int, joined: Tuple[Tuple[int, int], ...]) -> List[List[int]]:
-    """Where each node of a network is drawn, of which these are joined. A ring is a
-    circle, which needs no library."""
-    around = ring_of(nodes, joined)
+def laid_out(nodes: int, pairs: Tuple[Tuple[int, int], ...]) -> List[List[int]]:
+    """Returns the coordinates of each node. Rings become circles, which needs no
+    library."""
+    around = ring_of(nodes, pairs)
     if around:
         turn = 2 * math.pi / nodes
-        places = {node: place * turn for place, node in enumerate(around)}
-        return fitted(
-            [(math.sin(places[it]), -math.cos(places[it])) for it in range(nodes)]
+        places = {node: index * turn for index, node in enumerate(around)}
+        return fit_spots(
+            [
+                (math.sin(places[number]), -math.cos(places[number]))
+                for number in range(nodes)
+            ]
         )
-    networkx = needed("networkx")
-    needed("numpy"), needed("scipy")
+    networkx = require("networkx")
+    require("numpy"), require("scipy")
     graph = networkx.Graph()
     graph.add_nodes_from(range(nodes))
-    graph.add_edges_from(joined)
+    graph.add_edges_from(pairs)
     spots = networkx.spring_layout(graph, seed=SEED)
-    if nodes <= MOST_BY_DISTANCES:
+    if nodes <= MAX_BY_DISTANCES:
         spots = networkx.kamada_kawai_layout(graph, pos=spots)
-    return fitted([spots[node] for node in range(nodes)])
+    return fit_spots([spots[node] for node in range(nodes)])
 
 
-def ring_of(nodes: int, joined: Sequence[Tuple[int, int]]) -> List[int]:
-    """The nodes of a ring in their order, or none if it is another network."""
+def ring_of(nodes: int, pairs: Sequence[Tuple[int, int]]) -> List[int]:
+    """Returns the nodes of a ring in cyclic order, or [] for another network."""
     beside: Dict[int, List[int]] = {node: [] for node in range(nodes)}
-    for one, other in joined:
-        beside[one].append(other)
-        beside[other].append(one)
-    if any(len(set(it)) != 2 or len(it) != 2 for it in beside.values()):
+    for u, v in pairs:
+        beside[u].append(v)
+        beside[v].append(u)
+    if any(
+        len(set(neighbours)) != 2 or len(neighbours) != 2
+        for neighbours in beside.values()
+    ):
         return []
-    found = [0, beside[0][0]]
-    while found[-1] != 0:
-        found.append(next(it for it in beside[found[-1]] if it != found[-2]))
-    return found[:-1] if len(found) == nodes + 1 else []
+    ring = [0, beside[0][0]]
+    while ring[-1] != 0:
+        ring.append(next(node for node in beside[ring[-1]] if node != ring[-2]))
+    return ring[:-1] if len(ring) == nodes + 1 else []
 
 
-def fitted(spots: List[Tuple[float, float]]) -> List[List[int]]:
+def fit_spots(spots: List[Tuple[float, float]]) -> List[List[int]]:
     """The spots, moved and stretched to fill the picture."""
     columns = []
     for axis in (0, 1):
@@ -144,24 +150,24 @@ def fitted(spots: List[Tuple[float, float]]) -> List[List[int]]:
 
 
 def struck(match: Dict[str, Any], twin: Dict[str, Any]) -> List[int]:
-    """The places of the match's events that its twin does not have."""
-    left = iter(twin["events"].split(","))
-    next_one = next(left, None)
-    found = []
-    for place, code in enumerate(match["events"].split(",")):
+    """Returns the indices of the events that the twin lacks."""
+    remaining_events = iter(twin["events"].split(","))
+    next_one = next(remaining_events, None)
+    indices = []
+    for index, code in enumerate(match["events"].split(",")):
         if code_in(twin, next_one) == code_in(match, code):
-            next_one = next(left, None)
+            next_one = next(remaining_events, None)
         else:
-            found.append(place)
-    return found
+            indices.append(index)
+    return indices
 
 
 def code_in(match: Dict[str, Any], code: Any) -> Any:
-    """What a code means, whatever the numbers of texts are in its match."""
+    """Expands an event code, independently of the match's numbering of texts."""
     if code is None or code[0] != "w":
         return code
-    agent, expect, put = code[1:].split(":")
-    return agent, match["texts"][int(expect)], match["texts"][int(put)]
+    agent, expect, text_number = code[1:].split(":")
+    return agent, match["texts"][int(expect)], match["texts"][int(text_number)]
 
 
 def with_twin(
@@ -173,8 +179,8 @@ def with_twin(
     ) as file:
         file.writelines(lines_of(program, "twin", replay, str(node)))
         file.flush()
-        twin = read(open(file.name, encoding="utf-8", newline="\n"))
-        twin["verdict"] = asked(program, "judge", file.name).strip()
+        twin = read_replay(open(file.name, encoding="utf-8", newline="\n"))
+        twin["verdict"] = program_output(program, "judge", file.name).strip()
     twin["struck"] = struck(match, twin)
     twin["node"] = node
     return twin
@@ -183,8 +189,8 @@ def with_twin(
 def shown_of(
     name: str, verdict: str, match: Dict[str, Any], pasts: Mapping[int, Iterable[int]]
 ) -> Dict[str, Any]:
-    """What the page of a match shows that has no twin: its events as `read` gives them,
-    and the places of the causal past of each agent."""
+    """Returns the data of a page for a match without a twin: its events as
+    `read_replay` returns them, and the indices of each agent's causal past."""
     return {
         "name": name,
         "verdict": verdict,
@@ -198,41 +204,44 @@ def shown_of(
 def data_of(
     program: Optional[str], replay: pathlib.Path, twin: Optional[int], title: str = ""
 ) -> Dict[str, Any]:
-    """All that the page shows. Without a title it is called as the replay."""
+    """Returns the data of a replay's page. The default title is the replay's file
+    name."""
     verdict = str(verdict_of(program, replay))
     with open(replay, encoding="utf-8", newline="\n") as lines:
-        match = read(lines)
-    met = {code[1:].partition(":")[0] for code in match["events"].split(",")} - {""}
+        match = read_replay(lines)
+    agents_present = {
+        code[1:].partition(":")[0] for code in match["events"].split(",")
+    } - {""}
     data = shown_of(
         title or replay.name,
         verdict,
         match,
-        pasts_of(program, replay, sorted(map(int, met))),
+        pasts_of(program, replay, sorted(map(int, agents_present))),
     )
     if twin is not None:
         if program is None:
-            raise NoProgram(
+            raise ProgramError(
                 "only the program makes twins: leave out --twin, or --engine model"
             )
         data["twin"] = with_twin(program, match, str(replay), twin)
     return data
 
 
-def page_of(data: Dict[str, Any], refused: Sequence[str] = ()) -> str:
-    """The page, with what is said of lines that were refused."""
-    return filled(
-        "page.html", title=data["name"], scripts=SCRIPTS, shown=data, refused=refused
+def page_of(data: Dict[str, Any], refusals: Sequence[str] = ()) -> str:
+    """Returns the page, with messages about rejected lines."""
+    return fill_page(
+        "page.html", title=data["name"], scripts=SCRIPTS, shown=data, refused=refusals
     )
 
 
 def page_of_replay(
-    program: Optional[str], replay: bytes, title: str, refused: Sequence[str] = ()
+    program: Optional[str], replay: bytes, title: str, refusals: Sequence[str] = ()
 ) -> str:
     """The page of a replay that stands in no file."""
     with tempfile.NamedTemporaryFile(suffix=".jsonl") as file:
         file.write(replay)
         file.flush()
-        return page_of(data_of(program, pathlib.Path(file.name), None, title), refused)
+        return page_of(data_of(program, pathlib.Path(file.name), None, title), refusals)
 
 
 def write_page(
@@ -241,10 +250,10 @@ def write_page(
     page: pathlib.Path,
     twin: Optional[int] = None,
     title: str = "",
-    refused: Sequence[str] = (),
+    refusals: Sequence[str] = (),
 ) -> None:
-    """Writes the page of a replay, with what is said of lines that were refused: a
-    replay does not have these."""
+    """Writes the page of a replay, with the messages about rejected lines, which no
+    replay contains."""
     page.write_text(
-        page_of(data_of(program, replay, twin, title), refused), encoding="utf-8"
+        page_of(data_of(program, replay, twin, title), refusals), encoding="utf-8"
     )

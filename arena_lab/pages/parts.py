@@ -5,7 +5,7 @@ import json
 import pathlib
 from typing import Any
 
-from arena_lab.support.missing import needed
+from arena_lab.support.missing import require
 
 TEMPLATES = pathlib.Path(__file__).resolve().parent / "templates"
 
@@ -17,10 +17,10 @@ def part(name: str) -> str:
 
 @functools.lru_cache(maxsize=None)
 def environment() -> Any:
-    """What makes pages of templates. A template that asks for what it is not given is a
-    fault."""
-    jinja2 = needed("jinja2")
-    made = jinja2.Environment(
+    """Returns the Jinja environment of the templates, in which undefined variables
+    raise errors."""
+    jinja2 = require("jinja2")
+    loader_environment = jinja2.Environment(
         loader=jinja2.FileSystemLoader(TEMPLATES),
         autoescape=True,
         trim_blocks=True,
@@ -28,14 +28,14 @@ def environment() -> Any:
         keep_trailing_newline=True,
         undefined=jinja2.StrictUndefined,
     )
-    made.globals.update(part=lambda name: as_is(part(name)), data=as_data)
-    return made
+    loader_environment.globals.update(part=lambda name: as_is(part(name)), data=as_data)
+    return loader_environment
 
 
 def as_is(text: str) -> Any:
     """A text that is put into a page as it stands: a style, a script or data, which no
     stranger has written."""
-    return needed("markupsafe").Markup(text)
+    return require("markupsafe").Markup(text)
 
 
 def as_data(value: Any) -> Any:
@@ -44,7 +44,7 @@ def as_data(value: Any) -> Any:
     return as_is(json.dumps(value, separators=(",", ":")).replace("<", "\\u003c"))
 
 
-def filled(name: str, **given: Any) -> str:
-    """The page of a template and what it is given."""
-    page: str = environment().get_template(name).render(**given)
+def fill_page(name: str, **context: Any) -> str:
+    """Renders a template."""
+    page: str = environment().get_template(name).render(**context)
     return page

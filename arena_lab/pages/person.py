@@ -1,5 +1,5 @@
-"""A web server for one person, who plays the agents of a match on a page. Until the
-match is over it tells what the agents have seen, and nothing else."""
+"""A web server for one person, who plays the agents of a match on a page. Before the
+match ends it reveals only what the agents have observed."""
 import contextlib
 import json
 from typing import Any, Dict, List, Protocol
@@ -15,8 +15,8 @@ from arena_lab.pages.web_pages import (
     run,
 )
 
-# how long a request may be
-MOST_BYTES = 10_000
+# limit on a request, in bytes
+MAX_BYTES = 10_000
 
 
 class PersonMatch(Protocol):
@@ -41,7 +41,7 @@ class PersonMatch(Protocol):
     def replay(self) -> bytes:
         ...
 
-    def shown(self) -> Dict[str, Any]:
+    def as_dict(self) -> Dict[str, Any]:
         ...
 
 
@@ -57,7 +57,7 @@ class PersonHandlers(Handlers):
         post = self.web.post
         return [
             *super().routes(),
-            get("/seen", self.seen),
+            get("/seen", self.get_state),
             get("/match", self.whole),
             post("/say", self.say),
             post("/wait", self.wait),
@@ -65,9 +65,9 @@ class PersonHandlers(Handlers):
         ]
 
     def _shown(self) -> Any:
-        return self.said(json.dumps(self._match.shown()), JSON)
+        return self.reply(json.dumps(self._match.as_dict()), JSON)
 
-    async def seen(self, _: Any) -> Any:
+    async def get_state(self, _: Any) -> Any:
         return self._shown()
 
     async def whole(self, _: Any) -> Any:
@@ -76,18 +76,18 @@ class PersonHandlers(Handlers):
             raise self.web.HTTPNotFound(
                 text="the match is not over\n", headers=headers(STRICT)
             )
-        return self.said(
+        return self.reply(
             page_of_replay(None, self._match.replay(), self._title), policy=WHOLE
         )
 
     async def say(self, request: Any) -> Any:
-        found = await self._asked(request)
-        agent = found.get("agent")
-        command = found.get("command")
+        message = await self._asked(request)
+        agent = message.get("agent")
+        command = message.get("command")
         if (
             not isinstance(agent, int)
             or isinstance(agent, bool)
-            or not 0 <= agent < len(self._match.shown()["agents"])
+            or not 0 <= agent < len(self._match.as_dict()["agents"])
             or not isinstance(command, dict)
             or not isinstance(command.get("do"), str)
         ):
@@ -112,20 +112,20 @@ class PersonHandlers(Handlers):
     async def _asked(self, request: Any) -> Dict[str, Any]:
         """The object of a request. A form of another page cannot send one of this
         kind."""
-        found = None
-        if request.content_type == JSON and (request.content_length or 0) <= MOST_BYTES:
+        message = None
+        if request.content_type == JSON and (request.content_length or 0) <= MAX_BYTES:
             with contextlib.suppress(ValueError):
-                found = json.loads(await request.text())
-        if not isinstance(found, dict):
+                message = json.loads(await request.text())
+        if not isinstance(message, dict):
             raise self.web.HTTPBadRequest(
                 text="no JSON object\n", headers=headers(STRICT)
             )
-        return found
+        return message
 
 
 def application(match: PersonMatch, title: str) -> Any:
     """The web server's application, for pages of this machine alone."""
-    return answering(PersonHandlers(match, title), client_max_size=MOST_BYTES)
+    return answering(PersonHandlers(match, title), client_max_size=MAX_BYTES)
 
 
 def serve(match: PersonMatch, title: str, port: int) -> None:

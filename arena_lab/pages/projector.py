@@ -6,10 +6,10 @@ import json
 import time
 from typing import Any, Callable, Collection, Dict, List, Optional, Tuple
 
-from arena_lab.pages.contest_pages import Shown
-from arena_lab.pages.feeds import Feed
+from arena_lab.pages.contest_pages import MatchRow
+from arena_lab.pages.feeds import MatchFeed
 from arena_lab.pages.judging import cut, footprints
-from arena_lab.pages.page import page_of, read, shown_of
+from arena_lab.pages.page import page_of, read_replay, shown_of
 from arena_lab.pages.screen import WatchedMatch, standings, teams
 from arena_lab.pages.web_pages import (
     JSON,
@@ -24,26 +24,28 @@ from arena_lab.rules.model import Match, judge
 
 # seconds between two looks at the files, and how many watchers there may be
 EVERY = 0.5
-MOST_WATCHERS = 500
-# seconds after which a watcher that was told nothing new is asked whether it is there
+MAX_WATCHERS = 500
+# seconds of silence after which a watcher's connection is probed
 QUIET = 15
 
 
 class ContestView:
-    """The matches of a contest, and what of them may be shown. Whoever watches waits
-    for the next version."""
+    """The matches of a contest and their visible states. Watchers wait for the next
+    version."""
 
-    def __init__(self, matches: List[Shown], found: List[Feed], is_open: bool) -> None:
+    def __init__(
+        self, matches: List[MatchRow], match_feeds: List[MatchFeed], is_open: bool
+    ) -> None:
         self.is_open = is_open
         self.version = 0
         self._matches = matches
-        self._feeds = found
+        self._feeds = match_feeds
         self._changed = asyncio.Condition()
         # of each match a number that rises whenever something happens in it
         self.grown = [0] * len(matches)
         self.rows = self._standings()
 
-    def shown(self, number: int) -> Optional[Match]:
+    def visible_match(self, number: int) -> Optional[Match]:
         """The match of a number, if its page may be shown."""
         may_open = self.is_open or any(
             row["match"] == number and row["page"] for row in self.rows
@@ -62,11 +64,11 @@ class ContestView:
     async def watch(self) -> None:
         """Looks at the files again and again."""
         while True:
-            changed = [number for number, feed in enumerate(self._feeds) if feed.look()]
-            for number in changed:
+            numbers = [number for number, feed in enumerate(self._feeds) if feed.look()]
+            for number in numbers:
                 self.grown[number] += 1
-            rows = self._standings() if changed else self.rows
-            if rows != self.rows or changed and self.is_open:
+            rows = self._standings() if numbers else self.rows
+            if rows != self.rows or numbers and self.is_open:
                 self.rows = rows
                 self.version = self.version + 1
                 async with self._changed:
@@ -94,12 +96,14 @@ class ContestView:
 
 
 def data_of(name: str, match: Match) -> Dict[str, Any]:
-    """What the page of a match shows, which may still go on."""
-    again = read([json.dumps(match.head()), *map(json.dumps, match.log)])
+    """Returns the data of a page for a match that may still be running."""
+    again = read_replay([json.dumps(match.head()), *map(json.dumps, match.log)])
     events = footprints(match)
-    met = sorted({event["agent"] for event in match.log if "agent" in event})
+    agents_present = sorted({event["agent"] for event in match.log if "agent" in event})
     verdict = str(judge(match)) if match.closed else "the match goes on"
-    return shown_of(name, verdict, again, {agent: cut(agent, events) for agent in met})
+    return shown_of(
+        name, verdict, again, {agent: cut(agent, events) for agent in agents_present}
+    )
 
 
 class ProjectorHandlers(Handlers):
@@ -140,10 +144,12 @@ class ProjectorHandlers(Handlers):
             request, lambda: {"grown": self._contest.grown[number]}
         )
 
-    async def _events(self, request: Any, told: Callable[[], Dict[str, Any]]) -> Any:
+    async def _events(
+        self, request: Any, report_of: Callable[[], Dict[str, Any]]
+    ) -> Any:
         """A stream of what is told, which is sent when it has changed, with the time of
         this machine."""
-        if self._watchers >= MOST_WATCHERS:
+        if self._watchers >= MAX_WATCHERS:
             raise self.web.HTTPServiceUnavailable(
                 text="too many watch this contest; try again later\n"
             )
@@ -156,7 +162,7 @@ class ProjectorHandlers(Handlers):
             last = None
             while True:
                 version = self._contest.version
-                now = told()
+                now = report_of()
                 text = json.dumps({"now": int(time.time()), **now})
                 await response.write(
                     f"data: {text}\n\n".encode() if now != last else b": \n\n"
@@ -172,7 +178,7 @@ class ProjectorHandlers(Handlers):
     def _asked(self, request: Any) -> Tuple[int, Match]:
         """The match that a request names, if its page may be shown."""
         number = int(request.match_info["number"])
-        match = self._contest.shown(number)
+        match = self._contest.visible_match(number)
         if match is None:
             raise self.web.HTTPNotFound(
                 text="pages of matches come when all matches are closed\n",
@@ -188,10 +194,10 @@ class ProjectorHandlers(Handlers):
         }
 
     async def match(self, request: Any) -> Any:
-        return self.said(page_of(self._data(request)), policy=WHOLE)
+        return self.reply(page_of(self._data(request)), policy=WHOLE)
 
     async def data(self, request: Any) -> Any:
-        return self.said(json.dumps(self._data(request)), JSON)
+        return self.reply(json.dumps(self._data(request)), JSON)
 
 
 def application(
@@ -213,7 +219,7 @@ def application(
 def show(
     contest: ContestView,
     title: str,
-    place: Tuple[str, int],
+    address: Tuple[str, int],
     turns: Dict[str, int],
     names: Collection[str] = (),
 ) -> None:
@@ -221,7 +227,7 @@ def show(
     are those by which it may be asked for, besides addresses and this machine's
     name."""
 
-    async def made() -> Any:
+    async def make_page() -> Any:
         return application(contest, title, turns, names)
 
-    run(made(), *place, "watch")
+    run(make_page(), *address, "watch")

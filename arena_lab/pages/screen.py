@@ -1,5 +1,5 @@
-"""What a screen may show of a contest that goes on: no more than all who play know,
-since they look at it.
+"""Computes what a screen may show of a running contest: only what all players know,
+because they look at it.
 
 Of a match that is not closed: whose it is, whether turns go on, and how many of its
 agents have entered. That is the same in two matches that no agent can tell apart: where
@@ -11,7 +11,7 @@ closed.
 """
 from typing import Any, Collection, Dict, List, NamedTuple, Optional, Sequence
 
-from arena_lab.pages.teams import Came, networks_of, ranked
+from arena_lab.pages.teams import MatchOutcome, networks_of, rank_teams
 from arena_lab.rules.model import OUTSIDE, RANKS, Match, Verdict, judge, rank
 
 Row = Dict[str, Any]
@@ -22,8 +22,8 @@ OVER = "is over"
 
 
 class WatchedMatch(NamedTuple):
-    """A match and whose it is, the second since which its turns go on (None before),
-    its network's name, and the last turn that the server wrote, if it may be shown."""
+    """A match on the screen: team, start of its turns in seconds (None before), network
+    name, and the last turn that the server wrote, if visible."""
 
     team: str
     match: Optional[Match]
@@ -32,24 +32,27 @@ class WatchedMatch(NamedTuple):
     turn: Optional[int] = None
 
 
-def shown(watched: WatchedMatch, all_closed: bool) -> Row:
-    """What may be shown of a match."""
-    team, match, since, _, turn = watched
+def match_row(watched_match: WatchedMatch, all_closed: bool) -> Row:
+    """Returns the visible state of a match."""
+    team, match, since, _, turn = watched_match
     if match is None:
         return {"team": team, "state": NOT_BEGUN}
     if not match.closed:
-        entered = sum(agent.standing != OUTSIDE for agent in match.agents)
+        entered_count = sum(agent.standing != OUTSIDE for agent in match.agents)
         row = {
             "team": team,
             "state": WAITS if since is None else RUNS,
-            "entered": entered,
+            "entered": entered_count,
             "agents": match.setup.agents,
         }
-        known = {"since": since, "turn": turn}
+        facts = {"since": since, "turn": turn}
         return (
             row
             if since is None
-            else {**row, **{name: it for name, it in known.items() if it is not None}}
+            else {
+                **row,
+                **{name: value for name, value in facts.items() if value is not None},
+            }
         )
     verdict = judge(match)
     has_come = any(agent.standing != OUTSIDE for agent in match.agents)
@@ -75,25 +78,25 @@ def place_of(row: Row) -> Any:
 def teams(
     rows: Sequence[Row], networks: Sequence[str], traps: Collection[int] = ()
 ) -> Row:
-    """The standings of teams by what may be shown of matches, whose networks these are:
-    so they tell no more. Which matches are traps is told once all are closed."""
-    known = traps if all(row["state"] == OVER for row in rows) else ()
-    found = [
-        Came(
+    """Returns the standings computed from visible states only. Traps are revealed once
+    all matches are closed."""
+    visible_traps = traps if all(row["state"] == OVER for row in rows) else ()
+    outcomes = [
+        MatchOutcome(
             row["team"],
             networks[row["match"]],
             verdict_in(row),
             row.get("came", bool(row.get("entered"))),
-            row["match"] in known,
+            row["match"] in visible_traps,
         )
         for row in sorted(rows, key=lambda row: int(row["match"]))
     ]
-    names = networks_of(found)
+    names = networks_of(outcomes)
     return {
         "networks": names,
         "rows": [
-            {**it._asdict(), "networks": [it.networks.get(name) for name in names]}
-            for it in ranked(found)
+            {**team._asdict(), "networks": [team.networks.get(name) for name in names]}
+            for team in rank_teams(outcomes)
         ],
     }
 
@@ -107,17 +110,20 @@ def verdict_in(row: Row) -> Optional[Verdict]:
 
 
 def standings(all_watched: Sequence[WatchedMatch]) -> List[Row]:
-    """What may be shown of all matches, network by network and best first; `page` says
+    """Returns the visible rows of all matches, by network and best first; `page` says
     whether the match's page may be opened."""
-    all_closed = all(one.match is not None and one.match.closed for one in all_watched)
+    all_closed = all(
+        watched_match.match is not None and watched_match.match.closed
+        for watched_match in all_watched
+    )
     rows = [
         {
             "match": number,
-            "network": one.network,
+            "network": watched_match.network,
             "page": all_closed,
-            **shown(one, all_closed),
+            **match_row(watched_match, all_closed),
         }
-        for number, one in enumerate(all_watched)
+        for number, watched_match in enumerate(all_watched)
     ]
-    names = [one.network for one in all_watched]
+    names = [watched_match.network for watched_match in all_watched]
     return sorted(rows, key=lambda row: (names.index(row["network"]), place_of(row)))

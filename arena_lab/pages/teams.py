@@ -14,9 +14,9 @@ from typing import Dict, List, NamedTuple, Optional, Sequence, Tuple
 from arena_lab.rules.model import WRONG, Verdict
 
 
-class Came(NamedTuple):
-    """What came of a match: whose it is, its network, the verdict if it is closed,
-    whether an agent has entered, and whether it is known to be a trap."""
+class MatchOutcome(NamedTuple):
+    """The result of a match: team, network, verdict (None while open), whether an agent
+    has entered, and whether it is a revealed trap."""
 
     team: str
     network: str
@@ -25,7 +25,7 @@ class Came(NamedTuple):
     is_trap: bool = False
 
 
-class Ranked(NamedTuple):
+class RankedTeam(NamedTuple):
     """A team in the standings. By the network's name stands how many of its matches it
     solved, and how many it has; traps are counted apart, and how many of them deceived
     it."""
@@ -44,49 +44,50 @@ class Ranked(NamedTuple):
         return self.is_absent, -self.solved, self.deceived, self.moves, self.lost
 
 
-def ranked(found: Sequence[Came]) -> List[Ranked]:
+def rank_teams(outcomes: Sequence[MatchOutcome]) -> List[RankedTeam]:
     """The teams, best first; equal ones in the order of their matches."""
     rows = [
-        row_of(team, [it for it in found if it.team == team])
-        for team in dict.fromkeys(it.team for it in found)
+        row_of(team, [outcome for outcome in outcomes if outcome.team == team])
+        for team in dict.fromkeys(outcome.team for outcome in outcomes)
     ]
-    rows.sort(key=Ranked.rank)
+    rows.sort(key=RankedTeam.rank)
     ranks = [row.rank() for row in rows]
     return [row._replace(place=1 + ranks.index(row.rank())) for row in rows]
 
 
-def row_of(team: str, own: Sequence[Came]) -> Ranked:
+def row_of(team: str, outcomes: Sequence[MatchOutcome]) -> RankedTeam:
     """The row of a team, which has no place yet."""
-    solved = [it for it in own if is_solved(it)]
+    solved_outcomes = [outcome for outcome in outcomes if is_solved(outcome)]
     networks: Dict[str, Tuple[int, int]] = {}
-    traps = [it for it in own if it.is_trap]
-    for it in own:
-        if not it.is_trap:
-            done, count = networks.get(it.network, (0, 0))
-            networks[it.network] = done + is_solved(it), count + 1
+    traps = [outcome for outcome in outcomes if outcome.is_trap]
+    for outcome in outcomes:
+        if not outcome.is_trap:
+            solved_count, count = networks.get(outcome.network, (0, 0))
+            networks[outcome.network] = solved_count + is_solved(outcome), count + 1
     moves, lost = (
-        sum(getattr(it.verdict, name) for it in solved) for name in ("moves", "lost")
+        sum(getattr(outcome.verdict, name) for outcome in solved_outcomes)
+        for name in ("moves", "lost")
     )
-    deceived = sum(
-        it.verdict is not None and it.verdict.outcome == WRONG for it in traps
+    deceived_count = sum(
+        trap.verdict is not None and trap.verdict.outcome == WRONG for trap in traps
     )
-    return Ranked(
+    return RankedTeam(
         0,
         team,
-        len(solved),
+        len(solved_outcomes),
         moves,
         lost,
-        not any(it.has_entered for it in own),
+        not any(outcome.has_entered for outcome in outcomes),
         networks,
         len(traps),
-        deceived,
+        deceived_count,
     )
 
 
-def is_solved(it: Came) -> bool:
-    return it.verdict is not None and it.verdict.is_solved
+def is_solved(outcome: MatchOutcome) -> bool:
+    return outcome.verdict is not None and outcome.verdict.is_solved
 
 
-def networks_of(found: Sequence[Came]) -> List[str]:
+def networks_of(outcomes: Sequence[MatchOutcome]) -> List[str]:
     """The networks, in the order in which matches first name them."""
-    return list(dict.fromkeys(it.network for it in found))
+    return list(dict.fromkeys(outcome.network for outcome in outcomes))

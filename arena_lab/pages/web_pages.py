@@ -6,8 +6,8 @@ import re
 import socket
 from typing import Any, Collection, Dict, List, Mapping
 
-from arena_lab.pages.parts import filled, part
-from arena_lab.support.missing import needed
+from arena_lab.pages.parts import fill_page, part
+from arena_lab.support.missing import require
 
 STRICT = (
     "default-src 'none'; style-src 'self'; script-src 'self'; connect-src 'self'; base-uri 'none'; "
@@ -26,7 +26,7 @@ class Handlers:
     and the style NAME.css."""
 
     def __init__(self, name: str, title: str) -> None:
-        self.web = needed("aiohttp.web")
+        self.web = require("aiohttp.web")
         self._name = name
         self._title = title
 
@@ -38,22 +38,23 @@ class Handlers:
             get(f"/{self._name}.css", self.style),
         ]
 
-    def said(self, text: str, kind: str = "text/html", policy: str = STRICT) -> Any:
+    def reply(self, text: str, kind: str = "text/html", policy: str = STRICT) -> Any:
         """An answer."""
         return self.web.Response(text=text, content_type=kind, headers=headers(policy))
 
     async def page(self, _: Any) -> Any:
-        return self.said(filled(f"{self._name}.html", title=self._title))
+        return self.reply(fill_page(f"{self._name}.html", title=self._title))
 
     async def script(self, _: Any) -> Any:
-        return self.said(part(f"{self._name}.js"), "text/javascript")
+        return self.reply(part(f"{self._name}.js"), "text/javascript")
 
     async def style(self, _: Any) -> Any:
-        return self.said(part(f"{self._name}.css"), "text/css")
+        return self.reply(part(f"{self._name}.css"), "text/css")
 
 
 def headers(policy: str) -> Dict[str, str]:
-    """What each answer has: nothing is taken from elsewhere, framed or kept."""
+    """Returns the HTTP headers of each response, which forbid foreign resources,
+    framing and caching."""
     return {
         "Content-Security-Policy": f"{policy}; frame-ancestors 'none'",
         "X-Content-Type-Options": "nosniff",
@@ -63,9 +64,9 @@ def headers(policy: str) -> Dict[str, str]:
 
 
 def is_own_name(host: str, names: Collection[str]) -> bool:
-    """Whether a host that is asked for is this machine by its address or by one of
-    these names. Another name may be one that a page elsewhere has led here, to read
-    what this machine alone may see."""
+    """Returns whether the host in a request is an IP address or one of these names.
+    Other names may result from DNS rebinding by a foreign page that tries to read this
+    server."""
     name = host.rpartition(":")[0] if re.search(r":\d+$", host) else host
     with contextlib.suppress(ValueError):
         ipaddress.ip_address(name.strip("[]"))
@@ -73,11 +74,11 @@ def is_own_name(host: str, names: Collection[str]) -> bool:
     return name.lower() in {"localhost", socket.gethostname().lower(), *names}
 
 
-def refusal(asked: Mapping[str, str], names: Collection[str]) -> str:
+def refusal(headers: Mapping[str, str], names: Collection[str]) -> str:
     """Why a request is refused, by its headers, or nothing. A page elsewhere may lead
     to these pages, and not read them."""
     host, origin, site = (
-        asked.get(name, "") for name in ("Host", "Origin", "Sec-Fetch-Site")
+        headers.get(name, "") for name in ("Host", "Origin", "Sec-Fetch-Site")
     )
     if not is_own_name(host, names):
         return f"this is no page of {host}: ask by the address of this machine, or name {host} by --host\n"
@@ -86,35 +87,35 @@ def refusal(asked: Mapping[str, str], names: Collection[str]) -> str:
         "none",
         "same-origin",
     )
-    if is_other and asked.get("Sec-Fetch-Mode") != "navigate":
+    if is_other and headers.get("Sec-Fetch-Mode") != "navigate":
         return "pages of other hosts may not read this one\n"
     return ""
 
 
-def answering(handlers: Handlers, names: Collection[str] = (), **more: Any) -> Any:
+def answering(handlers: Handlers, names: Collection[str] = (), **extra: Any) -> Any:
     """The web server's application, which answers for this machine and for hosts of
     these names."""
     web = handlers.web
 
     async def for_own_pages(request: Any, handler: Any) -> Any:
-        said = refusal(request.headers, names)
-        if said:
-            return web.Response(status=403, text=said, headers=headers(STRICT))
+        reason = refusal(request.headers, names)
+        if reason:
+            return web.Response(status=403, text=reason, headers=headers(STRICT))
         return await handler(request)
 
-    app = web.Application(middlewares=[web.middleware(for_own_pages)], **more)
+    app = web.Application(middlewares=[web.middleware(for_own_pages)], **extra)
     app.add_routes(handlers.routes())
     return app
 
 
-def run(made: Any, address: str, port: int, said: str) -> None:
+def run(application: Any, address: str, port: int, text: str) -> None:
     """Serves an application until it is interrupted, and prints its address once it
     serves."""
-    needed("aiohttp.web").run_app(
-        made,
+    require("aiohttp.web").run_app(
+        application,
         host=address,
         port=port,
         access_log=None,
         shutdown_timeout=1,
-        print=lambda *_: print(f"{said} http://{address}:{port}/", flush=True),
+        print=lambda *_: print(f"{text} http://{address}:{port}/", flush=True),
     )

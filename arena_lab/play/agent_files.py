@@ -33,14 +33,14 @@ from arena_lab.play.imports import files_behind
 from arena_lab.play.own_modules import OwnModules
 from arena_lab.rules.model import Setup
 from arena_lab.support.built import LAB, TOP
-from arena_lab.support.faults import Fault
+from arena_lab.support.faults import ArenaError
 
 # where the client is that sample agents share, for agents that have no copy beside them
 AGENTS = next(
     (
-        it
-        for it in (TOP / "examples" / "agents", LAB / "examples" / "agents")
-        if it.is_dir()
+        folder
+        for folder in (TOP / "examples" / "agents", LAB / "examples" / "agents")
+        if folder.is_dir()
     ),
     TOP / "examples" / "agents",
 )
@@ -48,7 +48,7 @@ AGENTS = next(
 # the names that stand for numbers in words, and the parameters that get what is no
 # number
 FACTS = ("nodes", "links", "home")
-GIVEN = ("sleep", "network", "home")
+OPTIONAL_PARAMETERS = ("sleep", "network", "home")
 PLAIN = (inspect.Parameter.POSITIONAL_ONLY, inspect.Parameter.POSITIONAL_OR_KEYWORD)
 
 Sleep = Callable[[float], None]
@@ -57,7 +57,7 @@ Sleep = Callable[[float], None]
 Script = Callable[[Any, str, Sleep], None]
 
 
-class NoAgent(Fault):
+class AgentError(ArenaError):
     """Words that name no agent; says what does."""
 
 
@@ -69,53 +69,55 @@ def file_of(name: str) -> pathlib.Path:
     places = [AGENTS.parents[1] / path, TOP / path]
     is_sample = path.parts[:1] in (("examples",), ("arena_lab",))
     return (
-        next((it for it in places if it.is_file()), path)
+        next((place for place in places if place.is_file()), path)
         if is_sample and not path.exists()
         else path
     )
 
 
 @functools.lru_cache(maxsize=None)
-def loaded(path: pathlib.Path) -> ModuleType:
+def load_module(path: pathlib.Path) -> ModuleType:
     """The module in a file, which may import what stands beside it, and the client of
     the sample agents."""
     if not path.is_file():
-        raise NoAgent(f"{path}: there is no such file")
+        raise AgentError(f"{path}: there is no such file")
     with OwnModules(0) as modules, foreign_files.loading():
         return loaded_anew(path, modules)[0]
 
 
 @functools.lru_cache(maxsize=64)
-def compiled(path: str, text: bytes) -> CodeType:
-    """What a file of this text is compiled to. Each agent executes it anew, as often as
-    a search tries it."""
-    made: CodeType = compile(text, path, "exec", dont_inherit=True)
-    return made
+def compile_file(path: str, text: bytes) -> CodeType:
+    """Compiles a file, with a cache, because each agent of a search executes it
+    anew."""
+    code: CodeType = compile(text, path, "exec", dont_inherit=True)
+    return code
 
 
-def executed(path: pathlib.Path) -> ModuleType:
+def execute_file(path: pathlib.Path) -> ModuleType:
     """The module in a file, which is executed now."""
     spec = importlib.util.spec_from_file_location(f"lab_agent_{path.stem}", path)
     if spec is None or not isinstance(spec.loader, SourceFileLoader):
-        raise NoAgent(f"{path}: it is not in Python: its name ends with .py then")
+        raise AgentError(f"{path}: it is not in Python: its name ends with .py then")
     module = importlib.util.module_from_spec(spec)
     sys.modules[spec.name] = module
     try:
-        exec(compiled(str(path), path.read_bytes()), vars(module))
+        exec(compile_file(str(path), path.read_bytes()), vars(module))
     except SyntaxError as fault:
-        raise NoAgent(f"{fault.filename}, line {fault.lineno}: {fault.msg}") from None
+        raise AgentError(
+            f"{fault.filename}, line {fault.lineno}: {fault.msg}"
+        ) from None
     return module
 
 
-def member(word: str, *usual: str) -> Any:
-    """What a word `FILE.py:NAME` names, or `FILE.py` with the first of the usual names
-    that there is."""
+def member(word: str, *default: str) -> Any:
+    """Returns the object that a word `FILE.py:NAME` names; for `FILE.py` the first of
+    the default names that exists."""
     path, _, name = word.partition(":")
-    module = loaded(file_of(path))
-    for one in [name] if name else usual:
-        if callable(getattr(module, one, None)):
-            return getattr(module, one)
-    raise NoAgent(f"{path}: it has no function {name or ' or '.join(usual)}")
+    module = load_module(file_of(path))
+    for member_name in [name] if name else default:
+        if callable(getattr(module, member_name, None)):
+            return getattr(module, member_name)
+    raise AgentError(f"{path}: it has no function {name or ' or '.join(default)}")
 
 
 def facts_of(setup: Setup) -> Dict[str, int]:
@@ -129,7 +131,7 @@ def numbers_of(words: Sequence[str], setup: Setup) -> List[int]:
     try:
         return [int(word.format(**facts)) for word in words]
     except (KeyError, ValueError, IndexError):
-        raise NoAgent(
+        raise AgentError(
             f"{' '.join(words)}: the words behind an agent's file are whole numbers, {{nodes}}, {{links}} or "
             "{home}"
         ) from None
@@ -141,8 +143,8 @@ CLIENT = str(AGENTS / "client.py")
 
 @functools.lru_cache(maxsize=64)
 def folder_of(path: pathlib.Path, _here: str) -> str:
-    """The folder that a file stands in, by its path from here. It is asked each time
-    that an agent begins."""
+    """Returns the absolute folder of a file. `_here` is the working folder, as a key of
+    the cache."""
     return str(path.parent.resolve())
 
 
@@ -152,15 +154,15 @@ def loaded_anew(
     """The module in a file, and the client that it imports, among the modules of one
     agent."""
     modules.begin([folder_of(path, os.getcwd()), str(AGENTS)], [CLIENT])
-    module = executed(path)
+    module = execute_file(path)
     client = importlib.import_module("client")
     return module, client
 
 
 def function_of(words: str) -> Callable[..., Any]:
     """The function that the words of an agent name."""
-    found: Callable[..., Any] = member(words.split()[0], "search", "step")
-    return found
+    function: Callable[..., Any] = member(words.split()[0], "search", "step")
+    return function
 
 
 class Loader:
@@ -184,16 +186,19 @@ class Loader:
         }
 
     def load(
-        self, modules: OwnModules, **more: Any
+        self, modules: OwnModules, **extra: Any
     ) -> Tuple[Callable[[Any, Any], Any], ModuleType]:
         """The function among the modules of one agent, and the client that its file
         imports."""
-        values = {**more, **self._facts}
-        given = {word: values[word] for word in self._asked if word in values}
+        values = {**extra, **self._facts}
+        arguments = {word: values[word] for word in self._asked if word in values}
         module, client = loaded_anew(self._path, modules)
         function = getattr(module, self._name)
         numbers = self._numbers
-        return lambda first, second: function(first, second, *numbers, **given), client
+        return (
+            lambda first, second: function(first, second, *numbers, **arguments),
+            client,
+        )
 
 
 def script_of(words: str, setup: Setup) -> Script:
@@ -237,25 +242,31 @@ def asked_behind(words: str, signature: inspect.Signature, count: int) -> List[s
     """The parameters behind the agent, its key and this many numbers, if the function
     takes these words."""
     parameters = list(signature.parameters.values())[2:]
-    plain = [it.name for it in parameters if it.kind in PLAIN and it.name not in GIVEN]
-    needed = [
-        it.name for it in parameters if it.name in plain and it.default is it.empty
+    plain = [
+        parameter.name
+        for parameter in parameters
+        if parameter.kind in PLAIN and parameter.name not in OPTIONAL_PARAMETERS
     ]
-    if count < len(needed):
-        raise NoAgent(
-            f"{words}: it wants {', '.join(needed)} behind the file, as `{words} "
-            f"{' '.join('{' + name + '}' if name in FACTS else '1' for name in needed[count:])}`"
+    required = [
+        parameter.name
+        for parameter in parameters
+        if parameter.name in plain and parameter.default is parameter.empty
+    ]
+    if count < len(required):
+        raise AgentError(
+            f"{words}: it wants {', '.join(required)} behind the file, as `{words} "
+            f"{' '.join('{' + name + '}' if name in FACTS else '1' for name in required[count:])}`"
         )
     if count > len(plain) and all(
-        it.kind is not it.VAR_POSITIONAL for it in parameters
+        parameter.kind is not parameter.VAR_POSITIONAL for parameter in parameters
     ):
-        raise NoAgent(
+        raise AgentError(
             f"{words}: it takes {', '.join(plain) or 'no numbers'} behind the file, and {count} are named"
         )
-    return [it.name for it in parameters[count:]]
+    return [parameter.name for parameter in parameters[count:]]
 
 
-# what an agent that is a function may have as parameters behind the agent and its key
+# optional parameters of an agent's function behind the agent and its key
 MAY_ASK = (*FACTS, "network", "sleep")
 
 
@@ -263,36 +274,38 @@ def script_of_function(function: Callable[..., None], setup: Setup) -> Script:
     """An agent that is a function of this process, as it plays this match. Parameters
     behind the agent and its key get by their names what FILE.py gets as words: `nodes`,
     `links`, `home`, `network`, and `sleep`."""
-    asked = list(inspect.signature(function).parameters.values())[2:]
-    for it in asked:
+    parameters = list(inspect.signature(function).parameters.values())[2:]
+    for parameter in parameters:
         if (
-            it.name not in MAY_ASK
-            and it.default is it.empty
-            and it.kind in (*PLAIN, it.KEYWORD_ONLY)
+            parameter.name not in MAY_ASK
+            and parameter.default is parameter.empty
+            and parameter.kind in (*PLAIN, parameter.KEYWORD_ONLY)
         ):
-            raise NoAgent(
-                f"{function.__name__}: it has a parameter {it.name}; behind the agent and its key stand "
+            raise AgentError(
+                f"{function.__name__}: it has a parameter {parameter.name}; behind the agent and its key stand "
                 f"{', '.join(MAY_ASK)}, and what has a default"
             )
 
     def play(lines: Any, key: str, sleep: Sleep) -> None:
-        own = loaded_function(function, setup, lines.modules, sleep=sleep)
-        play_by(own, steps.is_step(function), client_module(), lines, key, sleep)
+        own_function = loaded_function(function, setup, lines.modules, sleep=sleep)
+        play_by(
+            own_function, steps.is_step(function), client_module(), lines, key, sleep
+        )
 
     return play
 
 
 def loaded_function(
-    function: Callable[..., Any], setup: Setup, modules: OwnModules, **more: Any
+    function: Callable[..., Any], setup: Setup, modules: OwnModules, **extra: Any
 ) -> Callable[[Any, Any], Any]:
     """A function of this process with variables of its own, which is given by their
     names what its parameters ask for behind the first two."""
-    values: Dict[str, Any] = {**more, **facts_of(setup), "network": tuple(setup.links)}
-    asked = list(inspect.signature(function).parameters)[2:]
+    values: Dict[str, Any] = {**extra, **facts_of(setup), "network": tuple(setup.links)}
+    names = list(inspect.signature(function).parameters)[2:]
     modules.begin([])
-    own = with_own_variables(function, modules.random)
-    given = {name: values[name] for name in asked if name in values}
-    return lambda first, second: own(first, second, **given)
+    own_function = with_own_variables(function, modules.random)
+    arguments = {name: values[name] for name in names if name in values}
+    return lambda first, second: own_function(first, second, **arguments)
 
 
 def client_module() -> ModuleType:
@@ -311,24 +324,24 @@ def with_own_variables(
     draws by this module `random`."""
     if not isinstance(function, FunctionType):
         return function
-    own = Own(function.__globals__)
-    own.variables.update(
+    own_globals = OwnGlobals(function.__globals__)
+    own_globals.variables.update(
         {
-            name: drawing if value is random else own.value(value)
+            name: drawing if value is random else own_globals.value(value)
             for name, value in function.__globals__.items()
         }
     )
-    found: Callable[..., None] = own.value(function)
-    return found
+    own_function: Callable[..., None] = own_globals.value(function)
+    return own_function
 
 
-class Own:
+class OwnGlobals:
     """Functions of a notebook or a file over variables of their own. Functions that
     share one go on sharing it."""
 
-    def __init__(self, shared: Dict[str, Any]) -> None:
+    def __init__(self, shared_globals: Dict[str, Any]) -> None:
         self.variables: Dict[str, Any] = {}
-        self._shared = shared
+        self._shared = shared_globals
         self._made: Dict[int, Any] = {}
         self._filled: Set[int] = set()
 
@@ -338,26 +351,26 @@ class Own:
             return value
         if id(value) not in self._made:
             cells = tuple(self._cell(cell) for cell in value.__closure__ or ())
-            made = FunctionType(
+            copy = FunctionType(
                 value.__code__,
                 self.variables,
                 value.__name__,
                 value.__defaults__,
                 cells,
             )
-            made.__kwdefaults__ = value.__kwdefaults__
-            self._made[id(value)] = made
+            copy.__kwdefaults__ = value.__kwdefaults__
+            self._made[id(value)] = copy
             self._fill(value)
         return self._made[id(value)]
 
     def _cell(self, cell: CellType) -> CellType:
-        """A variable of a function around others."""
-        found: CellType = self._made.setdefault(id(cell), CellType())
-        return found
+        """Returns the copy of a closure cell."""
+        own_cell: CellType = self._made.setdefault(id(cell), CellType())
+        return own_cell
 
     def _fill(self, function: FunctionType) -> None:
-        """Gives the variables of functions around one what they have, which may be that
-        function itself."""
+        """Fills the copied cells of a closure, which may contain the function
+        itself."""
         for cell in function.__closure__ or ():
             if id(cell) not in self._filled:
                 self._filled.add(id(cell))
@@ -367,8 +380,8 @@ class Own:
 
 
 def source_digest(function: Callable[..., None]) -> str:
-    """The SHA-256 of a function's text, or of what it was compiled to if there is no
-    text."""
+    """Returns the SHA-256 of a function's source, or of its byte code if the source is
+    missing."""
     try:
         text = inspect.getsource(function).encode()
     except (OSError, TypeError):
@@ -377,18 +390,18 @@ def source_digest(function: Callable[..., None]) -> str:
 
 
 def digests(
-    words: Sequence[str], is_inside: bool = True, more: Sequence[str] = ()
+    words: Sequence[str], is_inside: bool = True, extra: Sequence[str] = ()
 ) -> Dict[str, str]:
-    """The SHA-256 of each file that the words name, and of all that these import, so
-    that a schedule says for which agents it was made. An agent inside the lab may
-    import what the lab can, and a program outside what lies beside it. `more` are names
-    of modules that are imported too."""
+    """Returns the SHA-256 of each file that the words name and of all files that these
+    import, so that a schedule identifies its agents. An agent inside the lab may
+    import everything that the lab can; a program may import files beside it. `extra`
+    names further modules."""
     folders = [str(AGENTS)] if is_inside else []
-    named = [word.partition(":")[0] for line in words for word in line.split()]
-    files = map(file_of, named)
+    names = [word.partition(":")[0] for line in words for word in line.split()]
+    files = map(file_of, names)
     return {
         name: digest
         for file in files
         if file.is_file()
-        for name, digest in files_behind(file, folders, more).items()
+        for name, digest in files_behind(file, folders, extra).items()
     }

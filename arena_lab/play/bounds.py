@@ -1,11 +1,11 @@
-"""What the programs of a match may take of the lab: how long it waits for them, and how
-much they send and are told."""
+"""Limits the programs of a match: how long the lab waits for them, and how many bytes
+they send and receive."""
 import time
 from typing import Optional, Sized
 
 # seconds that an agent may take to send or to wait, if nothing else is asked for
 LIMIT = 5
-# what is said of programs that let the lab wait: how their matches go on depends on the
+# faults of programs that exceed their time; how their matches go on depends on the
 # machine
 SENT_NOTHING = "has sent no line for"
 READ_NOTHING = "has not read what it was told within"
@@ -13,11 +13,11 @@ USED_UP = "has used up the time of its match,"
 
 
 class Room:
-    """How many bytes of lines the programs of a match may send and be told in all. The
-    lab keeps and writes them."""
+    """Limits the bytes of lines that the programs of a match send and receive together,
+    because the lab stores and writes them."""
 
-    def __init__(self, most: float) -> None:
-        self._most = self._left = most
+    def __init__(self, limit: float) -> None:
+        self._most = self._left = limit
 
     def take(self, line: Sized) -> None:
         """Counts a line; ValueError says that there is no room for it."""
@@ -37,7 +37,7 @@ class TimeBound:
         self._line = line
         self._match = match
         self._began = 0.0
-        # until when all programs are waited for together, if they are
+        # common deadline of all programs, if they share one
         self._until: Optional[float] = None
 
     def begin(self, is_together: bool = True) -> None:
@@ -53,7 +53,7 @@ class TimeBound:
         self.waited += time.monotonic() - self._began
 
     def says(self, what: str) -> str:
-        """What is said of a program for which the lab has waited too long."""
+        """Returns the fault of a program that exceeded its time."""
         if self._match - self.waited <= self._line:
             return f"{USED_UP} {self._match:g} s in all, as the lab waited for its programs"
         return f"{what} {self._line:g} s"

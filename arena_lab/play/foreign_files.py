@@ -18,9 +18,9 @@ from importlib.machinery import PathFinder
 from types import ModuleType
 from typing import Any, Callable, Dict, Iterator, List, Optional, Set, Tuple
 
-from arena_lab.play.imports import PACKAGE, digest_named, named, package_digest
+from arena_lab.play.imports import PACKAGE, digest_named, relative_name, package_digest
 from arena_lab.support.built import LAB
-from arena_lab.support.missing import needed
+from arena_lab.support.missing import require
 
 REACHES = {
     "os.putenv": "sets a variable of the environment",
@@ -84,8 +84,8 @@ WRITES = os.O_WRONLY | os.O_RDWR | os.O_CREAT | os.O_APPEND | os.O_TRUNC
 # folders whose files are no part of an agent: those of Python, of the lab, and of Linux
 PYTHONS = ("stdlib", "platstdlib", "purelib", "platlib")
 NOT_READ = tuple(
-    f"{it}{os.sep}"
-    for it in (
+    f"{folder}{os.sep}"
+    for folder in (
         *map(sysconfig.get_path, PYTHONS),
         LAB,
         "/usr/lib/python3",
@@ -98,8 +98,9 @@ IS_WATCHED: List[bool] = []
 
 
 class Notes:
-    """What a program has reached outside, or None, and what it has read: files,
-    modules, and what differs from one time to the next, such as clocks."""
+    """What a program has accessed besides replies: `reaches` names the first effect
+    outside of the lab (or None); `reads` has files, modules, and sources of
+    nondeterminism such as clocks."""
 
     def __init__(self) -> None:
         self.reaches: Optional[str] = None
@@ -109,23 +110,23 @@ class Notes:
 
 
 def notes_of(thread: Any) -> Notes:
-    """The notes of a program, which is a greenlet."""
-    found: Optional[Notes] = vars(thread).get("notes")
-    if found is None:
-        found = vars(thread)["notes"] = Notes()
-    return found
+    """Returns the notes of a program's greenlet, and creates them if needed."""
+    notes: Optional[Notes] = vars(thread).get("notes")
+    if notes is None:
+        notes = vars(thread)["notes"] = Notes()
+    return notes
 
 
-# of files that are being loaded, to see which functions they have: also their notes
+# notes of the files that are being loaded for inspection
 LOADING: List[Notes] = []
-LOADED = Notes()
+LOADED_NOTES = Notes()
 
 
 @contextlib.contextmanager
 def loading() -> Iterator[None]:
     """Notes what agents' files reach and read while they are loaded for the first
     time."""
-    LOADING.append(LOADED)
+    LOADING.append(LOADED_NOTES)
     try:
         yield
     finally:
@@ -140,18 +141,18 @@ def watch() -> None:
     for what, places in READS.items():
         for module, name in places:
             setattr(module, name, reading(getattr(module, name), what))
-    current = needed("greenlet").getcurrent
-    noted = frozenset(("open", "import", "builtins.id", *REACHES))
+    current = require("greenlet").getcurrent
+    events = frozenset(("open", "import", "builtins.id", *REACHES))
 
-    def note(event: str, given: Any) -> None:
-        if event not in noted:
+    def note(event: str, details: Any) -> None:
+        if event not in events:
             # most events are of no interest, and each costs this much
             return
         thread = current()
         if thread.parent is not None:
-            note_of(notes_of(thread), event, given)
+            note_of(notes_of(thread), event, details)
         elif LOADING:
-            note_of(LOADING[-1], event, given)
+            note_of(LOADING[-1], event, details)
 
     sys.addaudithook(note)
 
@@ -161,7 +162,7 @@ def note_read(what: str) -> None:
     next."""
     if not IS_WATCHED:
         return
-    thread = needed("greenlet").getcurrent()
+    thread = require("greenlet").getcurrent()
     if thread.parent is not None:
         notes_of(thread).reads.add(what)
     elif LOADING:
@@ -172,25 +173,25 @@ def reading(function: Callable[..., Any], what: str) -> Callable[..., Any]:
     """A function of the library that notes who calls it."""
 
     @functools.wraps(function)
-    def read(*given: Any, **more: Any) -> Any:
+    def read_noted(*args: Any, **extra: Any) -> Any:
         note_read(what)
-        return function(*given, **more)
+        return function(*args, **extra)
 
-    return read
+    return read_noted
 
 
-def note_of(notes: Notes, event: str, given: Any) -> None:
+def note_of(notes: Notes, event: str, details: Any) -> None:
     """Notes one thing."""
     if event == "import":
-        notes.modules.add(given[0].partition(".")[0])
+        notes.modules.add(details[0].partition(".")[0])
     elif event == "builtins.id":
         # the library asks for identities where it comes to nothing
         if not sys._getframe(2).f_code.co_filename.startswith(NOT_READ):
             notes.reads.add(IDENTITY)
     elif event != "open":
         notes.reaches = notes.reaches or f"what lies outside, since it {REACHES[event]}"
-    elif isinstance(given[0], (str, bytes)):
-        path, _, flags = given
+    elif isinstance(details[0], (str, bytes)):
+        path, _, flags = details
         if not (isinstance(flags, int) and flags & WRITES):
             notes.files.add(os.fsdecode(path))
         elif "__pycache__" not in os.fsdecode(path):
@@ -200,25 +201,25 @@ def note_of(notes: Notes, event: str, given: Any) -> None:
 def read_by(of_program: Notes) -> Dict[str, str]:
     """The SHA-256 of each file that a program with these notes has read, also while its
     file was loaded first, and of each installed package, by their names."""
-    found: Set[str] = set()
-    for notes in (of_program, LOADED) if IS_WATCHED else ():
+    paths: Set[str] = set()
+    for notes in (of_program, LOADED_NOTES) if IS_WATCHED else ():
         files = (source_of(os.path.abspath(file)) for file in notes.files)
-        found.update(
-            named(pathlib.Path(file))
+        paths.update(
+            relative_name(pathlib.Path(file))
             for file in files
             if not file.startswith(NOT_READ) and os.path.isfile(file)
         )
-        found.update(f"{PACKAGE}{name}" for name in notes.modules if is_installed(name))
-    return {name: digest_named(name) for name in sorted(found)}
+        paths.update(f"{PACKAGE}{name}" for name in notes.modules if is_installed(name))
+    return {name: digest_named(name) for name in sorted(paths)}
 
 
 def is_installed(name: str) -> bool:
-    """Whether a module belongs to an installed package. One that stands beside an agent
-    is a file that it has read."""
+    """Returns whether a module belongs to an installed package. A module beside an
+    agent counts as a file that the agent read."""
     spec = PathFinder.find_spec(name) if package_digest(name) else None
     return spec is not None and any(
-        place.startswith(NOT_READ)
-        for place in (spec.origin or "", *(spec.submodule_search_locations or ()))
+        location.startswith(NOT_READ)
+        for location in (spec.origin or "", *(spec.submodule_search_locations or ()))
     )
 
 

@@ -1,5 +1,5 @@
-"""Games: what is played, as far as a seed does not choose it, and what came of a match,
-as a row or as a page.
+"""Games fix the settings of matches except those that a seed draws; records are played
+matches, shown as a row or as a page.
 
 The commands `run` and `hunt` and the functions of arena_lab/api.py play games.
 """
@@ -12,16 +12,16 @@ from typing import Any, Dict, Iterator, List, NamedTuple, Optional, Sequence, Un
 
 from arena_lab.pages.page import page_of_replay
 from arena_lab.play import kept_matches, referee, schedulers
-from arena_lab.play.agent_files import NoAgent, member
+from arena_lab.play.agent_files import AgentError, member
 from arena_lab.play.matches import PlayedMatch
 from arena_lab.play.repeating import with_repeats
 from arena_lab.play.schedules import Schedule, schedule_of
 from arena_lab.play.parallel import over_processes
 from arena_lab.play.summaries import Summary, summary_of, verdict_by
 from arena_lab.play.teams import Game, digests_of
-from arena_lab.rules.engines import Differs
+from arena_lab.rules.engines import EnginesDifferError
 from arena_lab.rules.model import Verdict
-from arena_lab.support.faults import Fault
+from arena_lab.support.faults import ArenaError
 from arena_lab.support.progress import along
 
 SchedulerName = Union[str, schedulers.Maker]
@@ -33,15 +33,15 @@ def maker_of(scheduler: SchedulerName) -> schedulers.Maker:
     """The scheduler that a word names, or one that is given as a function."""
     if callable(scheduler):
         return scheduler
-    if scheduler in schedulers.NAMED:
-        return schedulers.NAMED[scheduler]
+    if scheduler in schedulers.SCHEDULER_MAKERS:
+        return schedulers.SCHEDULER_MAKERS[scheduler]
     if ".py" not in scheduler:
-        raise NoAgent(
-            f"{scheduler}: there is no such scheduler; there are {', '.join(schedulers.NAMED)} and "
+        raise AgentError(
+            f"{scheduler}: there is no such scheduler; there are {', '.join(schedulers.SCHEDULER_MAKERS)} and "
             "FILE.py:NAME"
         )
-    found: schedulers.Maker = member(scheduler, "scheduler")
-    return found
+    maker: schedulers.Maker = member(scheduler, "scheduler")
+    return maker
 
 
 def name_of(scheduler: SchedulerName) -> str:
@@ -70,7 +70,7 @@ def play_seed(
 
 
 def play_again(schedule: Schedule, program: Optional[str]) -> "Record":
-    """Plays a schedule that was found."""
+    """Replays a schedule, and returns the record."""
     return Record(schedule, kept_matches.played_again(schedule, program), program)
 
 
@@ -80,38 +80,38 @@ class Record(NamedTuple):
     watch."""
 
     schedule: Schedule
-    played: PlayedMatch
+    match: PlayedMatch
     program: Optional[str]
 
     @property
     def verdict(self) -> Verdict:
-        return self.played.verdict()
+        return self.match.verdict()
 
     @property
     def has_failed(self) -> bool:
-        return self.played.has_failed()
+        return self.match.has_failed()
 
     @property
     def replay(self) -> str:
         """The text of its replay."""
-        return self.played.replay.decode()
+        return self.match.replay.decode()
 
     def page(self) -> str:
-        """A page of HTML on which one watches it."""
+        """Returns the HTML page that shows the match."""
         return page_of_replay(
-            self.program, self.played.replay, self.schedule.title(), self.played.refused
+            self.program, self.match.replay, self.schedule.title(), self.match.refusals
         )
 
     def keep(self, folder: Union[str, pathlib.Path]) -> List[str]:
-        """Writes all that shows it to a folder, as `--keep` does; gives what is to be
-        said of it."""
+        """Writes the schedule, replay and page to a folder, as `--keep` does; returns
+        the lines to print."""
         return kept_matches.write_find(
-            pathlib.Path(folder), self.schedule, self.played, self.program
+            pathlib.Path(folder), self.schedule, self.match, self.program
         )
 
-    def spent(self) -> List[int]:
+    def exhausted_agents(self) -> List[int]:
         """The agents that have no commands left of their quota."""
-        match = self.played.match
+        match = self.match.match
         return [
             number
             for number, agent in enumerate(match.agents)
@@ -119,84 +119,97 @@ class Record(NamedTuple):
         ]
 
     def faults(self) -> List[str]:
-        """What is said of agents that have a fault, or have used all of their
-        commands."""
+        """Returns the faults of agents, and a line for each agent that has used all of
+        its commands."""
         quota = self.schedule.fixture.setup.quota
         return [
-            *self.played.faults,
+            *self.match.faults,
             *(
-                f"agent {it}: has used all of its {quota} commands"
-                for it in self.spent()
+                f"agent {agent}: has used all of its {quota} commands"
+                for agent in self.exhausted_agents()
             ),
         ]
 
-    def told(self) -> List[str]:
-        """What came of a match that was not solved, from the referee's view."""
-        return referee.told(self.played.match, self.played.faults)
+    def report(self) -> List[str]:
+        """Returns the referee's explanation of an unsolved match."""
+        return referee.report(self.match.match, self.match.faults)
 
-    def repeated(self, seconds: float) -> "Record":
+    def repeat(self, seconds: float) -> "Record":
         """The match with what its agents say otherwise when each is repeated alone,
         unless one of them has a fault."""
         return self._replace(
-            played=with_repeats(
-                self.played, self.schedule.agents, self.schedule.fixture, seconds
+            match=with_repeats(
+                self.match, self.schedule.agents, self.schedule.fixture, seconds
             )
         )
 
-    def judged(self) -> Verdict:
+    def judge(self) -> Verdict:
         """The verdict of the engine that played it."""
-        return verdict_by(self.program, self.played)
+        return verdict_by(self.program, self.match)
 
     def summary(self) -> Summary:
-        """What came of it, with what is said of agents that have used all of their
+        """Summarises the match, including agents that have used all of their
         commands."""
         return dataclasses.replace(
-            summary_of(self.played, self.program), faults=self.faults()
+            summary_of(self.match, self.program), faults=self.faults()
         )
 
     def _repr_html_(self) -> str:
-        return framed(self.page())
+        return frame_page(self.page())
 
 
-def framed(page: str) -> str:
+# names of version 0.9 in programs and notebooks, which the next release drops
+OLD_NAMES = {
+    "judged": "judge",
+    "played": "match",
+    "repeated": "repeat",
+    "spent": "exhausted_agents",
+    "told": "report",
+}
+for old_name, name in OLD_NAMES.items():
+    setattr(Record, old_name, getattr(Record, name))
+
+
+def frame_page(page: str) -> str:
     """A page as part of a notebook."""
     return f'<iframe srcdoc="{html.escape(page)}" style="width: 100%; height: {HEIGHT}px; border: 0"></iframe>'
 
 
 class Row(Dict[str, Any]):
-    """A row of a table: what was played and what came of it. pandas.DataFrame takes a
-    list of them."""
+    """A row of a table: the settings and the result of a match. pandas.DataFrame
+    accepts a list of rows."""
 
-    def __init__(self, asked: "Asked", record: Record) -> None:
+    def __init__(self, request: "MatchRequest", record: Record) -> None:
         setup = record.schedule.fixture.setup
         summary = record.summary()
         super().__init__(
-            network=asked.game.name,
+            network=request.game.name,
             nodes=setup.nodes,
             links=len(setup.links),
             home=setup.home,
             holes=list(setup.holes),
-            dark=[list(place) for place in setup.dark],
+            dark=[list(link_end) for link_end in setup.dark],
             agents=setup.agents,
-            scheduler=name_of(asked.scheduler),
-            seed=asked.seed,
+            scheduler=name_of(request.scheduler),
+            seed=request.seed,
             **summary.columns(),
             choices=len(record.schedule.choices),
             failed=record.has_failed,
             replay=summary.replay,
             faults=list(summary.faults),
-            refused=record.played.refused,
+            refused=record.match.refusals,
         )
-        self._asked = asked
+        self._asked = request
         self._record: Optional[Record] = record
 
     def match(self) -> Record:
-        """The match, which is played again if it is not at hand any more."""
+        """Returns the record of the match, which is played again unless it is still in
+        memory."""
         if self._record:
             return self._record
         record = self._asked.play()
-        if hashlib.sha256(record.played.replay).hexdigest() != self["replay"]:
-            raise Differs(
+        if hashlib.sha256(record.match.replay).hexdigest() != self["replay"]:
+            raise EnginesDifferError(
                 "played again the match came to another replay: its agents do something else although they "
                 "are told the same"
             )
@@ -212,7 +225,7 @@ class Row(Dict[str, Any]):
         return json.dumps(self, ensure_ascii=False)
 
 
-class Asked(NamedTuple):
+class MatchRequest(NamedTuple):
     """A match that is asked for: a game, a scheduler, a seed, who plays, and whether
     its agents are repeated alone."""
 
@@ -228,7 +241,7 @@ class Asked(NamedTuple):
 
     def play(self) -> Record:
         record = play_seed(self.game, self.scheduler, self.seed, self.program)
-        return record.repeated(self.game.limit) if self.repeats else record
+        return record.repeat(self.game.limit) if self.repeats else record
 
 
 class Rows(NamedTuple):
@@ -236,27 +249,29 @@ class Rows(NamedTuple):
 
     game: Game
 
-    def play(self, asked: Asked) -> Row:
-        return Row(asked, asked.play())
+    def play(self, request: MatchRequest) -> Row:
+        return Row(request, request.play())
 
     def digests(self) -> Dict[str, str]:
         """The SHA-256 of each file of agents."""
         return digests_of(self.game.agents)
 
 
-def rows_of(asked: Sequence[Asked], workers: int = 1) -> Iterator[Row]:
+def rows_of(requests: Sequence[MatchRequest], workers: int = 1) -> Iterator[Row]:
     """The rows of matches, in order, by this number of processes."""
-    if not asked:
+    if not requests:
         return
-    job = Rows(asked[0].game)
+    job = Rows(requests[0].game)
     if workers > 1:
-        for result in along(over_processes(job, asked, workers), len(asked), "match"):
+        for result in along(
+            over_processes(job, requests, workers), len(requests), "match"
+        ):
             if result.fault:
-                raise Stopped(result.fault)
-            yield result.found
+                raise StoppedError(result.fault)
+            yield result.result
     else:
-        yield from along(map(job.play, asked), len(asked), "match")
+        yield from along(map(job.play, requests), len(requests), "match")
 
 
-class Stopped(Fault):
+class StoppedError(ArenaError):
     """A process that plays has met a fault; says which."""

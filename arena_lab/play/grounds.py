@@ -11,42 +11,43 @@ from arena_lab.rules.fixtures import Fixture
 HOST = "127.0.0.1"
 
 
-class NoStart(Exception):
+class StartError(Exception):
     """A program cannot be started, and its team is to blame; says why."""
 
 
-# a program that was started, and what waits until it begins and gives the listener to
-# which it is to connect
-Started = Tuple["subprocess.Popen[bytes]", Callable[[], socket.socket]]
+# a started program, and a function that waits for its start and returns the listener
+# that it is to connect to
+StartedProgram = Tuple["subprocess.Popen[bytes]", Callable[[], socket.socket]]
 
 
 class Ground(Protocol):
-    """Where a program runs. Its facts are what stands there for words of a command, by
-    name."""
+    """The place where a program runs. `facts` are its values for the words of a
+    command, by name."""
 
     @property
     def facts(self) -> Mapping[str, str]:
         ...
 
-    def start(self, words: Sequence[str], seed: int, errors: Any) -> Started:
+    def start(self, words: Sequence[str], seed: int, errors: Any) -> StartedProgram:
         """Starts a program, which finds the seed in ARENA_SEED. The port of its
         listener stands for `{port}`."""
 
     def kill(self, child: "subprocess.Popen[bytes]") -> None:
-        """Ends a program that was started, and all that it has started."""
+        """Kills a program and all its descendants."""
 
     def hurry(self, child: "subprocess.Popen[bytes]") -> None:
         """Tells a program to end that is going to be ended, so that those of a match
         end at the same time."""
 
-    def told(self, text: str) -> str:
-        """What a program has said, without what is another on each run."""
+    def stable_text(self, text: str) -> str:
+        """Replaces parts of a program's output that differ in each run, such as
+        temporary paths."""
 
     def hint(self, words: str) -> str:
-        """What to change, as far as a program's last words show it."""
+        """Returns advice suggested by a program's last words."""
 
     def fault(self) -> str:
-        """Why the ground has ended the program, if it has."""
+        """Returns why the runner has ended the program, or ""."""
 
 
 class LocalRunner:
@@ -58,7 +59,7 @@ class LocalRunner:
     def __init__(self, folder: Optional[str] = None) -> None:
         self._folder = folder
 
-    def start(self, words: Sequence[str], seed: int, errors: Any) -> Started:
+    def start(self, words: Sequence[str], seed: int, errors: Any) -> StartedProgram:
         listener = socket.create_server((HOST, 0))
         command = [
             word.replace("{port}", str(listener.getsockname()[1])) for word in words
@@ -90,7 +91,7 @@ class LocalRunner:
         except ProcessLookupError:
             pass
 
-    def told(self, text: str) -> str:
+    def stable_text(self, text: str) -> str:
         return text
 
     def hint(self, words: str) -> str:
@@ -101,7 +102,7 @@ class LocalRunner:
 
 
 def same_folder(_: Fixture) -> Ground:
-    """Where the program of an agent runs if nothing else is said, in each match."""
+    """Returns the default ground of an agent's program."""
     return LocalRunner()
 
 
@@ -112,8 +113,8 @@ class Nowhere(LocalRunner):
         super().__init__()
         self._why = why
 
-    def start(self, words: Sequence[str], seed: int, errors: Any) -> Started:
-        raise NoStart(self._why)
+    def start(self, words: Sequence[str], seed: int, errors: Any) -> StartedProgram:
+        raise StartError(self._why)
 
 
 def seeds(seed: int) -> Dict[str, str]:

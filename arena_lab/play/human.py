@@ -5,8 +5,8 @@ import random
 from typing import Any, Dict, List, NamedTuple, Optional, Tuple
 
 from arena_lab.rules.fixtures import Fixture
-from arena_lab.rules.model import OVER, Match, Object, Verdict, judge, spelled
-from arena_lab.rules.rehearsal import Rehearsal, Said
+from arena_lab.rules.model import OVER, Match, Object, Verdict, judge, spell
+from arena_lab.rules.rehearsal import Rehearsal, SentLine
 
 OUTSIDE = "outside"
 AT_A_NODE = "at a node"
@@ -18,14 +18,14 @@ LAST = ("noted", "bye")
 
 
 class ConversationLine(NamedTuple):
-    """A line of an agent's conversation, and whether the agent said it."""
+    """A line of an agent's conversation, and whether the agent sent it."""
 
     is_said: bool
     text: str
 
 
-class Seen:
-    """What one agent has seen: where it stands, the node that it saw last, and its
+class AgentRecord:
+    """The observations of one agent: its position, the node that it saw last, and its
     conversation."""
 
     def __init__(self) -> None:
@@ -35,27 +35,27 @@ class Seen:
         self.board = ""
         self.lines: List[ConversationLine] = []
 
-    def said(self, command: Object) -> None:
-        self.lines.append(ConversationLine(True, spelled(command)))
+    def note_command(self, command: Object) -> None:
+        self.lines.append(ConversationLine(True, spell(command)))
 
-    def told(self, text: str, answer: Object, command: Optional[Object]) -> None:
+    def note_answer(self, text: str, answer: Object, command: Optional[Object]) -> None:
         """Takes an answer: to a command, or an arrival."""
         self.lines.append(ConversationLine(False, text))
-        found = answer.get("ok")
+        status = answer.get("ok")
         if answer == OVER:
             self.standing = MATCH_OVER
-        elif found == "here":
+        elif status == "here":
             self.standing = AT_A_NODE
             self.ports = answer["ports"]
             self.came = answer["from"]
             self.board = answer["board"]
-        elif found == "gone":
+        elif status == "gone":
             self.standing = ON_A_LINK
-        elif found == "changed":
+        elif status == "changed":
             self.board = answer["board"]
-        elif found == "written" and command:
+        elif status == "written" and command:
             self.board = command["put"]
-        elif found in LAST:
+        elif status in LAST:
             self.standing = ENDED
 
 
@@ -63,11 +63,11 @@ class HumanMatch:
     """A match of the Python model. Whoever plays it says what agents do, and when time
     passes."""
 
-    def __init__(self, fixture: Fixture, chance: random.Random) -> None:
+    def __init__(self, fixture: Fixture, rng: random.Random) -> None:
         self._engine = Rehearsal(fixture)
-        self._chance = chance
+        self._chance = rng
         self.fixture = fixture
-        self.seen = [Seen() for _ in fixture.keys]
+        self.seen = [AgentRecord() for _ in fixture.keys]
 
     @property
     def match(self) -> Match:
@@ -78,16 +78,16 @@ class HumanMatch:
         return self.match.closed
 
     def may_say(self, agent: int) -> bool:
-        """Whether an agent can do something: one on a link cannot, nor one that has
-        ended."""
+        """Returns whether an agent can do something: one on a link cannot, nor one that
+        has ended."""
         return not self.is_over and self.seen[agent].standing in (OUTSIDE, AT_A_NODE)
 
     def say(self, agent: int, command: Object) -> None:
         """Lets an agent say a command."""
         if command["do"] == "enter":
             command = {**command, "key": self.fixture.keys[agent]}
-        self.seen[agent].said(command)
-        self._take(self._engine.feed(agent, spelled(command).encode()), command)
+        self.seen[agent].note_command(command)
+        self._take(self._engine.feed(agent, spell(command).encode()), command)
 
     def wait(self) -> None:
         """Lets time pass: one of the agents on links is chosen by chance, and arrives
@@ -97,55 +97,57 @@ class HumanMatch:
             self._take(self._engine.draw(self._chance.randrange(len(pool))))
 
     def deliver(self, agent: int) -> None:
-        """Lets this agent arrive, if it is on a link and can."""
+        """Delivers an agent that is on a link."""
         if agent in self.match.pool and not self.is_over:
             self._take(self._engine.draw(self.match.pool.index(agent)))
 
     def end(self) -> Verdict:
         """Ends the match. Agents on links that were destroyed count as lost."""
         for agent in list(self.match.pool):
-            if self.match.doomed(
+            if self.match.destroys(
                 self.match.agents[agent].node, self.match.agents[agent].port
             ):
                 self.deliver(agent)
         for number, text in self._engine.close():
-            self.seen[number].told(text, OVER, None)
+            self.seen[number].note_answer(text, OVER, None)
         return judge(self.match)
 
     def replay(self) -> bytes:
         return self._engine.replay()
 
-    def shown(self) -> Dict[str, Any]:
-        """What a page may show: of each agent what it has seen."""
+    def as_dict(self) -> Dict[str, Any]:
+        """Returns what the page may show: the observations of each agent."""
         return {
             "over": self.is_over,
             "agents": [
                 {
-                    "standing": it.standing,
-                    "ports": it.ports,
-                    "came": it.came,
-                    "board": it.board,
-                    "lines": [list(line) for line in it.lines],
+                    "standing": record.standing,
+                    "ports": record.ports,
+                    "came": record.came,
+                    "board": record.board,
+                    "lines": [list(line) for line in record.lines],
                 }
-                for it in self.seen
+                for record in self.seen
             ],
         }
 
-    def _take(self, told: List[Said], command: Optional[Object] = None) -> None:
-        for number, text in told:
-            self.seen[number].told(text, json.loads(text), command)
+    def _take(
+        self, sent_lines: List[SentLine], command: Optional[Object] = None
+    ) -> None:
+        for number, text in sent_lines:
+            self.seen[number].note_answer(text, json.loads(text), command)
 
 
 def trails(match: Match) -> List[Tuple[List[int], bool]]:
-    """The nodes that each agent was at, in order, and whether it was lost: for when the
-    match is over."""
-    found: List[List[int]] = [[] for _ in match.agents]
+    """Returns for each agent the nodes of its walk and whether it was lost. Only for
+    finished matches."""
+    routes: List[List[int]] = [[] for _ in match.agents]
     at = [match.setup.home] * len(match.agents)
     for event in match.log:
         if event["do"] == "enter":
-            found[event["agent"]].append(match.setup.home)
+            routes[event["agent"]].append(match.setup.home)
         elif event["do"] == "depart" and event["reply"] == {"ok": "gone"}:
             at[event["agent"]] = match.far[at[event["agent"]]][event["port"]][0]
         elif event["do"] == "deliver" and event["reply"] is not None:
-            found[event["agent"]].append(at[event["agent"]])
-    return [(trail, agent.lost) for trail, agent in zip(found, match.agents)]
+            routes[event["agent"]].append(at[event["agent"]])
+    return [(trail, agent.lost) for trail, agent in zip(routes, match.agents)]

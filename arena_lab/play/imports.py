@@ -1,6 +1,5 @@
-"""Which files a Python program is made of: its own and those that it imports. They are
-found by reading.
-"""
+"""Finds the files of a Python program (its own and those imported) by parsing the
+sources."""
 import ast
 import functools
 import hashlib
@@ -17,7 +16,7 @@ SUFFIX = ".py"
 # what stands before the name of an installed package
 PACKAGE = "package "
 # a longer text is not looked into: it may be a stranger's, and made to take long
-MOST_BYTES = 1 << 18
+MAX_BYTES = 1 << 18
 
 
 class Module(NamedTuple):
@@ -34,11 +33,11 @@ class Reader:
 
     def __init__(self, folders: Sequence[str]) -> None:
         self.files: Dict[pathlib.Path, pathlib.Path] = {}
-        # names of modules that are in none of the folders
+        # modules that none of the folders contains
         self.elsewhere: Set[str] = set()
         self._folders = folders
 
-    def read(self, path: pathlib.Path, package: str = "") -> None:
+    def read_file(self, path: pathlib.Path, package: str = "") -> None:
         """Reads a file, and what it imports, however long the chain of imports is."""
         waiting = [(path, package)]
         while waiting:
@@ -47,74 +46,78 @@ class Reader:
                 continue
             self.files[path.resolve()] = path
             if path.suffix == SUFFIX:
-                named = [
-                    it
+                imported_files = [
+                    file
                     for name in names_in(path.read_bytes())
-                    for it in self._files_of(name, package)
+                    for file in self._files_of(name, package)
                 ]
                 # the first is taken next
-                waiting += reversed(named)
+                waiting += reversed(imported_files)
 
     def follow(self, name: str, package: str = "") -> None:
         """Reads the module of a name, which a file of this package imports."""
         for file, inside in self._files_of(name, package):
-            self.read(file, inside)
+            self.read_file(file, inside)
 
     def _files_of(self, name: str, package: str) -> List[Tuple[pathlib.Path, str]]:
         """The files of a module's name, each with the package from which its own
         imports are relative."""
-        found = modules_of(name, package, self._folders)
-        if not found and not name.startswith("."):
+        modules = modules_of(name, package, self._folders)
+        if not modules and not name.startswith("."):
             self.elsewhere.add(name.partition(".")[0])
-        return [(module.file, module.package) for module in found if module.file]
+        return [(module.file, module.package) for module in modules if module.file]
 
 
 @functools.lru_cache(maxsize=256)
 def names_in(text: bytes) -> Tuple[str, ...]:
-    """The names of modules that a program's text imports anywhere, and of what it takes
-    out of them, which may be modules too."""
+    """Returns the modules that a program imports at any place, and names imported from
+    them, which may be modules as well."""
     try:
-        nodes = list(ast.walk(ast.parse(text))) if len(text) <= MOST_BYTES else []
+        nodes = list(ast.walk(ast.parse(text))) if len(text) <= MAX_BYTES else []
     except (MemoryError, RecursionError, SyntaxError, SystemError, ValueError):
         return ()
-    found: List[str] = []
+    import_names: List[str] = []
     for node in nodes:
         if isinstance(node, ast.Import):
-            found += [it.name for it in node.names]
+            import_names += [name.name for name in node.names]
         elif isinstance(node, ast.ImportFrom):
             base = "." * node.level + (node.module or "")
             between = "" if base.endswith(".") else "."
-            found += [
+            import_names += [
                 base,
-                *(f"{base}{between}{it.name}" for it in node.names if it.name != "*"),
+                *(
+                    f"{base}{between}{name.name}"
+                    for name in node.names
+                    if name.name != "*"
+                ),
             ]
         elif isinstance(node, ast.Call) and node.args:
-            called = node.func
+            function = node.func
             first = node.args[0]
             name = (
-                called.attr
-                if isinstance(called, ast.Attribute)
-                else getattr(called, "id", None)
+                function.attr
+                if isinstance(function, ast.Attribute)
+                else getattr(function, "id", None)
             )
             if (
                 name in CALLS
                 and isinstance(first, ast.Constant)
                 and isinstance(first.value, str)
             ):
-                found.append(first.value)
-    return tuple(dict.fromkeys(found))
+                import_names.append(first.value)
+    return tuple(dict.fromkeys(import_names))
 
 
 def modules_of(name: str, package: str, folders: Sequence[str]) -> List[Module]:
-    """The modules that an import of this name executes, as far as they are found in the
-    folders."""
+    """Returns the modules that an import of this name executes, if the folders contain
+    them."""
     try:
         full = (
             importlib.util.resolve_name(name, package) if name.startswith(".") else name
         )
     except ImportError:
         return []
-    found: List[Module] = []
+    modules: List[Module] = []
     where = list(folders)
     path = ""
     for part in filter(None, full.split(".")):
@@ -126,40 +129,46 @@ def modules_of(name: str, package: str, folders: Sequence[str]) -> List[Module]:
             break
         inside = spec.submodule_search_locations
         file = pathlib.Path(spec.origin) if spec.origin and spec.has_location else None
-        found.append(
+        modules.append(
             Module(file, path if inside is not None else path.rpartition(".")[0])
         )
         if inside is None:
             break
         where = [
             folder
-            for folder in (os.path.join(it, part) for it in where)
+            for folder in (
+                os.path.join(folder_of_part, part) for folder_of_part in where
+            )
             if os.path.isdir(folder)
         ]
-    return found
+    return modules
 
 
 def files_behind(
-    path: pathlib.Path, folders: Sequence[str] = (), more: Iterable[str] = ()
+    path: pathlib.Path, folders: Sequence[str] = (), extra: Iterable[str] = ()
 ) -> Dict[str, str]:
-    """The SHA-256 of a file, of each file that it imports from beside it or from these
-    folders, and of each installed package that they import. `more` are names of modules
-    that are imported too. Names of files are paths from the working folder. Without
-    folders, what stands beside the file is looked at alone."""
+    """Returns the SHA-256 of a file, of each file that it imports from its own folder
+    or from `folders`, and of each installed package imported. `extra` names further
+    modules. Names of files are relative to the working folder."""
     reader = Reader([str(path.parent.resolve()), *folders])
-    reader.read(path)
-    for name in more:
+    reader.read_file(path)
+    for name in extra:
         reader.follow(name)
-    found = {named(file): digest_of(file) for file in reader.files.values()}
+    file_digests = {
+        relative_name(file): digest_of(file) for file in reader.files.values()
+    }
     packages = (
         {f"{PACKAGE}{name}": package_digest(name) for name in sorted(reader.elsewhere)}
         if folders
         else {}
     )
-    return {**found, **{name: digest for name, digest in packages.items() if digest}}
+    return {
+        **file_digests,
+        **{name: digest for name, digest in packages.items() if digest},
+    }
 
 
-def named(path: pathlib.Path) -> str:
+def relative_name(path: pathlib.Path) -> str:
     """A file's path from the working folder if it is in there, else its whole path."""
     if not path.is_absolute():
         return str(path)
@@ -168,7 +177,7 @@ def named(path: pathlib.Path) -> str:
 
 
 def digest_of(path: pathlib.Path) -> str:
-    """The SHA-256 of a file, or nothing if there is no such file."""
+    """Returns the SHA-256 of a file, or "" if it does not exist."""
     return hashlib.sha256(path.read_bytes()).hexdigest() if path.is_file() else ""
 
 
@@ -184,20 +193,20 @@ def digest_named(name: str) -> str:
 
 def digest_of_all(paths: Iterable[pathlib.Path], folder: pathlib.Path) -> str:
     """The SHA-256 of files in a folder with their names."""
-    found = hashlib.sha256()
+    digest = hashlib.sha256()
     for path in sorted(paths):
-        found.update(
+        digest.update(
             f"{path.relative_to(folder)} {digest_of(path)}\n".encode(
                 errors="surrogateescape"
             )
         )
-    return found.hexdigest()
+    return digest.hexdigest()
 
 
 @functools.lru_cache(maxsize=None)
 def package_digest(name: str) -> str:
-    """The SHA-256 of all files of an installed package; nothing for what belongs to
-    Python or is not found."""
+    """Returns the SHA-256 over all files of an installed package; "" for the standard
+    library and missing packages."""
     spec = None if name in sys.stdlib_module_names else PathFinder.find_spec(name)
     if spec is None:
         return ""
@@ -205,6 +214,8 @@ def package_digest(name: str) -> str:
         return digest_of(pathlib.Path(spec.origin)) if spec.origin else ""
     folder = pathlib.Path(list(spec.submodule_search_locations)[0])
     files = (
-        it for it in folder.rglob("*") if it.is_file() and "__pycache__" not in it.parts
+        path
+        for path in folder.rglob("*")
+        if path.is_file() and "__pycache__" not in path.parts
     )
     return digest_of_all(files, folder)

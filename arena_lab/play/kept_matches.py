@@ -8,16 +8,21 @@ from typing import List, Optional, Sequence, Tuple
 import arena_lab
 from arena_lab.pages.page import write_page
 from arena_lab.play.matches import PlayedMatch, play
-from arena_lab.play.schedulers import ScheduleFollower, Impossible, Scheduler, recorded
+from arena_lab.play.schedulers import (
+    ScheduleFollower,
+    ImpossibleError,
+    Scheduler,
+    recorded_scheduler,
+)
 from arena_lab.play.schedules import Schedule, schedule_of, text_of
 from arena_lab.play.teams import Together
-from arena_lab.rules.engines import Engine, Program, judged, name_of
+from arena_lab.rules.engines import Engine, Program, program_verdict, name_of
 from arena_lab.rules.fixtures import write_tournament
 from arena_lab.rules.rehearsal import Rehearsal
 from arena_lab.support import built
-from arena_lab.support.missing import Missing
+from arena_lab.support.missing import MissingPackageError
 
-# where a find is written if nothing else is said
+# default folder of kept matches
 FOLDER = pathlib.Path("out/find")
 SCHEDULE = "schedule.txt"
 SCRIPT = "script.txt"
@@ -26,8 +31,8 @@ PAGE = "match0.html"
 # of each program what it wrote to standard error, which is no part of the match and may
 # be another each time
 ERRORS = "errors"
-# the lines that were refused, if there are any
-REFUSED = "refused.txt"
+# file of the messages about rejected lines
+REFUSED_FILE = "refused.txt"
 
 
 def engine_of(schedule: Schedule, program: Optional[str]) -> Engine:
@@ -43,20 +48,20 @@ def played_under(
     """The match of a schedule under this scheduler, whatever the schedule's choices
     are, and the schedule with the choices that were made."""
     team = Together(schedule.agents, schedule.fixture, schedule.limit)
-    played = play(engine_of(schedule, program), team, scheduler, schedule.fixture)
-    return schedule._replace(choices=played.choices), played
+    match = play(engine_of(schedule, program), team, scheduler, schedule.fixture)
+    return schedule._replace(choices=match.choices), match
 
 
 def played_again(schedule: Schedule, program: Optional[str]) -> PlayedMatch:
     """The schedule, played."""
-    _, played = played_under(recorded(schedule.choices), schedule, program)
-    count = len(played.choices)
+    _, match = played_under(recorded_scheduler(schedule.choices), schedule, program)
+    count = len(match.choices)
     if count < len(schedule.choices):
         surplus = schedule.choices[count]
-        raise Impossible(
+        raise ImpossibleError(
             f"choice {count + 1} is `{surplus.do} {surplus.agent}`, and nothing may happen there"
         )
-    return played
+    return match
 
 
 def followed_again(
@@ -78,54 +83,58 @@ def followed_again(
 def write_find(
     folder: pathlib.Path,
     schedule: Schedule,
-    played: PlayedMatch,
+    match: PlayedMatch,
     program: Optional[str],
 ) -> List[str]:
-    """Writes a match that was played: its schedule, the tournament and the script for
-    `arena rehearse`, its replay, and a page of it. Gives what is to be said of it."""
+    """Writes a played match: schedule, tournament and script for `arena rehearse`,
+    replay, and page. Returns the lines to print."""
     folder.mkdir(parents=True, exist_ok=True)
     (folder / SCHEDULE).write_text(text_of(schedule), encoding="utf-8")
     write_tournament(schedule.fixture, folder)
-    (folder / SCRIPT).write_bytes(b"".join(line + b"\n" for line in played.script))
-    (folder / REPLAY).write_bytes(played.replay)
-    for number, text in played.errors.items():
+    (folder / SCRIPT).write_bytes(b"".join(line + b"\n" for line in match.script))
+    (folder / REPLAY).write_bytes(match.replay)
+    for number, text in match.errors.items():
         (folder / f"{ERRORS}{number}.txt").write_text(text, encoding="utf-8")
-    write_refused(folder / REFUSED, played)
-    said = [
-        f"{folder}: {len(schedule.choices)} choices; again by `{arena_lab.called()} replay {folder}`"
+    write_refused(folder / REFUSED_FILE, match)
+    lines = [
+        f"{folder}: {len(schedule.choices)} choices; again by `{arena_lab.command_name()} replay {folder}`"
     ]
     if program is None:
-        said.append(
+        lines.append(
             "the Python model played it, which proves nothing: the program was not asked"
         )
-        return said + written_page(folder, None, schedule.title(), played.refused)
+        return lines + written_page(folder, None, schedule.title(), match.refusals)
     by = "" if name_of(program) == built.PROGRAM else f" (by {name_of(program)})"
-    said.append(f"the program's verdict: {judged(program, folder / REPLAY)}{by}")
-    return said + written_page(folder, program, schedule.title(), played.refused)
+    lines.append(
+        f"the program's verdict: {program_verdict(program, folder / REPLAY)}{by}"
+    )
+    return lines + written_page(folder, program, schedule.title(), match.refusals)
 
 
-def write_refused(path: pathlib.Path, played: PlayedMatch) -> None:
-    """Writes the lines about refusals, if there are any."""
-    if played.refused:
-        path.write_text("".join(f"{it}\n" for it in played.refused), encoding="utf-8")
+def write_refused(path: pathlib.Path, match: PlayedMatch) -> None:
+    """Writes the messages about rejected lines; no file if there are none."""
+    if match.refusals:
+        path.write_text(
+            "".join(f"{refusal}\n" for refusal in match.refusals), encoding="utf-8"
+        )
 
 
 def lines_in(path: pathlib.Path) -> List[str]:
-    """The lines of what is said of a match in a file, or nothing if there is none."""
+    """Returns the lines of a text file, or [] if it does not exist."""
     return path.read_text(encoding="utf-8").splitlines() if path.is_file() else []
 
 
 def changed_in(
     folder: pathlib.Path,
     schedule: Schedule,
-    played: PlayedMatch,
+    match: PlayedMatch,
     program: Optional[str],
 ) -> List[str]:
-    """The files of a find that are not as they would be written now. A page and what is
-    said of lines that were refused may be missing."""
+    """Returns the files of a kept match that differ from what would be written now. The
+    page and the rejected lines may be missing."""
     with tempfile.TemporaryDirectory() as name:
         fresh = pathlib.Path(name)
-        write_find(fresh, schedule, played, program)
+        write_find(fresh, schedule, match, program)
         names = sorted(
             path.name
             for path in fresh.iterdir()
@@ -135,35 +144,35 @@ def changed_in(
             name
             for name in names
             if bytes_of(folder / name) != bytes_of(fresh / name)
-            and (name not in (PAGE, REFUSED) or (folder / name).exists())
+            and (name not in (PAGE, REFUSED_FILE) or (folder / name).exists())
         ]
 
 
 def bytes_of(path: pathlib.Path) -> Optional[bytes]:
-    """What is in a file, if it is there."""
+    """Returns the bytes of a file, or None if it does not exist."""
     return path.read_bytes() if path.exists() else None
 
 
 def keep(
     folder: pathlib.Path, schedule: Schedule, program: Optional[str]
 ) -> PlayedMatch:
-    """Plays a schedule that was found, writes it, and says so."""
-    played = played_again(schedule, program)
-    for fault in [*played.faults, *played.refused]:
+    """Replays a schedule, writes the match, and prints where."""
+    match = played_again(schedule, program)
+    for fault in [*match.faults, *match.refusals]:
         print(fault)
-    print("\n".join(write_find(folder, schedule, played, program)))
-    return played
+    print("\n".join(write_find(folder, schedule, match, program)))
+    return match
 
 
 def written_page(
-    folder: pathlib.Path, program: Optional[str], title: str, refused: Sequence[str]
+    folder: pathlib.Path, program: Optional[str], title: str, refusals: Sequence[str]
 ) -> List[str]:
     """Writes the page, if what lays it out is installed."""
     try:
         write_page(
-            program, folder / REPLAY, folder / PAGE, title=title, refused=refused
+            program, folder / REPLAY, folder / PAGE, title=title, refusals=refusals
         )
-    except Missing as fault:
+    except MissingPackageError as fault:
         with contextlib.suppress(FileNotFoundError):
             (folder / PAGE).unlink()
         return [f"no page was written: {fault}"]

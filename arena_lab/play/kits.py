@@ -9,10 +9,10 @@ import shutil
 from typing import Dict, NamedTuple, Tuple
 
 from arena_lab.play.agent_files import AGENTS
-from arena_lab.support.faults import Fault
+from arena_lab.support.faults import ArenaError
 
 # of each kit, what building leaves in its folder
-MADE = (
+BUILD_OUTPUTS = (
     "out",
     "target",
     "Cargo.lock",
@@ -34,7 +34,7 @@ class Kit(NamedTuple):
     test: str
     play: str
     packages: Tuple[str, ...]
-    shared: Tuple[str, ...] = ()
+    shared_files: Tuple[str, ...] = ()
 
     @property
     def is_module(self) -> bool:
@@ -87,7 +87,7 @@ KITS: Dict[str, Kit] = {
 }
 
 
-def played(kit: Kit) -> str:
+def play_command(kit: Kit) -> str:
     """The command by which `./arena-lab run` plays the sample agent of a kit, in its
     folder."""
     return kit.play + (":{nodes}" if kit.is_module else " {host} {port} {key} {nodes}")
@@ -98,10 +98,13 @@ def write_kit(language: str, folder: pathlib.Path) -> Kit:
     kit = KITS[language]
     source = AGENTS / language
     if folder.exists() and (not folder.is_dir() or any(folder.iterdir())):
-        raise Fault(f"{folder}: there is something already; name a new folder")
+        raise ArenaError(f"{folder}: there is something already; name a new folder")
     shutil.copytree(
-        source, folder, ignore=shutil.ignore_patterns(*MADE), dirs_exist_ok=True
+        source,
+        folder,
+        ignore=shutil.ignore_patterns(*BUILD_OUTPUTS),
+        dirs_exist_ok=True,
     )
-    for name in kit.shared:
+    for name in kit.shared_files:
         shutil.copy(AGENTS / name, folder / name)
     return kit

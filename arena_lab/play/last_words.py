@@ -13,8 +13,8 @@ from typing import Callable, List, Optional, Sequence, Tuple
 MARK = "\x1e"
 # characters of a line that are looked at
 WIDEST = 1000
-NAMED = r"(?:[\w.]+\.)?\w*(?:Error|Exception|Interrupt|Warning|Rejection)\b"
-# a number of a process or a thread, which is another one on each run
+ERROR_NAME = r"(?:[\w.]+\.)?\w*(?:Error|Exception|Interrupt|Warning|Rejection)\b"
+# numbers of processes and threads, which differ in each run
 PROCESS = re.compile(r"(?<===)\d+(?===)|(?<=') \(\d+\)(?= panicked)")
 LOOKS = re.compile(
     r"\b(?:\w*error|\w*exception|panic\w*|fatal|abort\w*|assert\w*|cannot|denied|segmentation fault)\b",
@@ -34,11 +34,11 @@ LACKS = re.compile(r"KeyError: '(ports|from|board)'")
 
 
 def asked_behind(error: str) -> str:
-    """What may be behind an error that names a part of an answer."""
-    found = LACKS.search(error)
+    """Returns advice for an error that names a missing member of a reply."""
+    match = LACKS.search(error)
     return (
-        f"; an answer had no `{found[1]}`: a departure is answered twice, are both answers read?"
-        if found
+        f"; an answer had no `{match[1]}`: a departure is answered twice, are both answers read?"
+        if match
         else ""
     )
 
@@ -49,13 +49,13 @@ def usage_in(text: str) -> str:
     lines = [line[:WIDEST] for line in text.split("\n")]
     if any(of(lines) for of in LANGUAGES) or any(LOOKS.search(line) for line in lines):
         return ""
-    told = (it[1] for line in lines if (it := USAGE.match(line)))
-    return next(itertools.chain(told, filter(is_call, lines)), "").strip()
+    usages = (match[1] for line in lines if (match := USAGE.match(line)))
+    return next(itertools.chain(usages, filter(is_call, lines)), "").strip()
 
 
 def is_call(line: str) -> bool:
-    """Whether an indented line shows a call: words, of which the last two or more are
-    arguments in capitals."""
+    """Returns whether an indented line shows a call: words, of which the last two or
+    more are arguments in capitals."""
     words = line.split()
     arguments = list(itertools.takewhile(ARGUMENT.fullmatch, reversed(words)))
     return line[:1].isspace() and 2 <= len(arguments) < len(words)
@@ -64,7 +64,7 @@ def is_call(line: str) -> bool:
 def first(lines: Sequence[str], pattern: str) -> Optional[int]:
     """The place of the first line that begins so."""
     return next(
-        (place for place, line in enumerate(lines) if re.match(pattern, line)), None
+        (index for index, line in enumerate(lines) if re.match(pattern, line)), None
     )
 
 
@@ -75,25 +75,25 @@ def line_like(lines: Sequence[str], pattern: str) -> Optional[str]:
 
 def where_of(line: str) -> str:
     """The place that a frame of Python names, if it is of the agent's own files."""
-    found = FRAME.match(line)
-    if found is None:
+    match = FRAME.match(line)
+    if match is None:
         return ""
-    path = pathlib.PurePath(found[1])
+    path = pathlib.PurePath(match[1])
     is_own = path.name != "client.py" and "/lib/python3" not in str(path)
-    return f" ({path.name}, line {found[2]})" if is_own else ""
+    return f" ({path.name}, line {match[2]})" if is_own else ""
 
 
 def of_python(lines: Sequence[str]) -> Optional[str]:
     """The line behind the frames of the last traceback, with the last frame of the
     agent's own file; or of a file that cannot be read."""
     places = [
-        place
-        for place, line in enumerate(lines)
+        index
+        for index, line in enumerate(lines)
         if line.startswith("Traceback (most recent call last)")
     ]
     if places:
-        own = [where for line in lines[places[-1] :] if (where := where_of(line))]
-        said = next(
+        locations = [where for line in lines[places[-1] :] if (where := where_of(line))]
+        message = next(
             (
                 line
                 for line in lines[places[-1] + 1 :]
@@ -101,44 +101,44 @@ def of_python(lines: Sequence[str]) -> Optional[str]:
             ),
             None,
         )
-        return said and said + "".join(own[-1:])
-    start = next((it for it, line in enumerate(lines) if FRAME.match(line)), None)
+        return message and message + "".join(locations[-1:])
+    start = next((index for index, line in enumerate(lines) if FRAME.match(line)), None)
     if start is None:
         return None
-    said = line_like(lines[start:], NAMED)
-    return said and said + where_of(lines[start])
+    message = line_like(lines[start:], ERROR_NAME)
+    return message and message + where_of(lines[start])
 
 
 def of_java(lines: Sequence[str]) -> Optional[str]:
     """The first exception of a thread, and what caused it in the end."""
-    place = first(lines, 'Exception in thread "')
-    if place is None:
+    index = first(lines, 'Exception in thread "')
+    if index is None:
         return line_like(lines, r"\S+\.java:\d+: error: ")
-    causes = [line for line in lines[place:] if line.startswith("Caused by: ")]
-    return "; ".join([lines[place], *causes[-1:]])
+    causes = [line for line in lines[index:] if line.startswith("Caused by: ")]
+    return "; ".join([lines[index], *causes[-1:]])
 
 
 def of_rust(lines: Sequence[str]) -> Optional[str]:
     """A panic, whose message stands in the next line since Rust 1.73."""
-    place = first(lines, r"thread '.*' (?:\(\d+\) )?panicked at ")
-    if place is None:
+    index = first(lines, r"thread '.*' (?:\(\d+\) )?panicked at ")
+    if index is None:
         return None
-    behind = lines[place + 1 : place + 2] if lines[place].endswith(":") else []
-    return " ".join([lines[place], *behind])
+    behind = lines[index + 1 : index + 2] if lines[index].endswith(":") else []
+    return " ".join([lines[index], *behind])
 
 
 def of_cpp(lines: Sequence[str]) -> Optional[str]:
     """An exception that nobody caught, with what it says; or what a sanitizer or an
     assertion tells."""
-    place = first(lines, "terminate called ")
-    if place is not None:
+    index = first(lines, "terminate called ")
+    if index is not None:
         behind = [
             line.strip()
-            for line in lines[place + 1 : place + 2]
+            for line in lines[index + 1 : index + 2]
             if line.strip().startswith("what():")
         ]
         return ": ".join(
-            [lines[place], *(it.removeprefix("what():").strip() for it in behind)]
+            [lines[index], *(line.removeprefix("what():").strip() for line in behind)]
         )
     return line_like(
         lines,
@@ -154,14 +154,14 @@ def of_javascript(lines: Sequence[str]) -> Optional[str]:
         and first(lines, r"\s+at .*(?::\d+:\d+\)?|<anonymous>\)?)$") is None
     ):
         return None
-    found = line_like(lines, rf"(?:Uncaught )?\[?{NAMED}")
+    line = line_like(lines, rf"(?:Uncaught )?\[?{ERROR_NAME}")
     pointer = first(lines, r"\s*\^+\s*$")
-    if found is not None or pointer is None:
-        return found
+    if line is not None or pointer is None:
+        return line
     return next((line for line in lines[pointer + 1 :] if line.strip()), None)
 
 
-# the first that fits is told; of Go and of .NET one line says all
+# parsers by language; the first result is used, and for Go and .NET one line suffices
 LANGUAGES: Tuple[Callable[[Sequence[str]], Optional[str]], ...] = (
     of_python,
     of_java,
@@ -181,8 +181,8 @@ def error_in(text: str) -> str:
         for line in text.split("\n")
         if line.strip() and not line.startswith(MARK)
     ]
-    found = next((said for said in (of(lines) for of in LANGUAGES) if said), None)
-    if found is None:
+    error_line = next((line for line in (of(lines) for of in LANGUAGES) if line), None)
+    if error_line is None:
         likely = [line for line in lines if LOOKS.search(line)]
-        found = [*likely, *lines[-1:], ""][0]
-    return PROCESS.sub("", found).strip()
+        error_line = [*likely, *lines[-1:], ""][0]
+    return PROCESS.sub("", error_line).strip()

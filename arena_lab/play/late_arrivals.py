@@ -1,5 +1,4 @@
-"""Arrivals that come late by the clock, as they may in a contest, to programs that must
-wait for them.
+"""Delays arrivals by the clock, as a contest may, to programs that must wait for them.
 
 Elsewhere the lab tells an arrival as soon as a schedule has it come, so no program
 waits for long, and one that gives up after two seconds is never seen to.
@@ -13,7 +12,7 @@ from arena_lab.play import kept_matches
 from arena_lab.play.games import Record
 from arena_lab.play.matches import play
 from arena_lab.play.programs import Player, Team
-from arena_lab.play.schedulers import ARRIVE, Choice, MatchView, ScheduleEnded
+from arena_lab.play.schedulers import ARRIVE, Choice, MatchView, ScheduleEndedError
 from arena_lab.play.schedules import schedule_of
 from arena_lab.play.teams import Game, grounds_of
 from arena_lab.rules.delays import PAUSE, SCALES
@@ -37,47 +36,50 @@ class LateArrivals:
         self._players = players
         self._seconds = seconds
         self._chance = random.Random(0)
-        # of each agent that is held until when, and what had come of it before; and
-        # those that were held
+        # by agent: the time until which its arrival is delayed, and its line count
+        # before; and the agents delayed so far
         self._until: Dict[int, float] = {}
         self._before: Dict[int, int] = {}
         self._held: Set[int] = set()
 
     def __call__(self, choices: Sequence[Choice], state: MatchView) -> Choice:
         while True:
-            others = [choice for choice in choices if not self._is_held(choice, state)]
+            other_choices = [
+                choice for choice in choices if not self._is_held(choice, state)
+            ]
             self._watch()
-            if others:
-                return self._chance.choice(others)
+            if other_choices:
+                return self._chance.choice(other_choices)
             time.sleep(SLICE)
 
     def _is_held(self, choice: Choice, state: MatchView) -> bool:
-        """Whether this is an arrival that does not come yet."""
+        """Returns whether the choice is an arrival that is still delayed."""
         number = choice.agent
         agent = state.match.agents[choice.agent]
         if (
             choice.do != ARRIVE
             or number in self._held
-            or state.match.doomed(agent.node, agent.port)
+            or state.match.destroys(agent.node, agent.port)
         ):
             return False
         if number not in self._until:
             self._until[number] = time.monotonic() + self._seconds
-            self._before[number] = self._players[number].came()
+            self._before[number] = self._players[number].line_count()
         if time.monotonic() < self._until[number]:
             return True
         self._held.add(number)
         return False
 
     def _watch(self) -> None:
-        """Ends the match if a program that is held has ended or said something."""
+        """Ends the match if a program whose arrival is delayed has ended or sent a
+        line."""
         for number, before in self._before.items():
-            done: Optional[str] = (
+            reason: Optional[str] = (
                 None if number in self._held else self._players[number].stirs(before)
             )
-            if done is not None:
-                self._players[number].stop(UNTOLD.format(done, self._seconds))
-                raise ScheduleEnded
+            if reason is not None:
+                self._players[number].stop(UNTOLD.format(reason, self._seconds))
+                raise ScheduleEndedError
 
 
 def kept_waiting(game: Game, program: Optional[str]) -> Record:
@@ -93,10 +95,10 @@ def kept_waiting(game: Game, program: Optional[str]) -> Record:
     schedule = schedule_of(
         fixture, game.agents, f"arrivals {LATE} s late{game.where()}", [], game.limit
     )
-    played = play(
+    match = play(
         kept_matches.engine_of(schedule, program),
         team,
         LateArrivals(team.players),
         fixture,
     )
-    return Record(schedule._replace(choices=played.choices), played, program)
+    return Record(schedule._replace(choices=match.choices), match, program)

@@ -9,8 +9,8 @@ from arena_lab.play.schedulers import (
     ARRIVE,
     WAKE,
     Choice,
-    ScheduleEnded,
-    Impossible,
+    ScheduleEndedError,
+    ImpossibleError,
     Scheduler,
 )
 from arena_lab.rules.engines import Engine
@@ -26,13 +26,13 @@ from arena_lab.rules.model import (
     judge,
     text_of,
 )
-from arena_lab.rules.rehearsal import Said
+from arena_lab.rules.rehearsal import SentLine
 
 # a session that was refused so often in a row is ended by the lab: no rule of the arena
 # ends it
-MOST_REFUSED = 1000
-REFUSED = '{"no":'
-IS_REFUSED = f"was refused {MOST_REFUSED} times in a row"
+MAX_REFUSED = 1000
+REFUSAL_PREFIX = '{"no":'
+IS_REFUSED = f"was refused {MAX_REFUSED} times in a row"
 STUCK = "sleeps, and nothing changes any more"
 # what an agent sees that is on a link or has ended: nothing, so nothing changes
 BLIND = (-1, 0)
@@ -54,10 +54,10 @@ class Player(Protocol):
     def go_on(self) -> None:
         ...
 
-    def read(self) -> Dict[str, str]:
+    def read_hashes(self) -> Dict[str, str]:
         ...
 
-    def told(self, text: str) -> str:
+    def stable_text(self, text: str) -> str:
         ...
 
     def rest(self) -> bytes:
@@ -93,22 +93,21 @@ class PlayedMatch(NamedTuple):
     # what programs wrote to standard error, by the numbers of their agents
     errors: Dict[int, str] = {}
     # the SHA-256 of each file that agents inside the lab have read, by their names
-    read: Dict[str, str] = {}
-    # what is said of lines that were refused, which is no fault
-    refused: List[str] = []
+    read_hashes: Dict[str, str] = {}
+    # messages about rejected lines, which are no faults
+    refusals: List[str] = []
 
     def verdict(self) -> Verdict:
         return judge(self.match)
 
     def has_failed(self) -> bool:
-        """Whether the team has not solved its network, or one of its agents has a
-        fault."""
+        """Returns whether the match is unsolved, or an agent has a fault."""
         return bool(self.faults) or not self.verdict().is_solved
 
 
 def changes_board(event: Object) -> bool:
-    """Whether an event of a log changes a whiteboard: a write of the text that stands
-    there does not."""
+    """Returns whether an event of a log changes a whiteboard: a write of the text that
+    stands there does not."""
     return bool(
         event["do"] == "write"
         and event["reply"] == {"ok": "written"}
@@ -117,7 +116,7 @@ def changes_board(event: Object) -> bool:
 
 
 class MatchRun:
-    """One match while it is played. Agent i is played over connection i."""
+    """A match in progress. Connection i belongs to agent i."""
 
     def __init__(self, engine: Engine, team: Team, fixture: Fixture) -> None:
         self.engine = engine
@@ -130,7 +129,7 @@ class MatchRun:
         self._woke: Dict[int, Tuple[Tuple[int, int], int]] = {}
         self._writes: Dict[int, int] = {}
         self._refused: Dict[int, int] = {}
-        # the lines that were refused, and the last one of each agent
+        # rejected lines, and the last line of each agent
         self.refusals = Refusals(fixture.keys)
         self._last: Dict[int, bytes] = {}
         self._read = 0
@@ -141,15 +140,15 @@ class MatchRun:
         return self.engine.match
 
     def said(self, agent: int) -> Optional[Object]:
-        """The command of an agent that waits for an answer, or None."""
+        """Returns the command of an agent that waits for a reply, or None."""
         line = self.team.players[agent].line
         return None if line is None else command_of(text_of(line))
 
     def may_happen(self) -> List[Choice]:
-        """What may happen next, at most one thing for each agent, in the order of
+        """Returns the possible choices, at most one per agent, in the order of
         agents."""
-        found = (self._of(player) for player in self.team.players)
-        return [choice for choice in found if choice]
+        choices = (self._of(player) for player in self.team.players)
+        return [choice for choice in choices if choice]
 
     def happen(self, choice: Choice) -> None:
         """Lets something happen, and the players hear of it."""
@@ -186,19 +185,19 @@ class MatchRun:
                 and player.line is None
                 and self.match.agents[player.number].standing == AWAY
             ):
-                # a line that was sent before the arrival is answered after it
+                # a line sent before the arrival is answered after it
                 player.state = TRAVELS
 
     def close(self) -> None:
-        """Ends the match. Players that sleep are stuck; those on links are told that
-        the match is over."""
+        """Ends the match. Sleeping players are stuck; players on links receive the end
+        of the match."""
         for player in self.team.players:
             if player.state == SLEEPS:
                 player.fault = player.fault or STUCK
         self._tell(self.engine.close())
 
     def _of(self, player: Player) -> Optional[Choice]:
-        """What may happen to a player's agent."""
+        """Returns the possible choice of a player's agent, if any."""
         number = player.number
         if player.state == WAITS:
             return Choice(ANSWER, number)
@@ -217,11 +216,10 @@ class MatchRun:
         )
 
     def _wakings(self, number: int) -> int:
-        """How often an agent has woken since the whiteboard in front of it changed. It
-        can see nothing else, so it wakes once after each change, and again as often as
-        it may nap."""
-        seen, times = self._woke.get(number, (None, 0))
-        return times if seen == self._seen(number) else 0
+        """Returns how often an agent woke since the whiteboard at its node last
+        changed. It wakes once per change, plus the allowed spurious wake-ups."""
+        board, times = self._woke.get(number, (None, 0))
+        return times if board == self._seen(number) else 0
 
     def _seen(self, number: int) -> Tuple[int, int]:
         """The whiteboard in front of an agent, and how often it was written. On a link,
@@ -242,7 +240,7 @@ class MatchRun:
 
     def _note(self, player: Player, reply: str) -> None:
         """Notes a line that is refused: the last one of its agent."""
-        if reply.startswith(REFUSED):
+        if reply.startswith(REFUSAL_PREFIX):
             agent = self.match.agents[player.number]
             ports = len(self.match.far[agent.node])
             board = self.match.setup.board
@@ -256,7 +254,7 @@ class MatchRun:
                 player.number,
                 why,
                 self._last.get(player.number, b""),
-                player.told,
+                player.stable_text,
                 fact,
             )
 
@@ -264,19 +262,23 @@ class MatchRun:
         """Notes what programs have sent behind their last line feed."""
         for player in self.team.players:
             if player.rest():
-                self.refusals.note(player.number, UNENDED, player.rest(), player.told)
+                self.refusals.note(
+                    player.number, UNENDED, player.rest(), player.stable_text
+                )
 
-    def _tell(self, said: List[Said]) -> None:
-        for number, line in said:
+    def _tell(self, sent_lines: List[SentLine]) -> None:
+        for number, line in sent_lines:
             player = self.team.players[number]
             if player.state == DONE:
                 continue
             self._note(player, line)
             player.hear(line)
             self._refused[number] = (
-                self._refused.get(number, 0) + 1 if line.startswith(REFUSED) else 0
+                self._refused.get(number, 0) + 1
+                if line.startswith(REFUSAL_PREFIX)
+                else 0
             )
-            if self._refused[number] >= MOST_REFUSED:
+            if self._refused[number] >= MAX_REFUSED:
                 player.stop(IS_REFUSED)
                 self.engine.end(number)
 
@@ -292,16 +294,16 @@ def play(
         while choices := run.may_happen():
             try:
                 choice = scheduler(choices, run)
-            except ScheduleEnded:
+            except ScheduleEndedError:
                 break
-            except Impossible:
+            except ImpossibleError:
                 raise
             except Exception as fault:
-                raise Impossible(
+                raise ImpossibleError(
                     f"the scheduler raises {type(fault).__name__}: {fault}"
                 ) from fault
             if choice not in choices:
-                raise Impossible(
+                raise ImpossibleError(
                     f"the scheduler chooses {choice!r}, which is not among the choices"
                 )
             run.happen(choice)
@@ -312,10 +314,10 @@ def play(
         engine.stop()
     run.note_rests()
     errors = {player.number: player.errors for player in team.players if player.errors}
-    read = {
+    digests = {
         name: digest
         for player in team.players
-        for name, digest in player.read().items()
+        for name, digest in player.read_hashes().items()
     }
     return PlayedMatch(
         run.choices,
@@ -324,6 +326,6 @@ def play(
         replay,
         faults_of(team.players),
         errors,
-        read,
-        run.refusals.said(),
+        digests,
+        run.refusals.sentences(),
     )

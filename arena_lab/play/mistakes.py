@@ -9,16 +9,16 @@ import json
 import re
 from typing import Any, Callable, Dict, List, NamedTuple, Optional, Sequence, Tuple
 
-from arena_lab.rules.limits import MOST_LINE
+from arena_lab.rules.limits import MAX_LINE
 from arena_lab.rules.model import SHAPES
 
 # characters of a line that are shown
-SHOWN = 80
+MAX_SHOWN = 80
 MARK = b"\xef\xbb\xbf"
 HTTP = re.compile(r"[A-Z]+ \S+ HTTP/\d")
 # members of an object whose names have no quotes, as JavaScript, Java and Rust print
 # them; and the middle of an object that was printed over several lines
-UNQUOTED = re.compile(r"[\w.$]*\s*\{\s*[A-Za-z_]\w*\s*[:=]")
+UNQUOTED_NAME = re.compile(r"[\w.$]*\s*\{\s*[A-Za-z_]\w*\s*[:=]")
 MIDDLE = re.compile(r'[{}]|"\w+"\s*:.*,?')
 NOTHING = object()
 DECODER = json.JSONDecoder()
@@ -43,19 +43,22 @@ class RefusedLine:
 
     @property
     def members(self) -> Dict[str, Any]:
-        """The members of the line, if it is one object."""
+        """Returns the members of the JSON object in the line, or {} for any other
+        line."""
         return self.value if isinstance(self.value, dict) and not self.rest else {}
 
     @property
     def do(self) -> str:
-        """The command that the line names, if there is such a command."""
+        """Returns the name of the command in the line, or "" if it is unknown."""
         do = self.members.get("do")
         return do if isinstance(do, str) and do in SHAPES else ""
 
     def of(self, kind: type) -> List[str]:
-        """The members of this kind that the command has."""
+        """Returns the members of this type that the command requires."""
         return [
-            name for name, wanted in SHAPES.get(self.do, {}).items() if wanted is kind
+            name
+            for name, member_type in SHAPES.get(self.do, {}).items()
+            if member_type is kind
         ]
 
     def port(self) -> Any:
@@ -64,13 +67,13 @@ class RefusedLine:
         return self.members.get("port", NOTHING) if "port" in self.of(int) else NOTHING
 
 
-# what is said of a line that shows a mistake, and None of another line
+# returns a message about a rejected line, or None if the line shows another mistake
 Mistake = Callable[[RefusedLine], Optional[str]]
 
 
-def when(shows: Callable[[RefusedLine], object], said: str) -> Mistake:
-    """A mistake of which the same is said, whichever line shows it."""
-    return lambda line: said if shows(line) else None
+def when(shows: Callable[[RefusedLine], object], message: str) -> Mistake:
+    """Makes a mistake with a constant message."""
+    return lambda line: message if shows(line) else None
 
 
 def is_no_utf8(line: RefusedLine) -> bool:
@@ -84,14 +87,14 @@ def is_no_utf8(line: RefusedLine) -> bool:
 def unknown(line: RefusedLine) -> Optional[str]:
     if not line.members or line.do:
         return None
-    said = line.members["do"]
-    near = difflib.get_close_matches(str(said).lower()[:SHOWN], SHAPES, 1, 0.7)
-    known = (
+    command_name = line.members["do"]
+    near = difflib.get_close_matches(
+        str(command_name).lower()[:MAX_SHOWN], SHAPES, 1, 0.7
+    )
+    advice = (
         f"did you mean {near[0]}?" if near else f"the commands are {', '.join(SHAPES)}"
     )
-    return (
-        f"there is no command {json.dumps(said, ensure_ascii=False)[:SHOWN]}; {known}"
-    )
+    return f"there is no command {json.dumps(command_name, ensure_ascii=False)[:MAX_SHOWN]}; {advice}"
 
 
 def port_as_text(line: RefusedLine) -> Optional[str]:
@@ -108,10 +111,13 @@ def missing(line: RefusedLine) -> Optional[str]:
 
 
 def of_another_type(line: RefusedLine) -> Optional[str]:
-    for kind, said in ((str, "a text in double quotes"), (int, "a whole number")):
+    for kind, description in (
+        (str, "a text in double quotes"),
+        (int, "a whole number"),
+    ):
         for name in line.of(kind):
             if type(line.members.get(name)) is not kind:
-                return f'"{name}" has to be {said}; make other values a text first, as by json.dumps'
+                return f'"{name}" has to be {description}; make other values a text first, as by json.dumps'
     return None
 
 
@@ -134,7 +140,7 @@ def broken(line: RefusedLine) -> Optional[str]:
     return None
 
 
-# by their names; the first that a line shows is told
+# name -> mistake; the first that matches is reported
 MISTAKES: Dict[str, Mistake] = {
     "mark": when(
         lambda line: line.raw.startswith(MARK),
@@ -145,8 +151,8 @@ MISTAKES: Dict[str, Mistake] = {
         "it has bytes of zero, as UTF-16 has: send UTF-8",
     ),
     "too_long": when(
-        lambda line: len(line.raw) > MOST_LINE,
-        f"it is longer than {MOST_LINE:,} bytes: end each command "
+        lambda line: len(line.raw) > MAX_LINE,
+        f"it is longer than {MAX_LINE:,} bytes: end each command "
         "with a line feed, and write shorter texts",
     ),
     "not_utf8": when(
@@ -174,7 +180,7 @@ MISTAKES: Dict[str, Mistake] = {
         "JSON has double quotes, which json.dumps, or in JavaScript JSON.stringify, writes",
     ),
     "names_without_quotes": when(
-        lambda line: UNQUOTED.match(line.text),
+        lambda line: UNQUOTED_NAME.match(line.text),
         "the names of members have no double quotes, "
         'as when an object is printed and not made JSON: write {"do":..}, in JavaScript by '
         "JSON.stringify",
@@ -222,7 +228,9 @@ def likely(raw: bytes) -> str:
     """The likeliest mistake behind a line that is no command."""
     line = RefusedLine(raw)
     return next(
-        said for said in (mistake(line) for mistake in MISTAKES.values()) if said
+        message
+        for message in (mistake(line) for mistake in MISTAKES.values())
+        if message
     )
 
 
@@ -236,15 +244,15 @@ def plain(text: str) -> str:
     )
 
 
-def shown(raw: bytes, most: int = SHOWN) -> str:
+def quote_line(raw: bytes, limit: int = MAX_SHOWN) -> str:
     """A line of a stranger as it may be shown: escaped, and cut."""
-    text = raw[: 4 * most + 4].decode("utf-8", "backslashreplace").strip()
+    text = raw[: 4 * limit + 4].decode("utf-8", "backslashreplace").strip()
     text = "".join(f"\\u{ord(char):04x}" if char == "\ufeff" else char for char in text)
-    said = plain(text)
+    line_text = plain(text)
     return (
-        said
-        if len(said) <= most and len(raw) <= 4 * most
-        else f"{said[:most]}.. ({len(raw):,} bytes)"
+        line_text
+        if len(line_text) <= limit and len(raw) <= 4 * limit
+        else f"{line_text[:limit]}.. ({len(raw):,} bytes)"
     )
 
 
@@ -270,7 +278,7 @@ KINDS: Dict[str, Tuple[str, str]] = {
         "{} lines have no line feed",
     ),
 }
-# what the first line of a connection has to be
+# the required first line of a connection
 FIRST = 'the first line is {"do":"enter","key":KEY}'
 
 
@@ -295,35 +303,37 @@ class Refusals:
         agent: int,
         why: str,
         raw: bytes,
-        told: Callable[[str], str],
+        stable: Callable[[str], str],
         fact: str = "",
     ) -> None:
         """Notes a line that was refused. A fact says of the node what the line missed.
         What is another on each run is taken away, and so are keys."""
         if why not in KINDS:
             return
-        place = agent, why
-        self._count[place] = self._count.get(place, 0) + 1
-        if place not in self._first:
+        count_key = agent, why
+        self._count[count_key] = self._count.get(count_key, 0) + 1
+        if count_key not in self._first:
             for key in self._keys:
                 raw = raw.replace(key, b"KEY")
-            self._first[place] = First(told(shown(raw)), cause(why, raw, fact))
+            self._first[count_key] = First(
+                stable(quote_line(raw)), cause(why, raw, fact)
+            )
 
-    def said(self) -> List[str]:
+    def sentences(self) -> List[str]:
         """A line for each agent and kind."""
         return [
-            f"agent {agent}: {counted(why, self._count[agent, why])}: `{first.line}`: {first.cause}"
+            f"agent {agent}: {count_text(why, self._count[agent, why])}: `{first.line}`: {first.cause}"
             for (agent, why), first in sorted(self._first.items())
         ]
 
 
-def counted(why: str, count: int) -> str:
-    one, several = KINDS[why]
-    return one if count == 1 else f"{several.format(f'{count:,}')}; the first"
+def count_text(why: str, count: int) -> str:
+    singular, several = KINDS[why]
+    return singular if count == 1 else f"{several.format(f'{count:,}')}; the first"
 
 
 def cause(why: str, raw: bytes, fact: str) -> str:
-    """What is said of a line besides that it was refused."""
+    """Returns the additional message about a rejected line."""
     if why == ENTER:
         line = RefusedLine(raw)
         return FIRST if line.do else f"{FIRST}; {likely(raw)}"

@@ -34,69 +34,71 @@ IDENTITY = object.__hash__
 # identities
 FOREIGN: Dict[Tuple[str, ...], Dict[int, ModuleType]] = {}
 FOREIGN_TO: Set[str] = set()
-# for each set of such files: all modules, when none of them was an agent's last
+# by set of shared files: all modules at the time when none belonged to an agent
 ALL_FOREIGN: Dict[Tuple[str, ...], Sequence[object]] = {}
-# of each module the folders that it stands in, as long as there is the module: it is
-# asked at each turn of an agent
+# cache of folders_of, which is called at each turn of an agent
 STANDS_IN: "weakref.WeakKeyDictionary[ModuleType, FrozenSet[str]]" = (
     weakref.WeakKeyDictionary()
 )
 
 
 def folders_of(module: ModuleType) -> FrozenSet[str]:
-    """The folders that a module stands in, or the package that it is."""
+    """Returns the folder of a module, or the folders of a package."""
     # what stands among the modules may be another object
-    found = STANDS_IN.get(module) if isinstance(module, ModuleType) else frozenset()
-    if found is None:
+    folders = STANDS_IN.get(module) if isinstance(module, ModuleType) else frozenset()
+    if folders is None:
         places: Sequence[str] = list(
             getattr(module, "__path__", None)
             or [getattr(module, "__file__", None) or ""]
         )
-        found = STANDS_IN[module] = frozenset(
-            os.path.dirname(place) for place in places
+        folders = STANDS_IN[module] = frozenset(
+            os.path.dirname(location) for location in places
         )
-    return found
+    return folders
 
 
 def is_beside(module: ModuleType, folders: Collection[str]) -> bool:
-    """Whether a module is a file in one of these folders, or a package in it."""
+    """Returns whether a module, or the package that contains it, lies in one of these
+    folders."""
     return not folders_of(module).isdisjoint(folders)
 
 
 def is_elsewhere(module: ModuleType) -> bool:
-    """Whether a module is a file that is neither Python's, nor installed, nor the
-    lab's."""
+    """Returns whether a module is a file that is neither Python's, nor installed, nor
+    the lab's."""
     return any(
         folder and not f"{folder}{os.sep}".startswith(NOT_READ)
         for folder in folders_of(module)
     )
 
 
-def own_names(folders: Collection[str], shared: Collection[str]) -> List[str]:
-    """The names of the loaded modules that stand in these folders, and of what is in
-    them if they are packages; none of the lab's, and none of the shared files."""
+def own_names(folders: Collection[str], shared_names: Collection[str]) -> List[str]:
+    """Returns the names of loaded modules from these folders, with the contents of
+    packages, without the modules of the lab and the shared files."""
     if folders is FOLDERS and len(FOREIGN_TO) != len(FOLDERS):
-        # what stands in none of the folders so far may stand in a new one
+        # modules outside of the earlier folders may lie in a new one
         FOREIGN.clear()
         ALL_FOREIGN.clear()
         FOREIGN_TO.update(FOLDERS)
-    loaded = list(sys.modules.values())
-    before = ALL_FOREIGN.get(tuple(shared), ())
-    if len(loaded) == len(before) and all(map(operator.is_, loaded, before)):
+    modules = list(sys.modules.values())
+    before = ALL_FOREIGN.get(tuple(shared_names), ())
+    if len(modules) == len(before) and all(map(operator.is_, modules, before)):
         return []
-    foreign = FOREIGN.setdefault(tuple(shared), {})
-    unknown = set(map(IDENTITY, loaded)).difference(foreign)
+    foreign = FOREIGN.setdefault(tuple(shared_names), {})
+    unknown = set(map(IDENTITY, modules)).difference(foreign)
     if not unknown:
-        ALL_FOREIGN[tuple(shared)] = loaded
+        ALL_FOREIGN[tuple(shared_names)] = modules
         return []
     tops = set()
-    others = {}
+    module_names = {}
     for name, module in [
-        (name, it) for name, it in list(sys.modules.items()) if IDENTITY(it) in unknown
+        (name, module)
+        for name, module in list(sys.modules.items())
+        if IDENTITY(module) in unknown
     ]:
         if "." in name or name == "arena_lab":
-            others[IDENTITY(module)] = module
-        elif getattr(module, "__file__", None) not in shared and (
+            module_names[IDENTITY(module)] = module
+        elif getattr(module, "__file__", None) not in shared_names and (
             is_beside(module, folders)
             or folders is not FOLDERS
             and is_elsewhere(module)
@@ -107,15 +109,15 @@ def own_names(folders: Collection[str], shared: Collection[str]) -> List[str]:
         ):
             foreign[IDENTITY(module)] = module
     if not tops and folders is FOLDERS:
-        # what is in a package that stands in none of the folders
-        foreign.update(others)
+        # modules of packages outside of the folders
+        foreign.update(module_names)
     return (
         [name for name in sys.modules if name.partition(".")[0] in tops] if tops else []
     )
 
 
 class NotedRandom(random.Random):
-    """A generator that notes who draws by it and has not seeded it."""
+    """A random generator that notes programs which draw from it without a seed."""
 
     _is_seeded = False
 
@@ -161,28 +163,28 @@ def datetime_of_its_own() -> ModuleType:
             note_read(CLOCK)
             return super().today()
 
-    made = ModuleType(DATETIME, datetime.__doc__)
-    vars(made).update(vars(datetime))
-    vars(made).update(date=NotedDate, datetime=NotedTime)
-    return made
+    module = ModuleType(DATETIME, datetime.__doc__)
+    vars(module).update(vars(datetime))
+    vars(module).update(date=NotedDate, datetime=NotedTime)
+    return module
 
 
 def random_from(seed: int) -> ModuleType:
     """A module `random` of its own that begins with this seed. It is not loaded anew,
     since each `random` that is loaded stays in memory until the process ends, to be
     seeded again when it forks."""
-    own = NotedRandom(seed)
-    made = ModuleType(RANDOM, random.__doc__)
-    own._is_seeded = False
-    vars(made).update(vars(random))
-    vars(made).update({name: getattr(own, name) for name in OF_ONE})
-    vars(made).update(Random=NotedRandom, _inst=own)
-    return made
+    rng = NotedRandom(seed)
+    module = ModuleType(RANDOM, random.__doc__)
+    rng._is_seeded = False
+    vars(module).update(vars(random))
+    vars(module).update({name: getattr(rng, name) for name in OF_ONE})
+    vars(module).update(Random=NotedRandom, _inst=rng)
+    return module
 
 
 class OwnModules:
-    """The modules of one agent. Used by `with` around each of its turns, or around
-    many; it begins in its first."""
+    """The modules of one agent. It is a context manager around one or more turns; the
+    first turn loads the modules."""
 
     def __init__(self, seed: int) -> None:
         self.random = random_from(seed)
@@ -239,17 +241,17 @@ class OwnModules:
 
     def _put(self, modules: Dict[str, ModuleType]) -> None:
         """Puts modules in their places, and has imports look beside the agent first."""
-        loaded = sys.modules
+        modules_loaded = sys.modules
         for name, module in modules.items():
-            if name in loaded:
-                self._shared[name] = loaded[name]
-            loaded[name] = module
-        seen = sys.path[:], len(FOLDERS)
-        if seen != self._seen:
-            self._seen = seen
+            if name in modules_loaded:
+                self._shared[name] = modules_loaded[name]
+            modules_loaded[name] = module
+        saved = sys.path[:], len(FOLDERS)
+        if saved != self._seen:
+            self._seen = saved
             self._ahead = [
                 *self._folders,
-                *(it for it in sys.path if it not in FOLDERS),
+                *(folder for folder in sys.path if folder not in FOLDERS),
             ]
         sys.path[:] = self._ahead
-        self._count = len(loaded)
+        self._count = len(modules_loaded)

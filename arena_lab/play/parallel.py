@@ -20,8 +20,8 @@ from typing import Any, Dict, Generator, List, NamedTuple, Optional, Protocol, S
 
 from arena_lab.play.imports import digest_named, digest_of
 from arena_lab.support.built import TOP
-from arena_lab.support.faults import Fault
-from arena_lab.support.missing import needed
+from arena_lab.support.faults import ArenaError
+from arena_lab.support.missing import require
 
 # how many matches a process takes at a time and a Dask worker, if they are short or
 # long
@@ -47,7 +47,7 @@ KILLED = (
 
 
 class NumberedTask(Protocol):
-    """A match that has a number."""
+    """A numbered match."""
 
     @property
     def number(self) -> int:
@@ -55,28 +55,28 @@ class NumberedTask(Protocol):
 
 
 class Job(Protocol):
-    """Plays matches. It is sent to other processes."""
+    """Plays matches; workers receive a pickled copy."""
 
     def play(self, case: Any) -> Any:
-        """What came of a match."""
+        """Plays a match and returns its result."""
 
     def digests(self) -> Dict[str, str]:
         """The SHA-256 of each file that results depend on, by name."""
 
 
 class Result(NamedTuple):
-    """What came of a match, or why nothing did."""
+    """The result of a match, or the fault that prevented it."""
 
-    found: Any
+    result: Any
     fault: str
 
 
-class NoCluster(Fault):
+class ClusterError(ArenaError):
     """No Dask scheduler answers, or its workers cannot play; says what to change."""
 
 
 class Parallelism(NamedTuple):
-    """Who plays matches: this number of processes, or the workers of a Dask
+    """The players of matches: a number of processes, or the workers of a Dask
     scheduler."""
 
     workers: int = 1
@@ -99,7 +99,7 @@ def result_of(job: Job, case: NumberedTask) -> Result:
         return Result(None, f"run {case.number}: it is not played any more")
     try:
         return Result(job.play(case), "")
-    except (Fault, OSError) as fault:
+    except (ArenaError, OSError) as fault:
         return Result(None, f"run {case.number}: {fault}")
 
 
@@ -129,9 +129,9 @@ def end_with(parent: int, by: signal.Signals = signal.SIGTERM) -> None:
 def over_processes(
     job: Job, cases: Sequence[NumberedTask], workers: int, is_long: bool = False
 ) -> Generator[Result, None, None]:
-    """The results of all matches, in order, by this number of processes, each of which
-    takes some at a time. If they are long, what is played when no more results are
-    taken is not waited for."""
+    """Yields the results of all matches in order, played by `workers` processes in
+    batches. If matches are long, closing the generator does not wait for matches in
+    progress."""
     is_cut_short = is_long
     over = multiprocessing.Event()
     pool = concurrent.futures.ProcessPoolExecutor(
@@ -198,19 +198,17 @@ def over_cluster(
 
 def client_at(address: str) -> Any:
     """The client of a Dask scheduler that has workers."""
-    distributed = needed("distributed")
+    dask = require("distributed")
     try:
-        client = distributed.Client(
-            address, timeout=SECONDS_TO_ANSWER, set_as_default=False
-        )
+        client = dask.Client(address, timeout=SECONDS_TO_ANSWER, set_as_default=False)
     except (OSError, ValueError) as fault:
-        raise NoCluster(
+        raise ClusterError(
             f"no Dask scheduler answers at {address} ({fault}): start one by `dask-scheduler`, and workers "
             "by `dask-worker ADDRESS`"
         ) from None
     if not client.scheduler_info()["workers"]:
         client.close()
-        raise NoCluster(
+        raise ClusterError(
             f"the Dask scheduler at {address} has no workers: start some by `dask-worker {address}`"
         )
     return client
@@ -219,19 +217,19 @@ def client_at(address: str) -> Any:
 def results_in(future: Any) -> List[Result]:
     """The results of a batch."""
     try:
-        ran = future.result()
+        batch = future.result()
     except Exception as fault:
-        raise NoCluster(
+        raise ClusterError(
             f"a Dask worker cannot play: {fault}; a worker needs the folder {TOP} and the program "
             f"{sys.executable}, as this machine has them"
         ) from None
-    if ran.returncode != 0:
-        said = ran.stderr.decode(errors="replace").strip().splitlines()
-        raise NoCluster(
-            f"a Dask worker cannot play: {said[-1] if said else f'status {ran.returncode}'}"
+    if batch.returncode != 0:
+        lines = batch.stderr.decode(errors="replace").strip().splitlines()
+        raise ClusterError(
+            f"a Dask worker cannot play: {lines[-1] if lines else f'status {batch.returncode}'}"
         )
-    found: List[Result] = pickle.loads(ran.stdout)
-    return found
+    results: List[Result] = pickle.loads(batch.stdout)
+    return results
 
 
 def own_digests() -> Dict[str, str]:
@@ -242,7 +240,7 @@ def own_digests() -> Dict[str, str]:
 
 
 def other_files(files: Dict[str, str]) -> List[str]:
-    """The files that are other ones here."""
+    """Returns the files whose contents differ on this machine."""
     return [name for name, digest in files.items() if digest_named(name) != digest]
 
 
@@ -252,10 +250,10 @@ def serve() -> None:
     job, batch, files = pickle.load(sys.stdin.buffer)
     answers = sys.stdout.buffer
     sys.stdout = io.StringIO()
-    others = other_files(files)
-    if others:
+    other_paths = other_files(files)
+    if other_paths:
         sys.exit(
-            f"{others[0]} is not the file that it is on the machine of the command: a worker needs the same "
+            f"{other_paths[0]} is not the file that it is on the machine of the command: a worker needs the same "
             "folder at the same path"
         )
     pickle.dump([result_of(job, case) for case in batch], answers)

@@ -1,5 +1,4 @@
-"""Players that run inside the lab: agents in Python. Each is a greenlet, and one runs
-at a time.
+"""Players inside the lab: agents in Python. Each is a greenlet, and one runs at a time.
 
 A player runs until it waits for the answer to its line, for its arrival, or to be
 woken. `state` says which, and `line` is the line that it sent, or None if its input has
@@ -19,20 +18,20 @@ from arena_lab.play.bounds import LIMIT
 from arena_lab.play.foreign_files import notes_of, read_by
 from arena_lab.play.own_modules import OwnModules
 from arena_lab.rules.draws import seed_of
-from arena_lab.rules.model import GONE, LAST, spelled
-from arena_lab.support.missing import needed
+from arena_lab.rules.model import GONE, LAST, spell
+from arena_lab.support.missing import require
 
 # an answer is due; an arrival is due; it sleeps; nothing more comes
 WAITS = "waits"
 TRAVELS = "travels"
 SLEEPS = "sleeps"
 DONE = "done"
-# what a client is told last
-DENIALS = {spelled({"no": why}) for why in ("enter", "key", "taken")}
-LAST_LINES = DENIALS | {spelled(reply) for reply in LAST}
-# behind this the next line is the arrival; and what stands in the place of a line for
-# who sleeps
-DEPARTED = spelled(GONE)
+# denials, and replies after which the connection ends
+DENIALS = {spell({"no": why}) for why in ("enter", "key", "taken")}
+LAST_LINES = DENIALS | {spell(reply) for reply in LAST}
+# reply to a departure, after which the arrival follows; and the pseudo-line for an
+# agent that wakes
+DEPARTED = spell(GONE)
 WAKES = "wakes"
 # what is never taken from lines ahead
 NEVER_AHEAD = LAST_LINES | {WAKES}
@@ -48,7 +47,7 @@ NOT_OWN = (pathlib.Path(__file__).parent, pathlib.Path(operator.__file__).parent
 LONGER = 20
 
 
-class TooSlow(Exception):
+class TooSlowError(Exception):
     """An agent's program computes or sleeps, and neither sends nor waits."""
 
 
@@ -70,8 +69,7 @@ class Player:
         self.state = WAITS
         self.line = self.fault = None
         self.errors = ""
-        # the line that it was told last, and those ahead of it on a way that it goes
-        # once more
+        # the last line received, and the lines ahead while a history is replayed
         self.latest = ""
         self.ahead = None
         # those that the script loads for this agent alone
@@ -80,15 +78,16 @@ class Player:
         self._heard: Deque[str] = deque()
         self._is_over = False
         self._is_closed = False
-        self._thread = needed("greenlet").greenlet(lambda: self._run(script, key))
+        self._thread = require("greenlet").greenlet(lambda: self._run(script, key))
 
-    def read(self) -> Dict[str, str]:
+    def read_hashes(self) -> Dict[str, str]:
         """The SHA-256 of each file that the program has read, by their names, if that
         is noted."""
         return read_by(notes_of(self._thread))
 
-    def told(self, text: str) -> str:
-        """What the agent has said is the same on each run."""
+    def stable_text(self, text: str) -> str:
+        """Returns the text unchanged: agents inside the lab print the same on each
+        run."""
         return text
 
     def rest(self) -> bytes:
@@ -106,11 +105,11 @@ class Player:
     def go_on(self) -> None:
         """Lets the program begin, wake, or read what it heard."""
         self._team.turns += 1
-        changed = self._turn(self._thread.switch)
-        if changed is not None:
+        changes = self._turn(self._thread.switch)
+        if changes is not None:
             self.stop()
             # this fault takes the place of any other
-            self.fault = CHANGED.format(changed)
+            self.fault = CHANGED.format(changes)
 
     def stop(self, fault: Optional[str] = None) -> None:
         """Ends the program."""
@@ -132,11 +131,15 @@ class Player:
             and all(map(operator.is_, before, map(parts.get, STAYS)))
         ):
             return None
-        changed = [it for it, part in zip(STAYS, before) if parts.get(it) is not part]
+        attributes = [
+            attribute
+            for attribute, part in zip(STAYS, before)
+            if parts.get(attribute) is not part
+        ]
         object.__setattr__(self, "__class__", kind)
         self.__dict__ = parts
         parts.update(zip(STAYS, before))
-        return changed[0] if changed else "the class or the dict"
+        return attributes[0] if attributes else "the class or the dict"
 
     def send(self, line: str) -> None:
         if self._is_closed:
@@ -156,9 +159,8 @@ class Player:
                 and ahead[0] not in NEVER_AHEAD
                 and (self.latest == DEPARTED) == (state == TRAVELS)
             ):
-                # it is for an agent that waits as this one does: a way that was gone
-                # before is gone again in one turn. All that the program can read is as
-                # if it had waited
+                # a line of a replayed history is delivered in the same turn; for the
+                # program this does not differ from having waited for it
                 self._team.turns += 1
                 self.state = state
                 self.line = None
@@ -177,7 +179,7 @@ class Player:
     def _run(self, script: Script, key: str) -> None:
         try:
             script(self, key, self.sleep)
-        except TooSlow as fault:
+        except TooSlowError as fault:
             self.fault = str(fault)
         except (Exception, SystemExit) as fault:
             self.fault = (
@@ -191,16 +193,16 @@ class Player:
 def place_in(trace: Optional[TracebackType]) -> str:
     """The last line of the agent's own file through which an exception came, in
     parentheses: not one of the lab, of the client, or of Python."""
-    found = ""
+    location = ""
     for frame, line in traceback.walk_tb(trace):
         path = pathlib.PurePath(frame.f_code.co_filename)
         if (
             path.name != "client.py"
             and path.suffix == ".py"
-            and not any(it in path.parents for it in NOT_OWN)
+            and not any(folder in path.parents for folder in NOT_OWN)
         ):
-            found = f" ({path.name}, line {line})"
-    return found
+            location = f" ({path.name}, line {line})"
+    return location
 
 
 class Clock:
@@ -234,9 +236,9 @@ class Clock:
         """Ends a program that has been running since the last look."""
         if (
             self._team.turns == self._seen
-            and needed("greenlet").getcurrent().parent is not None
+            and require("greenlet").getcurrent().parent is not None
         ):
-            raise TooSlow(self._fault)
+            raise TooSlowError(self._fault)
         self._seen = self._team.turns
 
 
@@ -252,8 +254,7 @@ class Team:
         seconds: float = LIMIT,
         seeds: Optional[Sequence[int]] = None,
     ) -> None:
-        """The scripts are by the number of their agent. Seeds are those of the keys
-        unless others are given."""
+        """Scripts are by agent number; seeds default to those of the keys."""
         self.turns = 0
         self.seeds = [seed_of(key) for key in keys] if seeds is None else seeds
         self.players = [

@@ -22,11 +22,11 @@ import time
 from typing import Callable, Dict, List, Mapping, Optional, Sequence, Sized
 
 from arena_lab.play import wasm_modules
-from arena_lab.play.agent_files import NoAgent, facts_of
+from arena_lab.play.agent_files import AgentError, facts_of
 from arena_lab.play.bounds import READ_NOTHING, SENT_NOTHING, TimeBound, Room
-from arena_lab.play.grounds import HOST, Ground, LocalRunner, NoStart
+from arena_lab.play.grounds import HOST, Ground, LocalRunner, StartError
 from arena_lab.play.last_words import asked_behind, error_in, usage_in
-from arena_lab.play.mistakes import plain, shown
+from arena_lab.play.mistakes import plain, quote_line
 from arena_lab.play.players import DENIALS, DONE, LAST_LINES, TRAVELS, WAITS
 from arena_lab.play.sent_lines import PIECE, Lines
 from arena_lab.rules.draws import seed_of
@@ -34,15 +34,14 @@ from arena_lab.rules.fixtures import Fixture
 from arena_lab.support.built import without_warning
 
 GONE = '{"ok":"gone"}'
-# seconds that a program has to end by itself when it has been told that the match is
-# over
+# seconds for a program to exit after the match ends
 GRACE = 0.5
 # seconds after which the lab looks whether a program that says nothing has ended, or
 # has connected twice
 SLICE = 0.02
-# characters of a program's last words that are told
+# limit on the quoted characters of a program's last words
 WORDS = 200
-# what a program that was not let in has done, by the line that it was sent
+# advice for each denial line of the server
 NOT_LET_IN = {
     '{"no":"key"}': "; its key is of no agent here: take the one that it is given in the place of {key}",
     '{"no":"taken"}': "; another program has entered by its key",
@@ -72,8 +71,8 @@ class Player:
         self._errors = open(os.memfd_create("errors"), "w+b")
 
     def start(self) -> None:
-        """Starts the program. It is the first of a group of its own, so that all that
-        it starts can be ended."""
+        """Starts the program in a process group of its own, so that its descendants can
+        be killed too."""
         words = command_of(
             self.words, self._team.fixture, self.number, self._ground.facts
         )
@@ -82,17 +81,17 @@ class Player:
             self._child, self._listener_of = self._ground.start(
                 words, seed, self._errors
             )
-        except NoStart as fault:
+        except StartError as fault:
             self._end(f"cannot be started: {fault}")
         except OSError as fault:
-            raise NoAgent(f"{self.words}: {fault.strerror}") from None
+            raise AgentError(f"{self.words}: {fault.strerror}") from None
 
     def begin(self) -> None:
         """Waits until the program begins."""
         try:
             if self._listener_of is not None:
                 self._listener = self._listener_of()
-        except NoStart as fault:
+        except StartError as fault:
             self._end(f"cannot be started: {fault}")
 
     def settle(self) -> None:
@@ -148,29 +147,29 @@ class Player:
     def go_on(self) -> None:
         """A program sleeps as it likes, so it is never woken."""
 
-    def read(self) -> Dict[str, str]:
-        """What a program of its own reads is not noted."""
+    def read_hashes(self) -> Dict[str, str]:
+        """Returns {}: the reads of a program outside of the lab are not recorded."""
         return {}
 
-    def told(self, text: str) -> str:
-        """What the program has said, without what is another on each run."""
-        return self._ground.told(text)
+    def stable_text(self, text: str) -> str:
+        """Replaces parts of the program's output that differ in each run."""
+        return self._ground.stable_text(text)
 
     def rest(self) -> bytes:
-        """What the program has sent behind its last line feed."""
+        """Returns the bytes that the program sent after its last line feed."""
         return b"" if self._lines is None else self._lines.rest.strip()
 
-    def came(self) -> int:
-        """How many lines have come of the program."""
+    def line_count(self) -> int:
+        """Returns how many lines have come of the program."""
         return self._lines.count if self._lines else 0
 
     def stirs(self, before: int) -> Optional[str]:
-        """What the program has done since it had sent `before` lines: sent another, or
-        ended its output; or None."""
+        """Returns what the program did since it had sent `before` lines: it sent
+        another line or ended its output; else None."""
         if self._lines is None:
             return None
         if self._lines.count > before:
-            return f"has sent `{shown(self._lines.latest())}`"
+            return f"has sent `{quote_line(self._lines.latest())}`"
         if not self._lines.is_over():
             return None
         if self._child is not None:
@@ -190,9 +189,9 @@ class Player:
         self.errors = self._errors_of()
         if self._lines is not None:
             self._lines.close()
-        for it in (self._connection, self._listener, self._errors):
-            if it is not None:
-                it.close()
+        for stream in (self._connection, self._listener, self._errors):
+            if stream is not None:
+                stream.close()
 
     def hurry(self) -> None:
         """Tells the program to end, without waiting until it has."""
@@ -204,13 +203,14 @@ class Player:
 
     def _look_for_strangers(self) -> None:
         """A second connection ends the program's play."""
-        other = self._accepted(0) if self._connection is not None else None
-        if other is not None:
-            other.close()
+        second_connection = self._accepted(0) if self._connection is not None else None
+        if second_connection is not None:
+            second_connection.close()
             self._end("has connected twice")
 
     def _accepted(self, seconds: float) -> Optional[socket.socket]:
-        """A connection of the program, if it makes one within this time."""
+        """Accepts a connection of the program; returns None after `seconds` without
+        one."""
         if self._listener is None or self._listener.fileno() < 0:
             return None
         self._listener.settimeout(seconds)
@@ -267,12 +267,13 @@ class Player:
         if self._errors.closed:
             return self.errors
         return "\n".join(
-            plain(self._ground.told(line)) for line in self._end_of_errors().split("\n")
+            plain(self._ground.stable_text(line))
+            for line in self._end_of_errors().split("\n")
         )
 
     def _end_of_errors(self) -> str:
-        """The same as it was written. A player of modules may have said besides that it
-        is not proved."""
+        """Returns the end of the program's standard error, without the module player's
+        warning that it has no proof."""
         size = self._errors.seek(0, os.SEEK_END)
         self._errors.seek(max(0, size - PIECE))
         return without_warning(self._errors.read().decode(errors="replace"))
@@ -281,8 +282,8 @@ class Player:
         """The line that names the error in what the program wrote to standard error, as
         one that changes nothing where it is shown."""
         text = self._end_of_errors()
-        words = self._ground.told(error_in(text))
-        usage = self._ground.told(usage_in(text))
+        words = self._ground.stable_text(error_in(text))
+        usage = self._ground.stable_text(usage_in(text))
         if usage:
             return f": an argument is missing, or there is one too many: it is called as `{plain(usage)[:WORDS]}`"
         if not words:
@@ -295,18 +296,18 @@ class Player:
         return f": {plain(words)[:WORDS]}{hint}"
 
     def _hung(self) -> str:
-        """What is said of the program once the lab waits for it no more, with what it
-        may have forgotten."""
-        said = self._team.clock.says(SENT_NOTHING)
+        """Returns the fault of a program that exceeded its time limit, with the
+        likeliest omission."""
+        text = self._team.clock.says(SENT_NOTHING)
         words = self._last_words()
-        if words or not said.startswith(SENT_NOTHING):
-            return f"{said}{words}"
+        if words or not text.startswith(SENT_NOTHING):
+            return f"{text}{words}"
         asks = (
             "does it end each line with a line feed, and flush?"
             if self.rest()
             else "does it flush after each line?"
         )
-        return f"{said}; {asks}"
+        return f"{text}; {asks}"
 
     def _end(self, fault: str) -> None:
         """Ends the program's play; its agent leaves the match if it is in it."""
@@ -318,8 +319,8 @@ class Player:
 
 
 def as_in_a_shell(status: Optional[int]) -> Optional[int]:
-    """A status as a shell has it, and walls around a program: 128 and the number of the
-    signal that ended it."""
+    """Converts a status of subprocess to that of a shell: 128 plus the number of the
+    signal."""
     return 128 - status if status is not None and status < 0 else status
 
 
@@ -329,7 +330,7 @@ def seeds_of(fixture: Fixture) -> List[int]:
 
 
 def command_of(
-    words: str, fixture: Fixture, number: int, others: Mapping[str, str]
+    words: str, fixture: Fixture, number: int, other_words: Mapping[str, str]
 ) -> List[str]:
     """The words of a command that starts an agent's program, or the player of a module,
     but for the port, which is not known yet."""
@@ -338,7 +339,7 @@ def command_of(
         "port": "{port}",
         "key": fixture.keys[number],
         **facts_of(fixture.setup),
-        **others,
+        **other_words,
     }
     try:
         command = [
@@ -348,7 +349,7 @@ def command_of(
         command = []
     if not command:
         names = [f"{{{name}}}" for name in facts]
-        raise NoAgent(
+        raise AgentError(
             f"{words}: in a command stand {', '.join(names[:-1])} and {names[-1]}"
         )
     return command
@@ -368,8 +369,8 @@ class Team:
         seeds: Optional[Sequence[int]] = None,
         room: float = math.inf,
     ) -> None:
-        """The commands are by the numbers of agents, and the grounds too. Seeds are
-        those of the keys unless others are given."""
+        """Commands and grounds are by agent number; seeds default to those of the
+        keys."""
         self.fixture = fixture
         self.room = Room(room)
         self.seeds = seeds_of(fixture) if seeds is None else seeds
@@ -391,8 +392,8 @@ class Team:
         self.clock.begin(False)
 
     def stop(self) -> None:
-        """Ends all programs; those that have been told that the match is over may end
-        by themselves."""
+        """Ends all programs; those that have received the end of the match get time to
+        exit by themselves."""
         until = time.monotonic() + GRACE
         while (
             any(player.is_alive() for player in self.players)

@@ -20,7 +20,7 @@ import secrets
 from typing import List, NamedTuple, Optional, Sequence
 
 from arena_lab.play import mistakes, programs
-from arena_lab.play.matches import MOST_REFUSED, PlayedMatch, Player, Team
+from arena_lab.play.matches import MAX_REFUSED, PlayedMatch, Player, Team
 from arena_lab.play.players import SLEEPS, WAITS
 from arena_lab.play.teams import AgentWords, alone
 from arena_lab.rules.fixtures import Fixture
@@ -30,7 +30,7 @@ from arena_lab.rules.model import (
     Object,
     command_of,
     objects_of,
-    spelled,
+    spell,
     text_of,
 )
 
@@ -45,17 +45,16 @@ RULE = (
 )
 
 
-class Said(NamedTuple):
-    """A command of an agent, and the lines that it was told next, in order."""
+class PastCommand(NamedTuple):
+    """A command of an agent, and the lines that it received next, in order."""
 
     command: Object
-    told: List[Object]
+    lines: List[Object]
 
 
 class Otherwise(NamedTuple):
-    """The first command of an agent that is another one when the agent is told the same
-    again. Commands are counted from 1. The program's own fault, if it has one, may be
-    the reason."""
+    """The first command (numbered from 1) that differs when the agent is repeated with
+    the same replies. A fault of the program may be the reason."""
 
     agent: int
     number: int
@@ -72,8 +71,8 @@ class Otherwise(NamedTuple):
 
 
 def in_words(command: Object) -> str:
-    """A command as a reader has it, such as `depart port 1`, and of a long one the
-    beginning."""
+    """Formats a command for readers, such as `depart port 1`; long ones are
+    truncated."""
     words = [
         f"{name} {json.dumps(value, ensure_ascii=False)}"
         for name, value in command.items()
@@ -82,30 +81,30 @@ def in_words(command: Object) -> str:
     return mistakes.plain(" ".join([str(command["do"]), *words]))[: programs.WORDS]
 
 
-def past_of(replay: str, agent: int) -> List[Said]:
-    """What an agent of a match said and was told."""
-    found: List[Said] = []
+def past_of(replay: str, agent: int) -> List[PastCommand]:
+    """Returns an agent's commands in a match with the lines that it received."""
+    commands: List[PastCommand] = []
     for event in objects_of(replay)[1:]:
         if event.get("agent") != agent:
             continue
         if event["do"] == "deliver":
-            # a destroyed agent is told nothing before the close
-            found[-1].told.append(event["reply"] or OVER)
+            # a destroyed agent receives nothing before the close
+            commands[-1].lines.append(event["reply"] or OVER)
         else:
             command = {
                 name: value
                 for name, value in event.items()
                 if name not in ("agent", "reply")
             }
-            found.append(Said(command, [event["reply"]]))
-    if found and found[-1].told == [GONE]:
+            commands.append(PastCommand(command, [event["reply"]]))
+    if commands and commands[-1].lines == [GONE]:
         # nobody delivered it: its link is held
-        found[-1].told.append(OVER)
-    return found
+        commands[-1].lines.append(OVER)
+    return commands
 
 
 class Alone:
-    """An agent that is told its past again."""
+    """Repeats an agent: it receives the lines of its past again."""
 
     def __init__(self, player: Player, key: str, quota: int) -> None:
         self._player = player
@@ -114,15 +113,16 @@ class Alone:
         self._used = 0
         self._has_entered = False
 
-    def otherwise(self, past: Sequence[Said]) -> Optional[Otherwise]:
-        """The first difference, if there is one."""
-        for number, said in enumerate(past, 1):
+    def otherwise(self, past: Sequence[PastCommand]) -> Optional[Otherwise]:
+        """Returns the first difference between the repetition and the match, or
+        None."""
+        for number, command in enumerate(past, 1):
             alone = self._said()
-            if alone != said.command:
-                return self._differs(number, said.command, alone)
+            if alone != command.command:
+                return self._differs(number, command.command, alone)
             self._has_entered = True
             self._used += alone["do"] not in FREE
-            if not self._hears(said.told):
+            if not self._hears(command.lines):
                 return None
         if not past and self._said() == ENTER:
             return self._differs(1, LEAVE, ENTER)
@@ -133,19 +133,19 @@ class Alone:
             self._player.number, number, in_match, alone, self._player.fault or ""
         )
 
-    def _hears(self, told: Sequence[Object]) -> bool:
+    def _hears(self, answers: Sequence[Object]) -> bool:
         """Sends the agent these answers of the match; gives whether its input goes on."""
-        for reply in told:
+        for reply in answers:
             self._wake()
             if self._player.line is None and self._player.state == WAITS:
                 return False
-            self._player.hear(spelled(reply))
+            self._player.hear(spell(reply))
         return True
 
     def _said(self) -> Object:
-        """The agent's next command that a replay has. What a replay does not have is
-        answered."""
-        for _ in range(MOST_REFUSED):
+        """Returns the agent's next command of a kind that replays record; other
+        commands are answered here."""
+        for _ in range(MAX_REFUSED):
             self._wake()
             if self._player.line is None:
                 return LEAVE
@@ -153,18 +153,18 @@ class Alone:
             refusal = self._refusal(command)
             if refusal is None:
                 return ENTER if command.get("key") == self._key else command
-            self._player.hear(spelled({"no": refusal}))
+            self._player.hear(spell({"no": refusal}))
         return LEAVE
 
     def _wake(self) -> None:
         """Wakes a sleeper until it says something."""
-        for _ in range(MOST_REFUSED):
+        for _ in range(MAX_REFUSED):
             if self._player.state != SLEEPS:
                 return
             self._player.go_on()
 
     def _refusal(self, command: Object) -> Optional[str]:
-        """Why a command is not heard."""
+        """Returns why a command is rejected, or None."""
         if not self._has_entered:
             return None
         if command["do"] == "enter":
@@ -180,9 +180,11 @@ def with_new_keys(fixture: Fixture) -> Fixture:
     return fixture._replace(keys=[secrets.token_hex(10) for _ in fixture.keys])
 
 
-def repeated(team: Team, fixture: Fixture, past: Sequence[Said]) -> Optional[Otherwise]:
-    """Repeats the only agent of a team, which is told this past; gives the first
-    difference, if there is one."""
+def repeat_agent(
+    team: Team, fixture: Fixture, past: Sequence[PastCommand]
+) -> Optional[Otherwise]:
+    """Repeats the only agent of a team with this past; returns the first difference, or
+    None."""
     player = team.players[0]
     try:
         team.start()
@@ -194,20 +196,22 @@ def repeated(team: Team, fixture: Fixture, past: Sequence[Said]) -> Optional[Oth
 
 
 def with_repeats(
-    played: PlayedMatch, agents: Sequence[AgentWords], fixture: Fixture, seconds: float
+    match: PlayedMatch, agents: Sequence[AgentWords], fixture: Fixture, seconds: float
 ) -> PlayedMatch:
-    """The match with what its agents say otherwise when each is repeated alone, one
-    after the other, where they have played; as it is if one of them has a fault."""
-    if played.faults:
-        return played
+    """Adds the differences found by repeating each agent alone to a match; a match with
+    faults is returned unchanged."""
+    if match.faults:
+        return match
     again = with_new_keys(fixture)
-    replay = played.replay.decode()
-    found = [
-        repeated(
+    replay = match.replay.decode()
+    differences = [
+        repeat_agent(
             alone(number, agents[number], again, fixture, seconds),
             again,
             past_of(replay, number),
         )
         for number in range(len(agents))
     ]
-    return played._replace(faults=[str(it) for it in found if it])
+    return match._replace(
+        faults=[str(difference) for difference in differences if difference]
+    )

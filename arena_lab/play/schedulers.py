@@ -25,7 +25,7 @@ from typing import (
 
 from arena_lab.rules.delays import ODDS, SCALES, Delays, Turns
 from arena_lab.rules.model import Match, Object, Place
-from arena_lab.support.faults import Fault
+from arena_lab.support.faults import ArenaError
 
 ANSWER = "answer"
 ARRIVE = "arrive"
@@ -33,9 +33,8 @@ WAKE = "wake"
 
 
 class Choice(NamedTuple):
-    """What may happen next: an agent's line, or the end of its input, is taken and
-    answered; an agent on a link arrives, or is destroyed; an agent that sleeps
-    wakes."""
+    """A possible next event: an agent's line (or the end of its input) is answered; an
+    agent on a link arrives or is destroyed; a sleeping agent wakes."""
 
     do: str
     agent: int
@@ -62,15 +61,15 @@ WAKINGS = (0.01, 0.1)
 
 def fair(seed: int) -> Scheduler:
     """All that may happen next is as likely."""
-    chance = random.Random(seed)
-    return lambda choices, state: chance.choice(choices)
+    rng = random.Random(seed)
+    return lambda choices, state: rng.choice(choices)
 
 
-def weighted(
-    chance: random.Random, weight: Callable[[Choice, MatchView], float]
+def weighted_scheduler(
+    rng: random.Random, weight: Callable[[Choice, MatchView], float]
 ) -> Scheduler:
     """Choices are as likely as they weigh."""
-    return lambda choices, state: chance.choices(
+    return lambda choices, state: rng.choices(
         choices, [weight(choice, state) for choice in choices]
     )[0]
 
@@ -78,57 +77,55 @@ def weighted(
 def slow_agents(seed: int) -> Scheduler:
     """Some agents are slow to be answered, and some to arrive, for the whole match;
     sleepers wake seldom."""
-    chance = random.Random(seed)
-    waking = chance.choice(WAKINGS)
+    rng = random.Random(seed)
+    waking = rng.choice(WAKINGS)
     paces: Dict[Tuple[str, int], float] = {}
 
     def weight(choice: Choice, state: MatchView) -> float:
         return (
-            waking
-            if choice.do == WAKE
-            else paces.setdefault(choice, chance.choice(PACES))
+            waking if choice.do == WAKE else paces.setdefault(choice, rng.choice(PACES))
         )
 
-    return weighted(chance, weight)
+    return weighted_scheduler(rng, weight)
 
 
 def slow_links(seed: int) -> Scheduler:
     """Some links are slow, each in its two directions, for the whole match."""
-    chance = random.Random(seed)
+    rng = random.Random(seed)
     paces: Dict[Place, float] = {}
 
     def weight(choice: Choice, state: MatchView) -> float:
         if choice.do != ARRIVE:
             return 1
         agent = state.match.agents[choice.agent]
-        return paces.setdefault((agent.node, agent.port), chance.choice(PACES))
+        return paces.setdefault((agent.node, agent.port), rng.choice(PACES))
 
-    return weighted(chance, weight)
+    return weighted_scheduler(rng, weight)
 
 
 def last_departed(seed: int) -> Scheduler:
     """Agents go as far as they can, and of those on links the one arrives that departed
     last. A seed chooses among agents that are to be answered."""
-    chance = random.Random(seed)
+    rng = random.Random(seed)
 
     def choose(choices: Sequence[Choice], state: MatchView) -> Choice:
-        others = [choice for choice in choices if choice.do != ARRIVE]
-        if others:
-            return chance.choice(others)
+        other_choices = [choice for choice in choices if choice.do != ARRIVE]
+        if other_choices:
+            return rng.choice(other_choices)
         return max(choices, key=lambda choice: state.match.pool.index(choice.agent))
 
     return choose
 
 
-def starved(seed: int) -> Scheduler:
+def starved_scheduler(seed: int) -> Scheduler:
     """Nothing happens to one agent as long as anything else can happen; the others go
     on by chance. It is the agent whose number is the seed, counted round the team."""
-    chance = random.Random(seed)
+    rng = random.Random(seed)
 
     def choose(choices: Sequence[Choice], state: MatchView) -> Choice:
         agent = seed % len(state.match.agents)
-        others = [choice for choice in choices if choice.agent != agent]
-        return chance.choice(others or choices)
+        other_choices = [choice for choice in choices if choice.agent != agent]
+        return rng.choice(other_choices or choices)
 
     return choose
 
@@ -196,27 +193,27 @@ def in_runs(runs: Sequence[Tuple[int, int]]) -> Scheduler:
     return choose
 
 
-class Impossible(Fault):
-    """What a recorded schedule says cannot happen there."""
+class ImpossibleError(ArenaError):
+    """A choice of a recorded schedule is impossible at its position."""
 
     status = 1
 
 
-class ScheduleEnded(Exception):
+class ScheduleEndedError(Exception):
     """A recorded schedule has no more choices."""
 
 
-def recorded(schedule: Sequence[Choice]) -> Scheduler:
+def recorded_scheduler(schedule: Sequence[Choice]) -> Scheduler:
     """The choices of a schedule, in order."""
-    left = enumerate(schedule, 1)
+    choices_left = enumerate(schedule, 1)
 
     def choose(choices: Sequence[Choice], state: MatchView) -> Choice:
-        number, choice = next(left, (0, None))
+        number, choice = next(choices_left, (0, None))
         if choice is None:
-            raise ScheduleEnded
+            raise ScheduleEndedError
         if choice not in choices:
-            possible: List[str] = [f"{it.do} {it.agent}" for it in choices]
-            raise Impossible(
+            possible: List[str] = [f"{choice.do} {choice.agent}" for choice in choices]
+            raise ImpossibleError(
                 f"choice {number} is `{choice.do} {choice.agent}`, and what may happen there is: "
                 f"{', '.join(possible)}"
             )
@@ -226,9 +223,9 @@ def recorded(schedule: Sequence[Choice]) -> Scheduler:
 
 
 class ScheduleFollower:
-    """The choices of a schedule, in order, up to the first that cannot happen; from
-    there on, and behind the last one, every choice is as likely as any other. So a
-    program that was mended is tried against what it failed under."""
+    """Follows a schedule up to its first impossible choice, and then chooses uniformly
+    at random. A corrected program is thus tried against the schedule that it failed
+    under."""
 
     def __init__(self, schedule: Sequence[Choice]) -> None:
         self._schedule = schedule
@@ -251,26 +248,26 @@ class ScheduleFollower:
     def __str__(self) -> str:
         whole = len(self._schedule)
         if self.count == whole:
-            said = f"followed all {whole} choices of the schedule"
+            text = f"followed all {whole} choices of the schedule"
         elif self.left:
             choice = self._schedule[self.count]
-            possible = ", ".join(f"{it.do} {it.agent}" for it in self.left)
-            said = (
+            possible = ", ".join(f"{choice.do} {choice.agent}" for choice in self.left)
+            text = (
                 f"followed {self.count} of {whole} choices: the next is `{choice.do} {choice.agent}`, and what may "
                 f"happen there is: {possible}"
             )
         else:
-            said = f"followed {self.count} of {whole} choices: then nothing could happen any more"
+            text = f"followed {self.count} of {whole} choices: then nothing could happen any more"
         return (
-            f"{said}; {self.went_on} fair choices came then" if self.went_on else said
+            f"{text}; {self.went_on} fair choices came then" if self.went_on else text
         )
 
 
-NAMED: Dict[str, Maker] = {
+SCHEDULER_MAKERS: Dict[str, Maker] = {
     "fair": fair,
     "slow-agents": slow_agents,
     "slow-links": slow_links,
     "last-departed": last_departed,
-    "starved": starved,
+    "starved": starved_scheduler,
     "oblivious": oblivious,
 }

@@ -20,21 +20,21 @@ from arena_lab import VERSION
 from arena_lab.play.bounds import LIMIT
 from arena_lab.play.schedulers import ANSWER, ARRIVE, WAKE, Choice
 from arena_lab.play.teams import INSIDE, OUTSIDE, AgentWords, digests_of
-from arena_lab.rules.fixtures import OWN_TEAM, Fixture, NoMatch, checked, pairs
-from arena_lab.rules.model import Object, Setup, link_of, place_of, spelled
-from arena_lab.support.faults import Fault
+from arena_lab.rules.fixtures import OWN_TEAM, Fixture, MatchError, check_setup, pairs
+from arena_lab.rules.model import Object, Setup, link_of, place_of, spell
+from arena_lab.support.faults import ArenaError
 
 # an agent's number, as a schedule writes it
 AGENT = "0|[1-9][0-9]*"
 
 
-class NoSchedule(Fault):
+class ScheduleError(ArenaError):
     """A file is no schedule; says which line."""
 
 
 class Schedule(NamedTuple):
-    """Which match, by which agents, how it was found, what happens, and how many
-    seconds an agent may take."""
+    """A recorded match: fixture, agents, origin, choices, and the seconds that an agent
+    may compute."""
 
     fixture: Fixture
     agents: List[AgentWords]
@@ -44,7 +44,7 @@ class Schedule(NamedTuple):
     limit: float = LIMIT
 
     def title(self) -> str:
-        """What its page is called: the team or its agents, and how it was found."""
+        """Returns the title of its page: team or agents, and origin."""
         names = ", ".join(dict.fromkeys(agent.name() for agent in self.agents))
         return f"{names if self.fixture.team == OWN_TEAM else self.fixture.team}: {self.origin}"
 
@@ -81,30 +81,36 @@ def text_of(schedule: Schedule) -> str:
     }
     return "".join(
         [
-            spelled(head) + "\n",
+            spell(head) + "\n",
             *(f"{choice.do} {choice.agent}\n" for choice in schedule.choices),
         ]
     )
 
 
-def read(path: pathlib.Path) -> Schedule:
+def read_schedule(path: pathlib.Path) -> Schedule:
     """The schedule in a file."""
     lines = path.read_text(encoding="utf-8").split("\n")
     try:
         head = json.loads(lines[0])
-        given = dict(head["fixture"])
-        team, keys, held = (given.pop(name) for name in ("team", "keys", "held"))
-        given.update(
-            links=list(map(link_of, given["links"])),
-            dark=list(map(place_of, given["dark"])),
+        fixture_values = dict(head["fixture"])
+        team, keys, held_links = (
+            fixture_values.pop(name) for name in ("team", "keys", "held")
         )
-        naps = given.pop("naps", 0)
+        fixture_values.update(
+            links=list(map(link_of, fixture_values["links"])),
+            dark=list(map(place_of, fixture_values["dark"])),
+        )
+        naps = fixture_values.pop("naps", 0)
         fixture = Fixture(
-            team, checked(Setup(**given)), keys, list(map(place_of, held)), naps
+            team,
+            check_setup(Setup(**fixture_values)),
+            keys,
+            list(map(place_of, held_links)),
+            naps,
         )
         agents = [agent_of(line) for line in head["agents"]]
         if not len(agents) == len(keys) == fixture.setup.agents:
-            raise NoSchedule(
+            raise ScheduleError(
                 f"{path}: its head names {len(agents)} agents and {len(keys)} keys, and the match has "
                 f"{fixture.setup.agents} agents"
             )
@@ -118,14 +124,16 @@ def read(path: pathlib.Path) -> Schedule:
             head["files"],
             limit,
         )
-    except NoMatch as fault:
-        raise NoSchedule(f"{path}: its head names no match: {fault}") from None
+    except MatchError as fault:
+        raise ScheduleError(f"{path}: its head names no match: {fault}") from None
     except (KeyError, TypeError, ValueError, AttributeError):
-        raise NoSchedule(f"{path}: its first line is no head of a schedule") from None
+        raise ScheduleError(
+            f"{path}: its first line is no head of a schedule"
+        ) from None
 
 
 def seconds_of(value: object) -> float:
-    """How many seconds an agent may take, as the head has them."""
+    """Returns how many seconds an agent may take, as the head has them."""
     if (
         isinstance(value, bool)
         or not isinstance(value, (int, float))
@@ -145,12 +153,12 @@ def agent_of(line: str) -> AgentWords:
 
 def choices_of(path: pathlib.Path, lines: List[str]) -> List[Choice]:
     """The choices of a file, whose first line is the head."""
-    found = []
+    choices = []
     for number, line in enumerate(lines, 2):
         if not line.strip() or line.startswith("#"):
             continue
         do, _, agent = line.strip().partition(" ")
         if do not in (ANSWER, ARRIVE, WAKE) or not re.fullmatch(AGENT, agent):
-            raise NoSchedule(f"{path}: line {number} is no choice, as `arrive 0` is")
-        found.append(Choice(do, int(agent)))
-    return found
+            raise ScheduleError(f"{path}: line {number} is no choice, as `arrive 0` is")
+        choices.append(Choice(do, int(agent)))
+    return choices

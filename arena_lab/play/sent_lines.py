@@ -4,7 +4,7 @@ import threading
 from collections import deque
 from typing import Deque, List, Optional
 
-from arena_lab.rules.limits import MOST_LINE
+from arena_lab.rules.limits import MAX_LINE
 
 PIECE = 65_536
 # bytes that are kept of what a program sends before they are due
@@ -12,8 +12,8 @@ AHEAD = 8 << 20
 
 
 class Lines:
-    """The lines that a program sends, which are read as they come: so what it has sent
-    before it ended is not lost."""
+    """Reads a program's lines as they arrive, so that lines sent before its end are
+    kept."""
 
     def __init__(self, connection: socket.socket) -> None:
         self._connection = connection
@@ -27,8 +27,8 @@ class Lines:
         threading.Thread(target=self._read, daemon=True).start()
 
     def next(self, seconds: float) -> Optional[bytes]:
-        """The next line, or None at the end. If there is neither within this time,
-        TimeoutError."""
+        """Returns the next line, or None at the end. Raises TimeoutError after
+        `seconds`."""
         with self._changed:
             if not self._changed.wait_for(
                 lambda: self._lines or self._is_over, seconds
@@ -41,7 +41,7 @@ class Lines:
             return self._lines.popleft()
 
     def is_over(self) -> bool:
-        """Whether the program has closed its connection."""
+        """Returns whether the program has closed its connection."""
         with self._changed:
             return self._is_over
 
@@ -61,15 +61,13 @@ class Lines:
             pass
 
     def _read(self) -> None:
-        """Reads to the end. Of a line that is too long no more is kept than shows that
-        it is."""
-        left = b""
+        """Reads until the end. Overlong lines are truncated to one byte more than the
+        limit."""
+        rest = b""
         while piece := self._piece():
-            *whole, left = (left + piece).split(b"\n")
-            self.rest = left = left[: MOST_LINE + 1]
-            self._keep(
-                [line[: MOST_LINE + 1] for line in whole if line.strip(b" \t\r")]
-            )
+            *whole, rest = (rest + piece).split(b"\n")
+            self.rest = rest = rest[: MAX_LINE + 1]
+            self._keep([line[: MAX_LINE + 1] for line in whole if line.strip(b" \t\r")])
         with self._changed:
             self._is_over = True
             self._changed.notify()

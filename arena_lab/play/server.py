@@ -10,7 +10,7 @@ from typing import Deque, Dict, Iterator, NamedTuple
 
 from arena_lab.rules.delays import Turns
 from arena_lab.rules.fixtures import Tournament, read_tournament
-from arena_lab.rules.limits import MOST_LINE
+from arena_lab.rules.limits import MAX_LINE
 from arena_lab.rules.model import (
     ENDED,
     GONE,
@@ -18,10 +18,10 @@ from arena_lab.rules.model import (
     Match,
     Object,
     judge,
-    spelled,
+    spell,
 )
 from arena_lab.rules.printed import table
-from arena_lab.rules.rehearsal import Item, Ready, Sent, Sessions
+from arena_lab.rules.rehearsal import Item, Ready, SentReplies, Sessions
 
 
 class ServeOptions(NamedTuple):
@@ -43,9 +43,12 @@ class Contest:
     def __init__(self, tournament: Tournament) -> None:
         self.teams = [fixture.team for fixture in tournament.fixtures]
         self.sessions = Sessions(
-            [Ready(Match(it.setup), it.held, it.keys) for it in tournament.fixtures]
+            [
+                Ready(Match(fixture.setup), fixture.held, fixture.keys)
+                for fixture in tournament.fixtures
+            ]
         )
-        self.matches = [it.match for it in self.sessions.ready]
+        self.matches = [ready_match.match for ready_match in self.sessions.ready]
         self.changed = threading.Condition()
         self._turns = [
             Turns(tournament.delays, tournament.seed, game)
@@ -57,11 +60,11 @@ class Contest:
         """Takes a line of a client, or the end of its input. An agent that departs is
         given its delay."""
         with self.changed:
-            sent = self.sessions.line(conn, item)
+            replies = self.sessions.line(conn, item)
             seat = self.sessions.connections[conn].seat
-            if seat and (conn, GONE) in sent:
+            if seat and (conn, GONE) in replies:
                 self._turns[seat[0]].departs(seat[1])
-            self._reply(sent)
+            self._reply(replies)
 
     def serve(self, conn: int, client: socket.socket) -> None:
         """Takes a client's lines, each once the lines before it are answered."""
@@ -70,7 +73,7 @@ class Contest:
                 for line in lines_of(client):
                     self.take(conn, line)
                     for reply in self._replies(conn):
-                        client.sendall(spelled(reply).encode() + b"\n")
+                        client.sendall(spell(reply).encode() + b"\n")
                     if self.sessions.connections[conn].is_done:
                         return
             self.take(conn, None)
@@ -101,21 +104,21 @@ class Contest:
                 self._reply(self.sessions.deliver(game, agent))
 
     def _is_decided(self, game: int) -> bool:
-        """Whether each agent has ended or is lost."""
+        """Returns whether each agent has ended or is lost."""
         with self.changed:
             return all(
                 agent.standing == ENDED or agent.lost
                 for agent in self.matches[game].agents
             )
 
-    def _reply(self, sent: Sent) -> None:
-        for conn, reply in sent:
+    def _reply(self, replies: SentReplies) -> None:
+        for conn, reply in replies:
             self._unsent[conn].append(reply)
         self.changed.notify_all()
 
     def _replies(self, conn: int) -> Iterator[Object]:
-        """What a client is to be sent until its next line is taken. It is sent without
-        the lock, so that a client that does not read keeps nobody waiting."""
+        """Yields the replies to a client until its next line is taken. They are sent
+        without the lock, so that a client that does not read delays nobody."""
         unsent = self._unsent[conn]
         while True:
             with self.changed:
@@ -127,10 +130,11 @@ class Contest:
 
 
 def lines_of(client: socket.socket) -> Iterator[bytes]:
-    """A client's lines. Of one that is too long no more is kept than shows it."""
+    """Yields a client's lines; overlong lines are truncated to one byte more than the
+    limit."""
     reader = client.makefile("rb")
     line = b""
-    while piece := reader.readline(MOST_LINE + 2):
+    while piece := reader.readline(MAX_LINE + 2):
         line = line or piece
         if piece.endswith(b"\n"):
             yield line.removesuffix(b"\n")
@@ -151,7 +155,7 @@ def host(listener: socket.socket, sessions: int, contest: Contest) -> None:
         thread.join()
 
 
-def served(
+def serve_contest(
     tournament: str, port: int, sessions: int, prefix: str, course: ServeOptions
 ) -> None:
     """Serves a contest: writes its replays, and prints its table. The files must be

@@ -13,12 +13,13 @@ PLAINEST = 0
 Step = Callable[[Any, Dict[str, Any]], Tuple[Any, Dict[str, Any]]]
 
 
-class NotPlain(TypeError):
+class NotPlainError(TypeError):
     """A memory that holds something else than plain values."""
 
 
 def is_step(function: Callable[..., Any]) -> bool:
-    """Whether a function is a step: its first parameters are `memory` and `reply`."""
+    """Returns whether a function is a step: its first parameters are `memory` and
+    `reply`."""
     return list(inspect.signature(function).parameters)[:2] == PARAMETERS
 
 
@@ -39,7 +40,7 @@ def check(value: Any) -> None:
     if value is None or kind in SIMPLE:
         return
     if kind not in (tuple, list, dict):
-        raise NotPlain(
+        raise NotPlainError(
             f"its memory holds {value!r}, of type {kind.__name__}: hold None, True, False, numbers, texts, "
             "and tuples, lists and dicts of these"
         )
@@ -50,8 +51,8 @@ def check(value: Any) -> None:
 def fresh(step: Step) -> Step:
     """A step that is given, and gives, fresh memories."""
 
-    def taken(memory: Any, reply: Dict[str, Any]) -> Tuple[Any, Dict[str, Any]]:
+    def take(memory: Any, reply: Dict[str, Any]) -> Tuple[Any, Dict[str, Any]]:
         after, command = step(memory, reply)
         return memory_of(name_of(after)), command
 
-    return taken
+    return take

@@ -7,14 +7,14 @@ import tempfile
 from typing import Any, Dict, Optional, Sequence
 
 from arena_lab.play.matches import PlayedMatch
-from arena_lab.rules.engines import judged
+from arena_lab.rules.engines import program_verdict
 from arena_lab.rules.model import Verdict
 
 
 @dataclasses.dataclass(frozen=True)
 class Summary:
-    """The verdict, how many commands were used, the length of the log, the SHA-256 of
-    the replay, and what is said of agents that have a fault."""
+    """The summary of a match: verdict, number of commands, length of the log, SHA-256
+    of the replay, and faults of agents."""
 
     verdict: Verdict
     commands: int = 0
@@ -31,22 +31,22 @@ class Summary:
         }
 
 
-def verdict_by(program: Optional[str], played: PlayedMatch) -> Verdict:
+def verdict_by(program: Optional[str], match: PlayedMatch) -> Verdict:
     """The verdict of the engine that played: the program, or the Python model."""
     if program is None:
-        return played.verdict()
+        return match.verdict()
     with tempfile.NamedTemporaryFile(suffix=".jsonl") as file:
-        file.write(played.replay)
+        file.write(match.replay)
         file.flush()
-        return judged(program, pathlib.Path(file.name))
+        return program_verdict(program, pathlib.Path(file.name))
 
 
-def summary_of(played: PlayedMatch, program: Optional[str]) -> Summary:
+def summary_of(match: PlayedMatch, program: Optional[str]) -> Summary:
     """The record of a match that was played."""
     return Summary(
-        verdict_by(program, played),
-        sum(agent.used for agent in played.match.agents),
-        len(played.match.log),
-        hashlib.sha256(played.replay).hexdigest(),
-        played.faults,
+        verdict_by(program, match),
+        sum(agent.used for agent in match.match.agents),
+        len(match.match.log),
+        hashlib.sha256(match.replay).hexdigest(),
+        match.faults,
     )

@@ -3,7 +3,7 @@ import pathlib
 from typing import Callable, Dict, List, NamedTuple, Optional, Sequence
 
 from arena_lab.play.agent_files import (
-    NoAgent,
+    AgentError,
     Script,
     digests,
     function_of,
@@ -23,18 +23,18 @@ from arena_lab.play.programs import Team as Outside
 from arena_lab.play.steps import Step, is_step
 from arena_lab.play.wasm_modules import is_module
 from arena_lab.rules import draws
-from arena_lab.rules.fixtures import Fixture, NoMatch, fixture_of
-from arena_lab.rules.limits import MOST_AGENTS, SMALL_BOARD, SMALL_QUOTA
+from arena_lab.rules.fixtures import Fixture, MatchError, fixture_of
+from arena_lab.rules.limits import MAX_AGENTS, SMALL_BOARD, SMALL_QUOTA
 from arena_lab.rules.model import Place, Setup
-from arena_lab.rules.networks import Network, NoNetwork
+from arena_lab.rules.networks import Network, NetworkError
 
 INSIDE = "agent"
 OUTSIDE = "command"
-# what a match has if nothing else is asked for
+# default settings of a match
 QUOTA = SMALL_QUOTA
 BOARD = SMALL_BOARD
 NETWORK = "ring:8"
-NAPS = 2
+SPURIOUS_WAKEUPS = 2
 # how many numberings of ports every schedule is tried with, if they are drawn, and
 # among how many draws these are looked for
 NUMBERINGS = 16
@@ -42,8 +42,7 @@ DRAWS = 128
 
 
 class AgentWords(NamedTuple):
-    """How one agent is played: inside the lab or by a program of its own, and the words
-    that name it."""
+    """How to play one agent: kind (inside the lab or as a program) and words."""
 
     kind: str
     words: str
@@ -53,18 +52,18 @@ class AgentWords(NamedTuple):
     ground: Callable[[Fixture], Ground] = same_folder
 
     def __repr__(self) -> str:
-        """What it is, and not where it runs: as rows of courses have had it."""
-        named = zip(self._fields[:-1], self[:-1])
-        return f"AgentWords({', '.join(f'{name}={it!r}' for name, it in named)})"
+        """Leaves `ground` out: rows of earlier courses store this text."""
+        fields = zip(self._fields[:-1], self[:-1])
+        return f"AgentWords({', '.join(f'{name}={value!r}' for name, value in fields)})"
 
     def name(self) -> str:
-        """What it is called in a title: its file, or the function that it is."""
+        """Returns its name for titles: the file or the function."""
         words = [
             word.partition(":")[0]
             for word in self.words.split()
             if not word.startswith("{")
         ]
-        named = [
+        file_names = [
             word
             for word in words
             if pathlib.PurePath(word).suffix in (".py", ".sh", ".jar", ".js")
@@ -72,7 +71,7 @@ class AgentWords(NamedTuple):
         return (
             self.words.partition(":")[2]
             if self.function
-            else pathlib.PurePath((named or words or ["?"])[0]).name
+            else pathlib.PurePath((file_names or words or ["?"])[0]).name
         )
 
     def script(self, setup: Setup) -> Script:
@@ -84,15 +83,15 @@ class AgentWords(NamedTuple):
         )
 
     def is_module(self) -> bool:
-        """Whether it runs a WebAssembly module."""
+        """Returns whether it runs a WebAssembly module."""
         return self.kind == OUTSIDE and is_module(self.words)
 
     def is_step(self) -> bool:
-        """Whether it is written as a step."""
+        """Returns whether the agent is a step function."""
         return self.kind == INSIDE and is_step(self.function or function_of(self.words))
 
     def step(self, setup: Setup, modules: OwnModules) -> Step:
-        """An agent that is written as a step, in this match and among these modules."""
+        """Returns the agent's step function for this match."""
         return (
             loaded_function(self.function, setup, modules)
             if self.function
@@ -103,7 +102,7 @@ class AgentWords(NamedTuple):
         """The SHA-256 of each file that the agent is made of."""
         if self.function:
             return {self.words: source_digest(self.function)}
-        # each agent inside has a client, also one whose file does not import it
+        # every agent inside the lab has a client, whether its file imports it or not
         return (
             digests([self.words], True, ["client"])
             if self.kind == INSIDE
@@ -118,8 +117,8 @@ def agent_named(kind: str, words: str) -> AgentWords:
 
 
 def modules_of(agents: Sequence[AgentWords]) -> List[str]:
-    """The words of the modules that the agents of a team run: one if all run the same,
-    or else one for each agent. None if an agent runs no module."""
+    """Returns the module words of a team: one word if all agents run the same module,
+    else one per agent. [] if an agent runs no module."""
     if not all(agent.is_module() for agent in agents):
         return []
     words = [agent.words for agent in agents]
@@ -127,7 +126,7 @@ def modules_of(agents: Sequence[AgentWords]) -> List[str]:
 
 
 def digests_of(agents: Sequence[AgentWords]) -> Dict[str, str]:
-    """The SHA-256 of each file that some of the agents are made of."""
+    """Returns the SHA-256 of each file of the agents."""
     return {
         name: digest
         for agent in dict.fromkeys(agents)
@@ -135,21 +134,21 @@ def digests_of(agents: Sequence[AgentWords]) -> Dict[str, str]:
     }
 
 
-def filled(
-    named: Sequence[AgentWords], wanted: Optional[int] = None
+def fill_team(
+    agents: Sequence[AgentWords], count: Optional[int] = None
 ) -> List[AgentWords]:
-    """The agents of a team: one that is named stands for all. They are two if it is not
-    said how many."""
-    wanted = (2 if len(named) == 1 else len(named)) if wanted is None else wanted
-    if not 1 <= wanted <= MOST_AGENTS:
-        raise NoMatch(f"a match has 1 to {MOST_AGENTS} agents, and not {wanted}")
-    if len(named) not in (1, wanted):
-        raise NoAgent(f"{len(named)} agents are named, and the match has {wanted}")
-    return list(named) * wanted if len(named) == 1 else list(named)
+    """Returns `count` agents (default: two, or one per named agent); a single named
+    agent is repeated."""
+    count = (2 if len(agents) == 1 else len(agents)) if count is None else count
+    if not 1 <= count <= MAX_AGENTS:
+        raise MatchError(f"a match has 1 to {MAX_AGENTS} agents, and not {count}")
+    if len(agents) not in (1, count):
+        raise AgentError(f"{len(agents)} agents are named, and the match has {count}")
+    return list(agents) * count if len(agents) == 1 else list(agents)
 
 
 def grounds_of(agents: Sequence[AgentWords], fixture: Fixture) -> Dict[int, Ground]:
-    """Where the programs of a team run in a match, by the numbers of their agents."""
+    """Returns the grounds of a team's programs in a match, by agent number."""
     return {
         number: agent.ground(fixture)
         for number, agent in enumerate(agents)
@@ -158,7 +157,7 @@ def grounds_of(agents: Sequence[AgentWords], fixture: Fixture) -> Dict[int, Grou
 
 
 class Together:
-    """A team of players inside the lab and outside."""
+    """A team with players inside the lab and programs."""
 
     def __init__(
         self, agents: Sequence[AgentWords], fixture: Fixture, seconds: float
@@ -193,8 +192,8 @@ class Together:
 def alone(
     number: int, agent: AgentWords, again: Fixture, fixture: Fixture, seconds: float
 ) -> Team:
-    """A team of one agent of a match, which plays with the keys of `again`, and has the
-    chance that it had before."""
+    """Returns a team with a single agent of a match, with the keys of `again` and the
+    seed of the original match."""
     seeds = seeds_of(fixture)
     if agent.kind == INSIDE:
         script = agent.script(again.setup)
@@ -213,10 +212,9 @@ class Matches(NamedTuple):
 
 
 class Game(NamedTuple):
-    """What is played, as far as a seed does not choose it: a network by its name, a
-    team, and what destroys; if nothing does, each seed has a black hole of its own. A
-    seed also chooses a home base if none is named, and ports if they are drawn. Or else
-    the match of a tournament."""
+    """The settings of matches except those that seeds draw: network, team, and black
+    holes or dark links. Without these a seed draws a black hole, and also the home base
+    and the ports if they are drawn. A tournament's match is a game, too."""
 
     name: str
     network: Network
@@ -226,7 +224,7 @@ class Game(NamedTuple):
     dark: Sequence[Place] = ()
     quota: int = QUOTA
     board: int = BOARD
-    naps: int = NAPS
+    naps: int = SPURIOUS_WAKEUPS
     limit: float = LIMIT
     match: Optional[Fixture] = None
     origin: str = ""
@@ -236,21 +234,23 @@ class Game(NamedTuple):
         """The match of a seed."""
         if self.match:
             return self.match._replace(naps=self.naps)
-        left = draws.Open(self.home if home is None else home, ports=self.ports)
+        draw_settings = draws.Open(
+            self.home if home is None else home, ports=self.ports
+        )
         try:
-            found = draws.of_number(self.network, seed, left)
-        except NoNetwork as fault:
-            raise NoNetwork(f"{self.name}: {fault}") from None
+            match = draws.of_number(self.network, seed, draw_settings)
+        except NetworkError as fault:
+            raise NetworkError(f"{self.name}: {fault}") from None
         if self.holes or self.dark:
-            found = found._replace(holes=sorted(self.holes))
-        setup = found.setup(len(self.agents), self.quota, self.board, self.dark)
+            match = match._replace(holes=sorted(self.holes))
+        setup = match.setup(len(self.agents), self.quota, self.board, self.dark)
         return fixture_of(setup, seed)._replace(naps=self.naps)
 
     def where(self) -> str:
-        """Where it is played, as origins of schedules say it."""
+        """Returns the settings of the game as text for the origin of schedules."""
         return self.origin if self.match else f" on {self.name}"
 
-    def fixed(self) -> List["Game"]:
+    def drawn_games(self) -> List["Game"]:
         """A game for each home base and numbering of ports that is drawn; each has every
         black hole."""
         if self.match:
@@ -263,10 +263,10 @@ class Game(NamedTuple):
             seeds += draws.numberings(self.network, NUMBERINGS, range(DRAWS))
         else:
             seeds.append(self.ports)
-        named = "" if self.home is not None else ", home {}"
+        title_form = "" if self.home is not None else ", home {}"
         return [
             self._replace(
-                name=self.name + draws.said_of(seed) + named.format(home),
+                name=self.name + draws.ports_text(seed) + title_form.format(home),
                 home=home,
                 ports=seed,
             )
@@ -287,5 +287,5 @@ class Game(NamedTuple):
         return Matches(self.agents, self.fixtures(), self.limit)
 
     def is_fixed(self) -> bool:
-        """Whether all seeds have the same black hole."""
+        """Returns whether all seeds have the same black hole."""
         return bool(self.match or self.holes or self.dark)

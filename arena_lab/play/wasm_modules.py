@@ -9,11 +9,13 @@ The whole numbers behind the colon are the module's arguments. {nodes}, {links} 
 import re
 import shlex
 
-from arena_lab.play.agent_files import NoAgent, facts_of, file_of
+from arena_lab.play.agent_files import AgentError, facts_of, file_of
 from arena_lab.rules.model import Setup
 from arena_lab.support import built
 
 ENDING = ".wasm"
+# in a match of the lab a sleeping module wakes again and again, as programs do
+WAKEUPS = 2**32 - 1
 # what to change in a file that is no module of agents, by the fault that the program
 # tells: the last column of the table of docs/FORMATS.md
 ADVICE = {
@@ -48,7 +50,7 @@ _FAULT = re.compile(
 
 
 def is_module(words: str) -> bool:
-    """Whether the words of an agent name a module."""
+    """Returns whether the words of an agent name a module."""
     return file_in(words).endswith(ENDING) and len(shlex.split(words)) == 1
 
 
@@ -73,6 +75,8 @@ def command_of(words: str) -> str:
             "{host}",
             "{port}",
             "{key}",
+            "--spurious-wakeups",
+            str(WAKEUPS),
             "--module",
             word,
         ]
@@ -80,23 +84,22 @@ def command_of(words: str) -> str:
 
 
 def arguments_in(words: str) -> str:
-    """What stands behind a module's file: nothing, or a colon and its arguments."""
+    """Returns the arguments behind a module's file: "" or a colon and the arguments."""
     return shlex.split(words)[0][len(file_in(words)) :]
 
 
 def word_of(words: str, setup: Setup) -> str:
-    """A module's word as it is said of a match, which names the file from any
-    folder."""
+    """Returns a module's word for a match, with an absolute file name."""
     try:
         numbers = arguments_in(words).format(**facts_of(setup))
     except (KeyError, IndexError, ValueError):
-        raise NoAgent(
+        raise AgentError(
             f"{words}: behind the colon stand whole numbers, {{nodes}}, {{links}} or {{home}}"
         ) from None
     return f"{file_of(file_in(words)).absolute()}{numbers}"
 
 
 def with_advice(fault: str) -> str:
-    """A fault that the program told, with what to change if it is about a module."""
-    found = _FAULT.search(fault)
-    return f"{fault}: {ADVICE[found[1]]}" if found else fault
+    """Appends advice to a program fault about a module."""
+    match = _FAULT.search(fault)
+    return f"{fault}: {ADVICE[match[1]]}" if match else fault

@@ -25,14 +25,14 @@ def rotate(x: int, k: int) -> int:
 
 
 def quarter(s: List[int], a: int, b: int, c: int, d: int) -> None:
-    for left, other, target, k in (
+    for a_index, b_index, target, k in (
         (a, b, d, 16),
         (c, d, b, 12),
         (a, b, d, 8),
         (c, d, b, 7),
     ):
-        s[left] = (s[left] + s[other]) & MASK
-        s[target] = rotate(s[target] ^ s[left], k)
+        s[a_index] = (s[a_index] + s[b_index]) & MASK
+        s[target] = rotate(s[target] ^ s[a_index], k)
 
 
 @functools.lru_cache(maxsize=256)
@@ -50,9 +50,9 @@ def block(seed: bytes, stream: int, counter: int) -> Sequence[int]:
     return tuple((x + y) & MASK for x, y in zip(s, start))
 
 
-def word(seed: bytes, stream: int, place: int) -> int:
-    place %= WORDS_OF_A_STREAM
-    return block(seed, stream, place // WORDS_OF_A_BLOCK)[place % WORDS_OF_A_BLOCK]
+def word(seed: bytes, stream: int, index: int) -> int:
+    index %= WORDS_OF_A_STREAM
+    return block(seed, stream, index // WORDS_OF_A_BLOCK)[index % WORDS_OF_A_BLOCK]
 
 
 def turn_word(seed: bytes, match: int, turn: int) -> int:
@@ -68,8 +68,8 @@ def delay_word(seed: bytes, match: int, agent: int, turn: int) -> int:
 
 def show(seed: bytes, stream: int, places: Sequence[int]) -> None:
     print(f"seed {seed[:1].hex()}.. stream {stream}")
-    for place in places:
-        print(f"  {place}: 0x{word(seed, stream, place):08x}")
+    for index in places:
+        print(f"  {index}: 0x{word(seed, stream, index):08x}")
 
 
 if __name__ == "__main__":

@@ -9,19 +9,19 @@ ADAPTIVE = "adaptive"
 OBLIVIOUS = "oblivious"
 SCALES = 10
 ODDS = 32
-# seconds before each turn of a contest, if nothing else is said
+# default seconds before each turn of a contest
 PAUSE = 0.005
 
 
 class Delays(NamedTuple):
-    """Of `odds` words, one for each of the `scales` gives a delay of 2 to the scale
-    turns, or up to twice as many."""
+    """The delays of the oblivious schedule: one of `odds` draws for each scale gives a
+    delay of 2**scale turns up to twice as many."""
 
     scales: int
     odds: int
 
     def by_word(self, word: int) -> int:
-        """How many turns a link takes by this word."""
+        """Returns how many turns a link takes by this word."""
         scale = word % self.odds
         return (
             (1 << scale) + word // self.odds % (1 << scale)
@@ -31,9 +31,9 @@ class Delays(NamedTuple):
 
 
 class Turns:
-    """The turns of a match. Under the adaptive schedule, which has no delays, each turn
-    picks one of the agents on links. Under the oblivious one it picks any agent, which
-    may arrive if it is on a link and has been there for its delay."""
+    """The turns of a match. The adaptive schedule has no delays, and each turn picks an
+    agent on a link. The oblivious schedule picks any agent, and delivers it if it is on
+    a link and its delay is over."""
 
     def __init__(self, delays: Optional[Delays], seed: str, match: int) -> None:
         self.turn = 0

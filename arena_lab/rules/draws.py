@@ -12,9 +12,9 @@ import re
 from typing import Iterable, List, NamedTuple, Optional, Sequence, Union
 
 from arena_lab.rules.model import Place, Setup
-from arena_lab.rules.networks import Network, NoNetwork, places_into
+from arena_lab.rules.networks import Network, NetworkError, places_into
 
-# what is drawn for each match, and ports that stay as the network has them
+# values of --ports and --home: drawn for each match, or as in the network
 DRAWN = "drawn"
 GIVEN = "given"
 # the bits of a seed by which ports are numbered, where a secret draws it
@@ -22,26 +22,24 @@ SECRET_BITS = 128
 PORTS_ARE = (
     f'"{GIVEN}", "{DRAWN}", or "shuffled:SEED" with a whole number, such as shuffled:3'
 )
-# `DRAWN`; or the seed by which ports are numbered alike in all matches; or None, by which
-# they stay as the network has them
+# `DRAWN`, or the seed of one numbering for all matches, or None for the network's own
+# numbering
 Ports = Union[None, int, str]
 
 
 class Open(NamedTuple):
-    """What is left open for each match: the home base unless it is named, how many
-    black holes there are, the ports unless they are named, and at how many nodes nobody
-    arrives although nothing destroys there."""
+    """The settings left to draws: home base, number of black holes, ports, and the
+    number of nodes at which nobody arrives although nothing destroys there."""
 
     home: Optional[int] = None
     holes: int = 1
     ports: Ports = DRAWN
-    closed: int = 0
+    closed_pairs: int = 0
 
 
-class Drawn(NamedTuple):
-    """What was drawn of a match: its network with its ports, its home base, and its
-    black holes. `held` are the places of links over which nobody arrives, and `ports`
-    is the seed of the numbers, or None."""
+class DrawnMatch(NamedTuple):
+    """A drawn match: network with ports, home base and black holes. `held` are link
+    ends over which nobody arrives; `ports` is the seed of the numbering, or None."""
 
     network: Network
     home: int
@@ -58,35 +56,47 @@ class Drawn(NamedTuple):
         )
 
 
-def drawn(
-    network: Network, chance: random.Random, left: Open = Open(), bits: int = 64
-) -> Drawn:
+def draw_match(
+    network: Network, rng: random.Random, draw_settings: Open = Open(), bits: int = 64
+) -> DrawnMatch:
     """Draws a match on a network."""
-    home = chance.choice(range(network.nodes)) if left.home is None else left.home
-    nodes = sampled(network, home, left.holes + left.closed, chance)
-    seed = ports_seed(left.ports, chance, bits)
-    made = numbered(network, seed)
-    held = places_into(made.links, nodes[left.holes :])
-    return Drawn(made, home, sorted(nodes[: left.holes]), seed, held)
+    home = (
+        rng.choice(range(network.nodes))
+        if draw_settings.home is None
+        else draw_settings.home
+    )
+    nodes = sample_nodes(
+        network, home, draw_settings.holes + draw_settings.closed_pairs, rng
+    )
+    seed = ports_seed(draw_settings.ports, rng, bits)
+    numbered = renumber(network, seed)
+    held_links = places_into(numbered.links, nodes[draw_settings.holes :])
+    return DrawnMatch(
+        numbered, home, sorted(nodes[: draw_settings.holes]), seed, held_links
+    )
 
 
 def ports_seed(
-    ports: Ports, chance: random.Random, bits: int = SECRET_BITS
+    ports: Ports, rng: random.Random, bits: int = SECRET_BITS
 ) -> Optional[int]:
     """The seed by which ports are numbered, if they are not the network's own."""
-    return chance.getrandbits(bits) if isinstance(ports, str) else ports
+    return rng.getrandbits(bits) if isinstance(ports, str) else ports
 
 
-def of_number(network: Network, number: int, left: Open = Open()) -> Drawn:
+def of_number(
+    network: Network, number: int, draw_settings: Open = Open()
+) -> DrawnMatch:
     """The match of a number. Numbers take the nodes as black holes one after the other,
     and as home bases too; each has ports of its own."""
-    home = number % network.nodes if left.home is None else left.home
+    home = number % network.nodes if draw_settings.home is None else draw_settings.home
     if not 0 <= home < network.nodes:
-        raise NoNetwork(f"it has no node {home} for a home base")
-    others = others_than(home, network)
-    seed = number if isinstance(left.ports, str) else left.ports
-    made = numbered(network, seed)
-    return Drawn(made, home, [others[number % len(others)]], seed)
+        raise NetworkError(f"it has no node {home} for a home base")
+    other_nodes = others_than(home, network)
+    seed = number if isinstance(draw_settings.ports, str) else draw_settings.ports
+    numbered_network = renumber(network, seed)
+    return DrawnMatch(
+        numbered_network, home, [other_nodes[number % len(other_nodes)]], seed
+    )
 
 
 def others_than(home: int, network: Network) -> List[int]:
@@ -94,54 +104,54 @@ def others_than(home: int, network: Network) -> List[int]:
     return [node for node in range(network.nodes) if node != home]
 
 
-def sampled(
-    network: Network, home: int, count: int, chance: random.Random
+def sample_nodes(
+    network: Network, home: int, count: int, rng: random.Random
 ) -> List[int]:
     """This many nodes, each of which may be the black hole, in an order that is
     drawn."""
-    others = others_than(home, network)
-    if count > len(others):
-        raise NoNetwork(f"only {len(others)} nodes can be the black hole")
-    return chance.sample(others, count)
+    other_nodes = others_than(home, network)
+    if count > len(other_nodes):
+        raise NetworkError(f"only {len(other_nodes)} nodes can be the black hole")
+    return rng.sample(other_nodes, count)
 
 
-def numbered(network: Network, seed: Optional[int]) -> Network:
+def renumber(network: Network, seed: Optional[int]) -> Network:
     """The network with the ports of each node numbered anew by a seed, if there is
     one."""
     if seed is None:
         return network
-    chance = random.Random(seed)
+    rng = random.Random(seed)
     labels = [list(range(degree)) for degree in network.degrees()]
     for row in labels:
-        chance.shuffle(row)
+        rng.shuffle(row)
     return Network(
         network.nodes,
         [(v, labels[v][p], w, labels[w][q]) for v, p, w, q in network.links],
     )
 
 
-def numberings(network: Network, most: int, among: Iterable[int]) -> List[int]:
+def numberings(network: Network, limit: int, among: Iterable[int]) -> List[int]:
     """Seeds of numberings that differ, of which a ring of four has 16."""
-    found = {repr(numbered(network, seed).links): seed for seed in among}
-    return sorted(found.values())[:most]
+    seeds_by_links = {repr(renumber(network, seed).links): seed for seed in among}
+    return sorted(seeds_by_links.values())[:limit]
 
 
 def ports_of(word: str) -> Ports:
     """The numbers of ports that a word names."""
-    found = re.fullmatch(r"shuffled:(\d+)", word)
-    if not found and word not in (DRAWN, GIVEN):
-        raise NoNetwork(f"{word}: ports are {PORTS_ARE}")
-    return int(found[1]) if found else DRAWN if word == DRAWN else None
+    match = re.fullmatch(r"shuffled:(\d+)", word)
+    if not match and word not in (DRAWN, GIVEN):
+        raise NetworkError(f"{word}: ports are {PORTS_ARE}")
+    return int(match[1]) if match else DRAWN if word == DRAWN else None
 
 
-def said_of(ports: Optional[int]) -> str:
+def ports_text(ports: Optional[int]) -> str:
     """How ports are numbered, behind the name of a network."""
     return "" if ports is None else f" with ports shuffled:{ports}"
 
 
 def keys_of(number: object, agents: int) -> List[str]:
-    """The keys of a match that nobody is to be kept from, by its number. Programs have
-    their chance from them."""
+    """Returns the public keys of a match by its number; programs derive their seeds
+    from them."""
     return [
         f"k{agent}-{hashlib.sha256(f'{number} {agent}'.encode()).hexdigest()[:8]}"
         for agent in range(agents)

@@ -9,10 +9,10 @@ from typing import IO, Iterable, List, Optional, Protocol, cast
 from arena_lab.rules.fixtures import Fixture, write_tournament
 from arena_lab.rules.model import Match, Verdict
 from arena_lab.rules.printed import verdict_in
-from arena_lab.rules.rehearsal import Rehearsal, Said
+from arena_lab.rules.rehearsal import Rehearsal, SentLine
 from arena_lab.support import built
-from arena_lab.support.built import NoProgram
-from arena_lab.support.faults import Fault
+from arena_lab.support.built import ProgramError
+from arena_lab.support.faults import ArenaError
 
 TOP = built.TOP
 HOW_TO_BUILD = (
@@ -31,16 +31,16 @@ class Engine(Protocol):
     match: Match
     script: List[bytes]
 
-    def feed(self, number: int, line: bytes) -> List[Said]:
+    def feed(self, number: int, line: bytes) -> List[SentLine]:
         ...
 
-    def end(self, number: int) -> List[Said]:
+    def end(self, number: int) -> List[SentLine]:
         ...
 
-    def draw(self, word: int) -> List[Said]:
+    def draw(self, word: int) -> List[SentLine]:
         ...
 
-    def close(self) -> List[Said]:
+    def close(self) -> List[SentLine]:
         ...
 
     def replay(self) -> bytes:
@@ -51,18 +51,17 @@ class Engine(Protocol):
 
 
 def text_of_fault(errors: bytes) -> str:
-    """What the program says of a fault. One without a proof says that before, which is
-    left out."""
+    """Returns the program's error text, without the warning of an unproved build."""
     return built.without_warning(errors.decode(errors="replace")).strip()
 
 
-class Differs(Fault):
+class EnginesDifferError(ArenaError):
     """The program and the Python model do not agree."""
 
     status = 1
 
 
-class EngineRefused(Fault):
+class EngineRefusedError(ArenaError):
     """The program refused; its line and its status."""
 
     def __init__(self, line: str, status: int) -> None:
@@ -71,40 +70,40 @@ class EngineRefused(Fault):
 
 
 def program_at(path: Optional[str], modules: Iterable[str] = ()) -> str:
-    """The program that is named, or else the proved one if it is built, or else one
-    without a proof, which is compiled first, unless modules that are needed are
-    missing. One that is not proved is told on standard error."""
-    found = pathlib.Path(path or built.any_program(modules))
-    if not found.is_file() or not os.access(found, os.X_OK):
-        raise NoProgram(f"{found}: there is no such program: {HOW_TO_BUILD}")
-    built.warn_of(found.resolve())
-    return str(found.resolve())
+    """Returns the named program, else the proved one if it is built, else the unproved
+    one, which is compiled first. Raises MissingPackageError before a compilation if
+    `modules` are missing. Prints a warning if the program is unproved."""
+    program_path = pathlib.Path(path or built.any_program(modules))
+    if not program_path.is_file() or not os.access(program_path, os.X_OK):
+        raise ProgramError(f"{program_path}: there is no such program: {HOW_TO_BUILD}")
+    built.warn_of(program_path.resolve())
+    return str(program_path.resolve())
 
 
 BY_MODEL = "the Python model, of which nothing is proved"
 # all names of what plays
-NAMES = (BY_MODEL, built.PROGRAM, built.UNPROVED, built.UNKNOWN)
+NAMES = (BY_MODEL, built.PROGRAM, built.UNPROVED_NAME, built.UNKNOWN)
 
 
 def name_of(program: Optional[str]) -> str:
-    """What plays, in the words of all that the lab says and writes."""
+    """Returns the name of the engine for reports and records."""
     return BY_MODEL if program is None else built.name_of(pathlib.Path(program))
 
 
-def asked(program: str, *words: str) -> str:
-    """What the program prints for these words."""
-    ran = subprocess.run(
+def program_output(program: str, *words: str) -> str:
+    """Runs the program with these arguments and returns its output."""
+    result = subprocess.run(
         [program, *words], stdin=subprocess.DEVNULL, capture_output=True
     )
-    if ran.returncode != 0:
-        raise EngineRefused(text_of_fault(ran.stderr), ran.returncode)
-    return ran.stdout.decode()
+    if result.returncode != 0:
+        raise EngineRefusedError(text_of_fault(result.stderr), result.returncode)
+    return result.stdout.decode()
 
 
-def judged(program: str, replay: pathlib.Path) -> Verdict:
+def program_verdict(program: str, replay: pathlib.Path) -> Verdict:
     """The program's verdict on a replay, which it prints as `guess 1 moves 0 lost
     0`."""
-    return verdict_in(asked(program, "judge", str(replay)))
+    return verdict_in(program_output(program, "judge", str(replay)))
 
 
 class Program:
@@ -140,27 +139,29 @@ class Program:
             start_new_session=True,
         )
 
-    def feed(self, number: int, line: bytes) -> List[Said]:
+    def feed(self, number: int, line: bytes) -> List[SentLine]:
         return self._play(self._beside.feed(number, line))
 
-    def end(self, number: int) -> List[Said]:
+    def end(self, number: int) -> List[SentLine]:
         return self._play(self._beside.end(number))
 
-    def draw(self, word: int) -> List[Said]:
+    def draw(self, word: int) -> List[SentLine]:
         return self._play(self._beside.draw(word))
 
-    def close(self) -> List[Said]:
+    def close(self) -> List[SentLine]:
         return self._play(self._beside.close())
 
     def replay(self) -> bytes:
         """The replay that the program writes, which ends the rehearsal."""
         _, errors = self._child.communicate()
         if self._child.returncode != 0:
-            raise EngineRefused(text_of_fault(errors), self._child.returncode)
-        written = (pathlib.Path(self._folder.name) / "match0.jsonl").read_bytes()
-        if written != self._beside.replay():
-            raise Differs("the program and the Python model write other replays")
-        return written
+            raise EngineRefusedError(text_of_fault(errors), self._child.returncode)
+        data = (pathlib.Path(self._folder.name) / "match0.jsonl").read_bytes()
+        if data != self._beside.replay():
+            raise EnginesDifferError(
+                "the program and the Python model write other replays"
+            )
+        return data
 
     def stop(self) -> None:
         """Ends the program, and drops its files."""
@@ -169,34 +170,39 @@ class Program:
         self._child.communicate()
         self._folder.cleanup()
 
-    def _play(self, expected: List[Said]) -> List[Said]:
+    def _play(self, expected_lines: List[SentLine]) -> List[SentLine]:
         """Gives the last line of the script to the program, whose answer is to be what
         the model's is."""
         line = self.script[-1]
         answer = self._answer(line)
-        wanted = "".join(f"{number} {text}\n" for number, text in expected).encode()
-        if answer != wanted:
-            raise Differs(
+        expected_output = "".join(
+            f"{number} {text}\n" for number, text in expected_lines
+        ).encode()
+        if answer != expected_output:
+            raise EnginesDifferError(
                 f"line {len(self.script)} of the script, {line!r}: the program says {answer!r}, the Python "
-                f"model {wanted!r}"
+                f"model {expected_output!r}"
             )
-        return expected
+        return expected_lines
 
     def _answer(self, line: bytes) -> bytes:
-        """What the program prints for a line, up to the empty line behind it."""
+        """Sends a line to the program and returns its output up to the next empty
+        line."""
         answer = self._left
-        given = cast(IO[bytes], self._child.stdin)
-        taken = cast(IO[bytes], self._child.stdout)
+        child_input = cast(IO[bytes], self._child.stdin)
+        child_output = cast(IO[bytes], self._child.stdout)
         try:
-            given.write(line + b"\n")
-            given.flush()
+            child_input.write(line + b"\n")
+            child_input.flush()
             while not (answer.startswith(b"\n") or b"\n\n" in answer):
-                piece = os.read(taken.fileno(), 65_536)
+                piece = os.read(child_output.fileno(), 65_536)
                 if not piece:
                     raise BrokenPipeError
                 answer += piece
         except BrokenPipeError:
             _, errors = self._child.communicate()
-            raise EngineRefused(text_of_fault(errors), self._child.returncode) from None
+            raise EngineRefusedError(
+                text_of_fault(errors), self._child.returncode
+            ) from None
         answer, _, self._left = (b"\n" + answer).partition(b"\n\n")
         return answer[1:] + (b"\n" if answer else b"")

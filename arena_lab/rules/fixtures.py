@@ -7,9 +7,9 @@ from typing import Any, Dict, Iterable, List, NamedTuple, Optional, Sequence, Se
 from arena_lab.rules import draws, networks
 from arena_lab.rules.delays import OBLIVIOUS, Delays
 from arena_lab.rules.limits import (
-    MOST_AGENTS,
-    MOST_BOARD,
-    MOST_QUOTA,
+    MAX_AGENTS,
+    MAX_BOARD,
+    MAX_QUOTA,
     SMALL_BOARD,
     SMALL_QUOTA,
 )
@@ -29,7 +29,7 @@ MATCH_KEYS = {
 }
 # the first version that refuses unknown keys
 STRICT = 3
-# the team of a match that has none
+# name of a team without a name
 OWN_TEAM = "lab"
 
 
@@ -45,71 +45,73 @@ class Fixture(NamedTuple):
     naps: int = 0
 
 
-class NoMatch(networks.NoNetwork):
+class MatchError(networks.NetworkError):
     """No match is set up so; says why."""
 
 
-def twice(found: Sequence[Any]) -> List[Any]:
-    """What stands more than once."""
-    return [one for place, one in enumerate(found) if one in found[:place]]
+def twice(items: Sequence[Any]) -> List[Any]:
+    """Returns the items that occur more than once."""
+    return [item for index, item in enumerate(items) if item in items[:index]]
 
 
-def checked(setup: Setup) -> Setup:
+def check_setup(setup: Setup) -> Setup:
     """A setup, if the program takes it. Whether its links make a network is not asked
     here."""
     ports = {(v, p): (w, q) for v, p, w, q in setup.links} | {
         (w, q): (v, p) for v, p, w, q in setup.links
     }
-    unknown = [place for place in setup.dark if place not in ports]
-    ends = [min(place, ports.get(place, place)) for place in setup.dark]
-    if not 1 <= setup.agents <= MOST_AGENTS:
-        raise NoMatch(f"a match has 1 to {MOST_AGENTS} agents, and not {setup.agents}")
-    if not 1 <= setup.quota <= MOST_QUOTA:
-        raise NoMatch(
-            f"an agent has 1 to {MOST_QUOTA} commands, and not {setup.quota}: name another number by --quota"
+    unknown = [link_end for link_end in setup.dark if link_end not in ports]
+    ends = [min(link_end, ports.get(link_end, link_end)) for link_end in setup.dark]
+    if not 1 <= setup.agents <= MAX_AGENTS:
+        raise MatchError(
+            f"a match has 1 to {MAX_AGENTS} agents, and not {setup.agents}"
         )
-    if not 0 <= setup.board <= MOST_BOARD:
-        raise NoMatch(
-            f"a whiteboard has 0 to {MOST_BOARD} bytes, and not {setup.board}: name another number by "
+    if not 1 <= setup.quota <= MAX_QUOTA:
+        raise MatchError(
+            f"an agent has 1 to {MAX_QUOTA} commands, and not {setup.quota}: name another number by --quota"
+        )
+    if not 0 <= setup.board <= MAX_BOARD:
+        raise MatchError(
+            f"a whiteboard has 0 to {MAX_BOARD} bytes, and not {setup.board}: name another number by "
             "--board"
         )
     if any(
         not 0 <= node < setup.nodes for v, _, w, _ in setup.links for node in (v, w)
     ):
-        raise NoMatch(
+        raise MatchError(
             f"a link has an end that does not exist: nodes are 0 to {setup.nodes - 1}"
         )
     if not 0 <= setup.home < setup.nodes:
-        raise NoMatch(
+        raise MatchError(
             f"the home base {setup.home} does not exist: nodes are 0 to {setup.nodes - 1}"
         )
     if any(hole == setup.home or not 0 <= hole < setup.nodes for hole in setup.holes):
-        raise NoMatch(
+        raise MatchError(
             f"black holes are nodes from 0 to {setup.nodes - 1} other than the home base {setup.home}"
         )
     if twice(setup.holes):
-        raise NoMatch(f"node {twice(setup.holes)[0]} is named as a black hole twice")
+        raise MatchError(f"node {twice(setup.holes)[0]} is named as a black hole twice")
     if unknown:
-        raise NoMatch(
+        raise MatchError(
             f"node {unknown[0][0]} has no port {unknown[0][1]}, so no dark link is there"
         )
     if twice(ends):
-        raise NoMatch("a dark link is named twice: name it by one of its ends")
+        raise MatchError("a dark link is named twice: name it by one of its ends")
     return setup
 
 
 def fixture_of(setup: Setup, number: object = None) -> Fixture:
-    """A fixture with keys of its own: those of a number, if there is one."""
+    """Returns a fixture with keys derived from `number`, or with simple keys."""
     keys = [f"k{agent}" for agent in range(setup.agents)]
     return Fixture(
         OWN_TEAM,
-        checked(setup),
+        check_setup(setup),
         keys if number is None else draws.keys_of(number, setup.agents),
     )
 
 
 def enters_as_another(fixture: Fixture, number: int, line: bytes) -> bool:
-    """Whether an agent's line enters with the key of another agent."""
+    """Returns whether an agent's line enters with the key of another agent."""
     key = command_of(text_of(line)).get("key")
     return key in fixture.keys and key != fixture.keys[number]
 
@@ -126,41 +128,41 @@ class Tournament(NamedTuple):
 def read_tournament(path: str) -> Tournament:
     """The tournament of a file, which must be right: ask `arena check`."""
     try:
-        found = tomllib.loads(pathlib.Path(path).read_text(encoding="utf-8"))
-        if found["version"] >= STRICT:
-            for row, known in [
-                (found, FILE_KEYS),
-                *((row, MATCH_KEYS) for row in found["match"]),
+        document = tomllib.loads(pathlib.Path(path).read_text(encoding="utf-8"))
+        if document["version"] >= STRICT:
+            for row, allowed in [
+                (document, FILE_KEYS),
+                *((row, MATCH_KEYS) for row in document["match"]),
             ]:
-                only_known(row, known[found["version"]])
+                only_known(row, allowed[document["version"]])
         fixtures = [
-            fixture_in(row, pathlib.Path(path).parent) for row in found["match"]
+            fixture_in(row, pathlib.Path(path).parent) for row in document["match"]
         ]
-        is_oblivious = found.get("schedule") == OBLIVIOUS
+        is_oblivious = document.get("schedule") == OBLIVIOUS
         return Tournament(
-            seed_in(found),
+            seed_in(document),
             fixtures,
-            Delays(found["delay_scales"], found["delay_odds"])
+            Delays(document["delay_scales"], document["delay_odds"])
             if is_oblivious
             else None,
         )
     except (ValueError, KeyError, TypeError) as fault:
-        raise NoMatch(
+        raise MatchError(
             f"{path}: it is no tournament ({networks.fault_text(fault)}); `arena check` says more"
         ) from None
 
 
-def only_known(row: Object, known: Set[str]) -> None:
+def only_known(row: Object, allowed: Set[str]) -> None:
     """Refuses a table that has another key than these."""
-    for key in sorted(set(row) - known):
+    for key in sorted(set(row) - allowed):
         raise ValueError(
-            f"unknown key {key}: the keys here are {', '.join(sorted(known))}"
+            f"unknown key {key}: the keys here are {', '.join(sorted(allowed))}"
         )
 
 
-def seed_in(found: Object) -> str:
+def seed_in(document: Object) -> str:
     """The seed of a tournament."""
-    seed: str = found["seed"]
+    seed: str = document["seed"]
     if len(bytes.fromhex(seed)) != SEED_BYTES:
         raise ValueError(f"its seed has not {2 * SEED_BYTES} hexadecimal digits")
     return seed
@@ -189,7 +191,7 @@ def fixture_in(row: Dict[str, Any], folder: pathlib.Path) -> Fixture:
     )
     return Fixture(
         row["team"],
-        checked(setup),
+        check_setup(setup),
         row["keys"],
         list(map(place_of, row.get("held", []))),
     )
@@ -230,13 +232,13 @@ def toml_of(value: Any) -> str:
 def tournament_text(
     seed: str, matches: Iterable[Tuple[Fixture, str]], delays: Optional[Delays] = None
 ) -> str:
-    """The file of a tournament: its seed, the delays of the oblivious schedule if it
-    has that one, and its matches with the files of their networks."""
+    """Returns the TOML text of a tournament: seed, optional delays of the oblivious
+    schedule, and matches with network files."""
     rows = list(matches)
     is_old = (
         all(
-            it.setup.quota <= SMALL_QUOTA and it.setup.board <= SMALL_BOARD
-            for it, _ in rows
+            fixture.setup.quota <= SMALL_QUOTA and fixture.setup.board <= SMALL_BOARD
+            for fixture, _ in rows
         )
         and not delays
     )
@@ -247,8 +249,8 @@ def tournament_text(
 
 
 def write_tournament(fixture: Fixture, folder: pathlib.Path) -> pathlib.Path:
-    """Writes a tournament of this one match, tournament.toml with network.toml beside
-    it. The program is to be run in that folder."""
+    """Writes tournament.toml with this one match, and network.toml. The program must be
+    run in that folder."""
     network = networks.Network(fixture.setup.nodes, fixture.setup.links)
     (folder / "network.toml").write_text(networks.text_of(network), encoding="utf-8")
     path = folder / "tournament.toml"
@@ -259,4 +261,4 @@ def write_tournament(fixture: Fixture, folder: pathlib.Path) -> pathlib.Path:
 
 
 def pairs(places: Sequence[Place]) -> List[List[int]]:
-    return [list(place) for place in places]
+    return [list(link_end) for link_end in places]

@@ -18,7 +18,7 @@ from typing import (
     Tuple,
 )
 
-from arena_lab.rules.limits import MOST_LINE, is_small
+from arena_lab.rules.limits import MAX_LINE, is_small
 
 Object = Dict[str, Any]
 Place = Tuple[int, int]
@@ -41,28 +41,28 @@ SHAPES: Dict[str, Dict[str, type]] = {
     "accuse": {"port": int},
     "leave": {},
 }
-# what a client is told last
+# replies after which the connection ends
 LAST = (BYE, NOTED, OVER)
 # a line of more bytes is read as a bad command, and so is one with objects and lists as
 # deep as this
 TOO_DEEP = 128
 # a number of more digits is read as a fraction is
-LONG = 20
+LONG_DIGITS = 20
 
 ENCODER = json.JSONEncoder(sort_keys=True, separators=(",", ":"), ensure_ascii=False)
 
 
-def spelled(value: Any) -> str:
+def spell(value: Any) -> str:
     """JSON as the arena spells it: keys in order, no spaces, characters past ASCII as
     they are."""
     return ENCODER.encode(value)
 
 
 def text_of(line: bytes) -> str:
-    """A line as a text, or an empty one, which is no command, if it is too long or is
-    not UTF-8."""
+    """Decodes a line; returns "" for overlong lines and invalid UTF-8, since no command
+    is empty."""
     try:
-        return line.decode("utf-8") if len(line) <= MOST_LINE else ""
+        return line.decode("utf-8") if len(line) <= MAX_LINE else ""
     except UnicodeDecodeError:
         return ""
 
@@ -88,7 +88,9 @@ def refused_constant(name: str) -> None:
 
 
 def whole(digits: str) -> Any:
-    return int(digits) if len(digits) < LONG and digits != "-0" else finite(digits)
+    return (
+        int(digits) if len(digits) < LONG_DIGITS and digits != "-0" else finite(digits)
+    )
 
 
 DECODER = json.JSONDecoder(
@@ -101,7 +103,7 @@ def value_of(line: str) -> Any:
     Infinity are nothing, and half a surrogate pair is no text."""
     value = DECODER.decode(line)
     if "\\" in line:
-        spelled(value).encode()
+        spell(value).encode()
     if line.count("[") + line.count("{") >= TOO_DEEP and depth(value) >= TOO_DEEP:
         raise ValueError("too deep")
     return value
@@ -110,29 +112,30 @@ def value_of(line: str) -> Any:
 def command_of(line: str) -> Object:
     """The command that a client's line is."""
     try:
-        given = value_of(line)
+        value = value_of(line)
     except (ValueError, RecursionError):
         return BAD
-    do = given.get("do") if isinstance(given, dict) else None
+    do = value.get("do") if isinstance(value, dict) else None
     shape = SHAPES.get(do) if isinstance(do, str) else None
     if shape is None or any(
-        type(given.get(name)) is not kind for name, kind in shape.items()
+        type(value.get(name)) is not kind for name, kind in shape.items()
     ):
         return BAD
-    if "port" in shape and not 0 <= given["port"] <= 65_535:
+    if "port" in shape and not 0 <= value["port"] <= 65_535:
         return BAD
-    return {"do": do, **{name: given[name] for name in shape}}
+    return {"do": do, **{name: value[name] for name in shape}}
 
 
 def denial(
-    command: Object, keys: Container[str], taken: Container[str]
+    command: Object, keys: Container[str], keys_used: Container[str]
 ) -> Optional[Object]:
-    """Why a connection's first command does not let it in, or None."""
+    """Returns the denial of a connection's first command, or None if the agent may
+    enter."""
     if command["do"] != "enter":
         return {"no": "enter"}
     if command["key"] not in keys:
         return {"no": "key"}
-    return {"no": "taken"} if command["key"] in taken else None
+    return {"no": "taken"} if command["key"] in keys_used else None
 
 
 class Setup(NamedTuple):
@@ -150,7 +153,7 @@ class Setup(NamedTuple):
 
 
 class AgentState:
-    """Where one agent is, and what it has used."""
+    """Position and usage of one agent."""
 
     def __init__(self) -> None:
         self.standing = OUTSIDE
@@ -162,8 +165,8 @@ class AgentState:
 
 
 class Match:
-    """A match: commands are told, agents on links are delivered, and in the end it is
-    closed."""
+    """A match in the Python model: it executes commands, delivers agents on links, and
+    is closed at the end."""
 
     def __init__(self, setup: Setup) -> None:
         self.setup = setup
@@ -171,7 +174,9 @@ class Match:
         for v, p, w, q in setup.links:
             self.far[v][p] = (w, q)
             self.far[w][q] = (v, p)
-        self.dark = {place for v, p in setup.dark for place in ((v, p), self.far[v][p])}
+        self.dark = {
+            link_end for v, p in setup.dark for link_end in ((v, p), self.far[v][p])
+        }
         self.boards = [""] * setup.nodes
         self.agents = [AgentState() for _ in range(setup.agents)]
         self.pool: List[int] = []
@@ -201,7 +206,7 @@ class Match:
         }
 
     def _refusal(self, agent: AgentState, do: str) -> Optional[str]:
-        """Why a command is not heard."""
+        """Returns why a command is rejected, or None."""
         if agent.standing == OUTSIDE:
             return None if do == "enter" else "outside"
         if do == "enter":
@@ -210,7 +215,7 @@ class Match:
             return "ended"
         return "spent" if agent.used == self.setup.quota and do != "leave" else None
 
-    def tell(self, number: int, command: Object) -> Object:
+    def reply_to(self, number: int, command: Object) -> Object:
         """The reply to a command, which stands in the log if it is heard."""
         agent = self.agents[number]
         if self.closed:
@@ -260,24 +265,25 @@ class Match:
         self.pool.append(number)
         return GONE
 
-    def _write(self, node: int, expect: str, put: str) -> Object:
-        if len(put.encode()) > self.setup.board:
+    def _write(self, node: int, expect: str, text: str) -> Object:
+        if len(text.encode()) > self.setup.board:
             return {"no": "long"}
         if self.boards[node] != expect:
             return {"ok": "changed", "board": self.boards[node]}
-        self.boards[node] = put
+        self.boards[node] = text
         return {"ok": "written"}
 
-    def doomed(self, node: int, port: int) -> bool:
-        """Whether who is delivered over this link from this end is destroyed."""
+    def destroys(self, node: int, port: int) -> bool:
+        """Returns whether an agent that departs by this port is destroyed."""
         return (node, port) in self.dark or self.far[node][port][0] in self.setup.holes
 
     def deliver(self, number: int) -> Optional[Object]:
-        """Lets an agent arrive; the reply to it, or None if there is no reply."""
+        """Delivers an agent, and returns the reply, or None if it is destroyed or the
+        match is closed."""
         agent = self.agents[number]
         if self.closed or agent.standing != AWAY:
             return None
-        if self.doomed(agent.node, agent.port):
+        if self.destroys(agent.node, agent.port):
             if not agent.lost:
                 self.log.append({"agent": number, "do": "deliver", "reply": None})
             agent.lost = True
@@ -302,7 +308,7 @@ class Match:
         elif event["do"] == "deliver":
             self.deliver(event["agent"])
         else:
-            self.tell(
+            self.reply_to(
                 event["agent"],
                 {name: event[name] for name in event if name not in ("agent", "reply")},
             )
@@ -328,7 +334,7 @@ class Match:
     def replay(self) -> str:
         """The text of the match's replay."""
         lines = [self.head(), *self.log, {"end": len(self.log)}]
-        return "".join(spelled(line) + "\n" for line in lines)
+        return "".join(spell(line) + "\n" for line in lines)
 
 
 def objects_of(text: str) -> List[Object]:
@@ -336,7 +342,7 @@ def objects_of(text: str) -> List[Object]:
     return [json.loads(line) for line in text.split("\n")[:-2]]
 
 
-def begun(head: Object) -> Match:
+def begin_match(head: Object) -> Match:
     """The match of a replay's head, before anything happens in it."""
     return Match(
         Setup(
@@ -353,31 +359,29 @@ def begun(head: Object) -> Match:
 
 
 def link_of(values: Sequence[int]) -> Tuple[int, int, int, int]:
-    """A link, as files have it."""
+    """Parses a link from four numbers."""
     v, p, w, q = values
     return v, p, w, q
 
 
 def place_of(values: Sequence[int]) -> Place:
-    """A node and a port, as files have them."""
+    """Parses a node and a port from two numbers."""
     v, p = values
     return v, p
 
 
-def played(text: str) -> Match:
-    """The match that a replay is of, played anew: its setup, and the commands and
-    deliveries of its events. The text is a replay by these rules if the match has that
-    replay too."""
+def replay_match(text: str) -> Match:
+    """Replays a text and returns its match. The text is a valid replay if and only if
+    the match's own replay equals it."""
     head, *events = objects_of(text)
-    match = begun(head)
+    match = begin_match(head)
     for event in events:
         match.play(event)
     return match
 
 
 class Verdict(NamedTuple):
-    """What a match came to: the outcome as `judge` prints it, the moves that were made,
-    the agents lost."""
+    """The verdict on a match: outcome as `judge` prints it, moves, and lost agents."""
 
     outcome: str
     moves: int
@@ -408,8 +412,8 @@ RANKS = SOLVED, GUESS, UNFINISHED, SILENT, WRONG = (
 
 
 def rank(verdict: Verdict, team: str) -> Tuple[int, int, int, str]:
-    """Where a verdict stands in the table: by its kind, then by few moves, few lost
-    agents, and the team's name."""
+    """Sort key of the table: outcome, then fewer moves, fewer lost agents, and the
+    team's name."""
     return RANKS.index(verdict.kind), verdict.moves, verdict.lost, team
 
 
@@ -424,21 +428,21 @@ def judge(match: Match) -> Verdict:
 def outcome_of(match: Match) -> str:
     """The first rule that holds."""
     setup = match.setup
-    accused = match.accused
-    if any(not match.doomed(v, p) for v, p in accused):
+    accusations = match.accused
+    if any(not match.destroys(v, p) for v, p in accusations):
         return "wrong"
-    links = set(accused) | {match.far[v][p] for v, p in accused}
-    named = {match.far[v][p][0] for v, p in accused}
+    links = set(accusations) | {match.far[v][p] for v, p in accusations}
+    holes_accused = {match.far[v][p][0] for v, p in accusations}
     if (
-        not accused
-        or not named.issuperset(setup.holes)
+        not accusations
+        or not holes_accused.issuperset(setup.holes)
         or not links.issuperset(match.dark)
     ):
         return "silent"
     if any(agent.standing == PRESENT for agent in match.agents):
         return "unfinished"
-    spared = match.reached | {setup.home, *setup.holes}
-    left = [v for v in range(setup.nodes) if v not in spared]
-    if left and any(place not in match.dark for place in accused):
-        return f"guess {left[0]}"
+    spared_nodes = match.reached | {setup.home, *setup.holes}
+    missing_nodes = [v for v in range(setup.nodes) if v not in spared_nodes]
+    if missing_nodes and any(link_end not in match.dark for link_end in accusations):
+        return f"guess {missing_nodes[0]}"
     return "solved"

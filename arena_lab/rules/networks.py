@@ -28,10 +28,10 @@ import warnings
 from typing import Any, Callable, Collection, Dict, List, NamedTuple, Sequence, Tuple
 from xml.parsers import expat
 
-from arena_lab.rules.limits import MOST_NODES, SMALL_NODES
+from arena_lab.rules.limits import MAX_NODES, SMALL_NODES
 from arena_lab.rules.model import Place, link_of
-from arena_lab.support.faults import Fault
-from arena_lab.support.missing import needed
+from arena_lab.support.faults import ArenaError
+from arena_lab.support.missing import require
 
 Link = Tuple[int, int, int, int]
 
@@ -41,15 +41,15 @@ NAMES = (
 )
 GRAPHML = ".graphml"
 # bytes of a file of GraphML, and characters of a fault that are shown
-MOST_GRAPHML = 16 << 20
-MOST_SHOWN = 100
+MAX_GRAPHML = 16 << 20
+MAX_SHOWN = 100
 LARGEST = 24
 LARGEST_DEGREE = 6
 
 
 def places_into(links: Sequence[Link], nodes: Collection[int]) -> List[Place]:
-    """The places, each a node and a port, from which a link leads to one of these
-    nodes. If all of them are held, nobody arrives there."""
+    """Returns the link ends (node, port) that lead to one of these nodes. Nobody
+    arrives at a node if all links to it are held."""
     return sorted(
         [(v, p) for v, p, w, _ in links if w in nodes]
         + [(w, q) for v, _, w, q in links if v in nodes]
@@ -63,19 +63,19 @@ class Network(NamedTuple):
     links: List[Link]
 
     def degrees(self) -> List[int]:
-        """How many ports each node has."""
-        found = [0] * self.nodes
+        """Returns how many ports each node has."""
+        degrees = [0] * self.nodes
         for v, _, w, _ in self.links:
-            found[v] += 1
-            found[w] += 1
-        return found
+            degrees[v] += 1
+            degrees[w] += 1
+        return degrees
 
 
-class NoNetwork(Fault):
+class NetworkError(ArenaError):
     """A name that names no network; says what does."""
 
 
-class NoNetworkFile(NoNetwork, ValueError):
+class NetworkFileError(NetworkError, ValueError):
     """A file that is of another kind."""
 
 
@@ -105,7 +105,7 @@ def torus(rows: int, columns: int) -> Network:
 
 
 def grid(rows: int, columns: int) -> Network:
-    """A torus without the links around it."""
+    """A grid: a torus without its wrap-around links."""
     near = [
         [
             node + step
@@ -123,14 +123,11 @@ def grid(rows: int, columns: int) -> Network:
 
 
 def wheel(rim: int) -> Network:
-    """A hub that is joined to each node of a ring around it."""
+    """A wheel: a ring with a hub linked to each node."""
     return of_neighbours(
         [
             [*range(1, rim + 1)],
-            *(
-                [place % rim + 1, (place - 2) % rim + 1, 0]
-                for place in range(1, rim + 1)
-            ),
+            *([node % rim + 1, (node - 2) % rim + 1, 0] for node in range(1, rim + 1)),
         ]
     )
 
@@ -142,9 +139,9 @@ def petersen(nodes: int, step: int) -> Network:
         raise ValueError("no such network")
     return of_neighbours(
         [
-            [*((place + by) % nodes + own for by in (pace, -pace)), place + other]
-            for own, other, pace in ((0, nodes, 1), (nodes, 0, step))
-            for place in range(nodes)
+            [*((index + by) % nodes + base for by in (pace, -pace)), index + other_base]
+            for base, other_base, pace in ((0, nodes, 1), (nodes, 0, step))
+            for index in range(nodes)
         ]
     )
 
@@ -177,18 +174,18 @@ def cube_connected_cycles(dimension: int) -> Network:
 def regular(nodes: int, degree: int, seed: int) -> Network:
     """A network drawn among those whose nodes all have this degree. It may have a cut
     node: ask `cut_of`."""
-    if nodes > MOST_NODES:
-        raise NoNetwork(f"a network has 3 to {MOST_NODES} nodes, and not {nodes}")
+    if nodes > MAX_NODES:
+        raise NetworkError(f"a network has 3 to {MAX_NODES} nodes, and not {nodes}")
     if nodes * degree % 2 or not 2 <= degree < nodes:
         raise ValueError("no such network")
-    graph = needed("networkx").random_regular_graph(degree, nodes, seed=seed)
+    graph = require("networkx").random_regular_graph(degree, nodes, seed=seed)
     pairs = sorted((min(pair), max(pair)) for pair in graph.edges)
-    return Network(nodes, numbered(nodes, pairs, random.Random(seed)))
+    return Network(nodes, number_ports(nodes, pairs, random.Random(seed)))
 
 
 def cut_of(network: Network) -> str:
-    """Why the network is not biconnected, or nothing if it is."""
-    networkx = needed("networkx")
+    """Returns why the network is not biconnected, or ""."""
+    networkx = require("networkx")
     graph = networkx.Graph()
     graph.add_nodes_from(range(network.nodes))
     graph.add_edges_from((v, w) for v, _, w, _ in network.links)
@@ -199,37 +196,37 @@ def cut_of(network: Network) -> str:
     return f"without node {cuts[0]} some other nodes are apart" if cuts else ""
 
 
-def drawn(chance: random.Random, largest: int = LARGEST) -> Network:
+def draw_network(rng: random.Random, largest: int = LARGEST) -> Network:
     """A network made of a ring by adding ears, which makes every biconnected one, and
     then some links by chance."""
-    nodes = chance.randint(3, largest)
-    size = chance.randint(3, nodes)
+    nodes = rng.randint(3, largest)
+    size = rng.randint(3, nodes)
     pairs = [(v, (v + 1) % size) for v in range(size)]
     degree = [2] * size + [0] * (nodes - size)
     while size < nodes:
-        one, two = chance.sample(
+        one_node, other_node = rng.sample(
             [v for v in range(size) if degree[v] < LARGEST_DEGREE], 2
         )
-        new = chance.randint(1, nodes - size)
-        path = [one, *range(size, size + new), two]
+        new = rng.randint(1, nodes - size)
+        path = [one_node, *range(size, size + new), other_node]
         pairs += list(zip(path, path[1:]))
         for v in path[:-1] + path[1:]:
             degree[v] += 1
         size += new
-    for _ in range(chance.choice((0, nodes // 2, 3 * nodes))):
-        one, two = chance.sample(range(nodes), 2)
-        if max(degree[one], degree[two]) < LARGEST_DEGREE and not {
-            (one, two),
-            (two, one),
+    for _ in range(rng.choice((0, nodes // 2, 3 * nodes))):
+        one_node, other_node = rng.sample(range(nodes), 2)
+        if max(degree[one_node], degree[other_node]) < LARGEST_DEGREE and not {
+            (one_node, other_node),
+            (other_node, one_node),
         } & set(pairs):
-            pairs.append((one, two))
-            degree[one] += 1
-            degree[two] += 1
-    return Network(nodes, numbered(nodes, pairs, chance))
+            pairs.append((one_node, other_node))
+            degree[one_node] += 1
+            degree[other_node] += 1
+    return Network(nodes, number_ports(nodes, pairs, rng))
 
 
-def numbered(
-    nodes: int, pairs: List[Tuple[int, int]], chance: random.Random
+def number_ports(
+    nodes: int, pairs: List[Tuple[int, int]], rng: random.Random
 ) -> List[Link]:
     """The links between these pairs, each node's ports being numbered by chance."""
     degrees = collections.Counter(node for pair in pairs for node in pair)
@@ -237,26 +234,26 @@ def numbered(
         node: list(range(degrees[node])) for node in range(nodes)
     }
     for labels in ports.values():
-        chance.shuffle(labels)
+        rng.shuffle(labels)
     return [(v, ports[v].pop(), w, ports[w].pop()) for v, w in pairs]
 
 
 def in_file(path: str) -> Network:
     """The network of a file, which must be right: ask `arena check`."""
     try:
-        found = tomllib.loads(pathlib.Path(path).read_text(encoding="utf-8"))
-        return Network(found["nodes"], list(map(link_of, found["links"])))
+        document = tomllib.loads(pathlib.Path(path).read_text(encoding="utf-8"))
+        return Network(document["nodes"], list(map(link_of, document["links"])))
     except (ValueError, KeyError, TypeError) as fault:
-        raise NoNetworkFile(
+        raise NetworkFileError(
             f"{path}: it is no network file ({fault_text(fault)}); `arena check` says more"
         ) from None
 
 
 def in_graphml(path: str) -> Network:
     """The network of a graph in GraphML."""
-    networkx = needed("networkx")
+    networkx = require("networkx")
     with open(path, "rb") as file:
-        raw = file.read(MOST_GRAPHML + 1)
+        raw = file.read(MAX_GRAPHML + 1)
     try:
         check_xml(raw)
         with warnings.catch_warnings():
@@ -270,8 +267,8 @@ def in_graphml(path: str) -> Network:
         expat.ExpatError,
         networkx.NetworkXException,
     ) as fault:
-        raise NoNetworkFile(
-            f"{path}: it is no GraphML ({str(fault)[:MOST_SHOWN]})"
+        raise NetworkFileError(
+            f"{path}: it is no GraphML ({str(fault)[:MAX_SHOWN]})"
         ) from None
     graph.name = path
     return of_graph(graph)
@@ -280,27 +277,27 @@ def in_graphml(path: str) -> Network:
 def check_xml(raw: bytes) -> None:
     """Refuses a file that takes long to read, or of which a few lines would become
     many: its entities stand for texts, which have entities again."""
-    if len(raw) > MOST_GRAPHML:
-        raise ValueError(f"it has more than {MOST_GRAPHML >> 20} MB")
+    if len(raw) > MAX_GRAPHML:
+        raise ValueError(f"it has more than {MAX_GRAPHML >> 20} MB")
     nodes = 0
 
-    def declared(*_: Any) -> None:
+    def refuse_entity(*_: Any) -> None:
         raise ValueError("it declares entities: write what they stand for")
 
-    def begun(name: str, _: Any) -> None:
+    def begin_element(name: str, _: Any) -> None:
         nonlocal nodes
         nodes += name.rpartition(":")[2] == "node"
-        if nodes > MOST_NODES:
-            raise ValueError(f"it has more than {MOST_NODES} nodes")
+        if nodes > MAX_NODES:
+            raise ValueError(f"it has more than {MAX_NODES} nodes")
 
     parser = expat.ParserCreate()
-    parser.EntityDeclHandler = declared
-    parser.StartElementHandler = begun
+    parser.EntityDeclHandler = refuse_entity
+    parser.StartElementHandler = begin_element
     parser.Parse(raw, True)
 
 
 def fault_text(fault: Exception) -> str:
-    """What is wrong with a file of TOML, by the exception of its reader."""
+    """Returns the error in a TOML file, from the exception of its parser."""
     return f"it has no key {fault}" if isinstance(fault, KeyError) else str(fault)
 
 
@@ -312,71 +309,71 @@ def of_graph(graph: Any) -> Network:
         or graph.is_multigraph()
         or any(v == w for v, w in graph.edges)
     ):
-        raise NoNetwork(
+        raise NetworkError(
             "a network is a graph without directions, in which a link joins two nodes and no other does"
         )
-    if not 3 <= graph.number_of_nodes() <= MOST_NODES:
-        raise NoNetwork(
-            f"a network has 3 to {MOST_NODES} nodes, and this graph has {graph.number_of_nodes()}"
+    if not 3 <= graph.number_of_nodes() <= MAX_NODES:
+        raise NetworkError(
+            f"a network has 3 to {MAX_NODES} nodes, and this graph has {graph.number_of_nodes()}"
         )
-    number = {node: place for place, node in enumerate(graph.nodes)}
+    number = {node: index for index, node in enumerate(graph.nodes)}
     ports = {
-        node: {other: port for port, other in enumerate(graph.adj[node])}
+        node: {neighbour: port for port, neighbour in enumerate(graph.adj[node])}
         for node in graph.nodes
     }
     network = Network(
         len(number),
         [(number[v], ports[v][w], number[w], ports[w][v]) for v, w in graph.edges],
     )
-    return checked(network, str(getattr(graph, "name", "")) or "the graph")
+    return check_network(network, str(getattr(graph, "name", "")) or "the graph")
 
 
-def named(name: str) -> Network:
+def network_named(name: str) -> Network:
     """The network that a word of the command line names."""
     kind, colon, size = name.partition(":")
     if not colon:
         if not pathlib.Path(name).is_file():
-            raise NoNetwork(
+            raise NetworkError(
                 f"{name}: there is no such file; a network is {NAMES} or a file"
             )
         return in_graphml(name) if name.endswith(GRAPHML) else in_file(name)
     try:
         sizes = sizes_of(kind, size)
-        made = MADE[kind]
+        made_network = MAKERS[kind]
         if not SMALLEST.get(kind, 0) <= min(sizes) or sizes[0] > LARGEST_SIZE.get(
             kind, sizes[0]
         ):
-            raise NoNetwork(
-                f"{name}: a network has 3 to {MOST_NODES} nodes, a torus 3 rows and columns or more, a "
+            raise NetworkError(
+                f"{name}: a network has 3 to {MAX_NODES} nodes, a torus 3 rows and columns or more, a "
                 "grid 2, a ring around a hub 3 nodes, and cube-connected cycles 3 dimensions or more"
             )
-        network: Network = made(*sizes)
+        network: Network = made_network(*sizes)
     except (KeyError, TypeError, ValueError):
-        raise NoNetwork(
+        raise NetworkError(
             f"{name}: a network is {NAMES} or a file; N times K is even, and K less than N"
         ) from None
-    if not 3 <= network.nodes <= MOST_NODES:
-        raise NoNetwork(
-            f"{name}: a network has 3 to {MOST_NODES} nodes, and this one has {network.nodes}"
+    if not 3 <= network.nodes <= MAX_NODES:
+        raise NetworkError(
+            f"{name}: a network has 3 to {MAX_NODES} nodes, and this one has {network.nodes}"
         )
     return network
 
 
 def in_range(name: str) -> List[str]:
     """The names that a word names: `ring:3..8` is those of all sizes from 3 to 8."""
-    found = re.fullmatch(r"(\w+):(\d+)\.\.(\d+)", name)
-    if not found:
+    match = re.fullmatch(r"(\w+):(\d+)\.\.(\d+)", name)
+    if not match:
         return [name]
-    first = int(found[2])
-    last = int(found[3])
+    first = int(match[2])
+    last = int(match[3])
     if first > last:
-        raise NoNetwork(
-            f"{name}: the first size is the smaller one, as in {found[1]}:{last}..{first}"
+        raise NetworkError(
+            f"{name}: the first size is the smaller one, as in {match[1]}:{last}..{first}"
         )
-    return [f"{found[1]}:{size}" for size in range(first, last + 1)]
+    return [f"{match[1]}:{size}" for size in range(first, last + 1)]
 
 
-MADE: Dict[str, Callable[..., Network]] = {
+MAKERS: Dict[str, Callable[..., Network]] = {
     "ring": ring,
     "hypercube": hypercube,
     "complete": complete,
@@ -387,55 +384,57 @@ MADE: Dict[str, Callable[..., Network]] = {
     "ccc": cube_connected_cycles,
     "random": lambda *sizes: regular(*sizes)
     if len(sizes) == 3
-    else drawn(random.Random(*sizes)),
+    else draw_network(random.Random(*sizes)),
 }
 SMALLEST = {"torus": 3, "ccc": 3, "grid": 2, "wheel": 3}
 LARGEST_SIZE = {
     "hypercube": 12,
     "ccc": 9,
-    "ring": MOST_NODES,
+    "ring": MAX_NODES,
     "complete": SMALL_NODES,
-    "torus": MOST_NODES,
-    "grid": MOST_NODES,
-    "wheel": MOST_NODES,
-    "petersen": MOST_NODES,
+    "torus": MAX_NODES,
+    "grid": MAX_NODES,
+    "wheel": MAX_NODES,
+    "petersen": MAX_NODES,
 }
 
 
 def sizes_of(kind: str, size: str) -> List[int]:
     """The numbers behind the kind of a network."""
-    found = re.fullmatch(r"(\d+):deg(\d+):seed(\d+)", size)
-    if found and kind == "random":
-        return [int(number) for number in found.groups()]
+    match = re.fullmatch(r"(\d+):deg(\d+):seed(\d+)", size)
+    if match and kind == "random":
+        return [int(number) for number in match.groups()]
     return [int(word) for word in size.split("x")]
 
 
-def biconnected(name: str) -> Network:
+def check_biconnected(name: str) -> Network:
     """The network that a word names, or else a line that says where it can be cut."""
-    return checked(named(name), name)
+    return check_network(network_named(name), name)
 
 
-def checked(network: Network, name: str) -> Network:
-    """The network, or else a line that says which rule it breaks, and where it can be
-    cut."""
+def check_network(network: Network, name: str) -> Network:
+    """Returns the network. Raises NetworkError if it breaks a rule or is not
+    biconnected."""
     ends = [end for v, p, w, q in network.links for end in ((v, p), (w, q))]
     pairs = [frozenset((v, w)) for v, _, w, _ in network.links]
-    if not 3 <= network.nodes <= MOST_NODES:
-        raise NoNetwork(
-            f"{name}: a network has 3 to {MOST_NODES} nodes, and not {network.nodes}"
+    if not 3 <= network.nodes <= MAX_NODES:
+        raise NetworkError(
+            f"{name}: a network has 3 to {MAX_NODES} nodes, and not {network.nodes}"
         )
     if sorted(ends) != [
         (v, p) for v, degree in enumerate(network.degrees()) for p in range(degree)
     ]:
-        raise NoNetwork(
+        raise NetworkError(
             f"{name}: a node with D links has the ports 0 to D - 1, each once"
         )
     if len(set(pairs)) < len(pairs) or any(len(pair) < 2 for pair in pairs):
-        raise NoNetwork(f"{name}: a link joins two nodes, and no other link joins them")
+        raise NetworkError(
+            f"{name}: a link joins two nodes, and no other link joins them"
+        )
     cut = cut_of(network)
     if cut:
         advice = "take another seed" if name.startswith("random") else "add a link"
-        raise NoNetwork(f"{name}: the network is not biconnected: {cut}; {advice}")
+        raise NetworkError(f"{name}: the network is not biconnected: {cut}; {advice}")
     return network
 
 

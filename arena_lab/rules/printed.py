@@ -8,8 +8,8 @@ import re
 from typing import Any, Callable, Dict, List, NamedTuple, Sequence, Tuple
 
 from arena_lab.rules.model import Object, Verdict, rank
-from arena_lab.rules.refusals import parted
-from arena_lab.support.faults import Fault
+from arena_lab.rules.refusals import split_line
+from arena_lab.support.faults import ArenaError
 
 HEAD = "#", "team", "outcome", "moves", "lost"
 OUTCOME = r"solved|guess \d+|unfinished|silent|wrong"
@@ -18,7 +18,7 @@ VERDICT = re.compile(rf"({OUTCOME}) moves (\d+) lost (\d+)")
 MATCH = re.compile(r"match (\d+) (\S+) nodes (\d+) links (\d+) agents (\d+)")
 
 
-class NoResult(Fault):
+class PrintedTextError(ArenaError):
     """The text is not what the command prints."""
 
 
@@ -41,23 +41,24 @@ class MatchLine(NamedTuple):
 
 def verdict_in(text: str) -> Verdict:
     """The verdict that `judge` printed."""
-    outcome, moves, lost = found_in(VERDICT, text.removesuffix("\n"))
+    outcome, moves, lost = groups_in(VERDICT, text.removesuffix("\n"))
     return Verdict(outcome, int(moves), int(lost))
 
 
 def table(rows: Sequence[Tuple[str, Verdict]]) -> str:
     """The table of teams and verdicts, best first."""
-    ranked = sorted(rows, key=lambda row: rank(row[1], row[0]))
+    ranking = sorted(rows, key=lambda row: rank(row[1], row[0]))
     lines: List[Sequence[object]] = [HEAD]
     lines += [
-        (place, team, *verdict) for place, (team, verdict) in enumerate(ranked, 1)
+        (rank_number, team, *verdict)
+        for rank_number, (team, verdict) in enumerate(ranking, 1)
     ]
     return "".join(f"{a:>3} {b:<16} {c:<10} {d:>6} {e:>4}\n" for a, b, c, d, e in lines)
 
 
 def table_in(text: str) -> List[Tuple[str, Verdict]]:
     """The teams and verdicts of a table, best first."""
-    rows = [found_in(TEAM, line) for line in text.splitlines()[1:]]
+    rows = [groups_in(TEAM, line) for line in text.splitlines()[1:]]
     return [
         (team, Verdict(outcome, int(moves), int(lost)))
         for _, team, outcome, moves, lost in rows
@@ -66,19 +67,19 @@ def table_in(text: str) -> List[Tuple[str, Verdict]]:
 
 def matches_in(text: str) -> List[MatchLine]:
     """The matches that `check` printed."""
-    found = [found_in(MATCH, line) for line in text.splitlines()]
+    matches = [groups_in(MATCH, line) for line in text.splitlines()]
     return [
         MatchLine(int(match), team, int(nodes), int(links), int(agents))
-        for match, team, nodes, links, agents in found
+        for match, team, nodes, links, agents in matches
     ]
 
 
-def found_in(form: "re.Pattern[str]", line: str) -> Sequence[str]:
+def groups_in(form: "re.Pattern[str]", line: str) -> Sequence[str]:
     """The parts of a line of this form."""
-    found = form.fullmatch(line)
-    if not found:
-        raise NoResult(f"this is no line of a result: {line!r}")
-    return found.groups()
+    match = form.fullmatch(line)
+    if not match:
+        raise PrintedTextError(f"this is no line of a result: {line!r}")
+    return match.groups()
 
 
 def by_judge(text: str) -> Tuple[Object, str]:
@@ -89,25 +90,26 @@ def by_judge(text: str) -> Tuple[Object, str]:
 def by_table(text: str) -> Tuple[Object, str]:
     rows = table_in(text)
     teams = [
-        {"place": place, "team": team, **verdict._asdict()}
-        for place, (team, verdict) in enumerate(rows, 1)
+        {"place": rank_number, "team": team, **verdict._asdict()}
+        for rank_number, (team, verdict) in enumerate(rows, 1)
     ]
     return {"teams": teams}, table(rows)
 
 
 def by_check(text: str) -> Tuple[Object, str]:
     matches = matches_in(text)
-    return {"matches": [it._asdict() for it in matches]}, "".join(
-        f"{it}\n" for it in matches
+    return {"matches": [match._asdict() for match in matches]}, "".join(
+        f"{match}\n" for match in matches
     )
 
 
 def by_explore(text: str) -> Tuple[Object, str]:
-    """The lines of a result are objects of JSON: what was found, counts, and a line for
-    each module."""
-    found, counts, *modules = lines = [json.loads(it) for it in text.splitlines()]
-    again = "".join(json.dumps(it, separators=(",", ":")) + "\n" for it in lines)
-    return {"found": found, "counts": counts, "modules": modules}, again
+    """Parses the JSON lines of a result: finding, counts, and one line per module."""
+    finding, counts, *modules = lines = [
+        json.loads(text_line) for text_line in text.splitlines()
+    ]
+    again = "".join(json.dumps(value, separators=(",", ":")) + "\n" for value in lines)
+    return {"found": finding, "counts": counts, "modules": modules}, again
 
 
 # of each command its reader, which gives the result and spells it again
@@ -120,8 +122,8 @@ READERS: Dict[str, Callable[[str], Tuple[Object, str]]] = {
 
 
 def result_in(command: str, text: str) -> Any:
-    """What a command printed as a value of JSON, or None if it printed nothing. Raises
-    NoResult for a text that is no result of the command."""
+    """Parses the output of a command into a JSON value, or None for empty output.
+    Raises PrintedTextError for other texts."""
     if not text:
         return None
     try:
@@ -129,30 +131,31 @@ def result_in(command: str, text: str) -> Any:
     except ValueError:
         again = ""
     if again != text:
-        raise NoResult(f"this is no result of `arena {command}`: {text[:200]!r}")
+        raise PrintedTextError(
+            f"this is no result of `arena {command}`: {text[:200]!r}"
+        )
     return result
 
 
 def faults_in(errors: str, words: Sequence[str]) -> Tuple[List[Object], List[str]]:
-    """The faults that the program told on standard error for a command of these words,
-    each with where it is, its text and the lines that explain it; and the other lines,
-    which are notes."""
+    """Parses standard error of a command of the program. Returns the faults (place,
+    text, explanations) and the other lines, which are notes."""
     faults: List[Object] = []
     notes: List[str] = []
     for line in errors.removesuffix("\n").split("\n") if errors else ():
-        said = parted(line, words)
+        parts = split_line(line, words)
         if line.startswith("  ") and faults:
             faults[-1]["more"].append(line.strip())
-        elif said.is_note or not said.where:
+        elif parts.is_note or not parts.where:
             notes.append(line)
         else:
-            faults.append({"where": said.where, "fault": said.text, "more": []})
+            faults.append({"where": parts.where, "fault": parts.text, "more": []})
     return faults, notes
 
 
 def reading(words: Sequence[str], text: str, errors: str, status: int) -> Object:
-    """What came of a command of the program, as one object: docs/results.schema.json
-    has its schema."""
+    """Returns the results of a command of the program as one object;
+    docs/results.schema.json has its schema."""
     faults, notes = faults_in(errors, words)
     return {
         "command": words[0],

@@ -3,8 +3,7 @@ has all lines."""
 import re
 from typing import Iterator, NamedTuple, Sequence
 
-# of what is behind the name of a file and the number of a match: each with what it
-# means, in which {0} is its number
+# (pattern of a fault, explanation); {0} stands for the number in the fault
 MEANINGS = (
     (r"head", "its first line is not the head of a replay"),
     (r"line (\d+)", "line {0} is not spelled as in a replay"),
@@ -55,11 +54,13 @@ CONTROLS = re.compile("[\0-\x1f\x7f-\x9f\u061c\u200e\u200f\u202a-\u202e\u2066-\u
 LETTERS = {"\t": r"\t", "\n": r"\n", "\r": r"\r"}
 
 
-def shown(name: str) -> str:
+def file_name(name: str) -> str:
     """The name of a file, as it stands in a line of the program."""
     if not name:
         return "''"
-    return CONTROLS.sub(lambda it: LETTERS.get(it[0], f"\\u{{{ord(it[0]):x}}}"), name)
+    return CONTROLS.sub(
+        lambda match: LETTERS.get(match[0], f"\\u{{{ord(match[0]):x}}}"), name
+    )
 
 
 def names_in(word: str) -> Iterator[str]:
@@ -74,34 +75,33 @@ def names_in(word: str) -> Iterator[str]:
 
 
 class Line(NamedTuple):
-    """A line of the program: the place that it names, if any, what it says of that, and
-    whether this is a note on the tournament and no fault."""
+    """A parsed line of the program: the place that it names ("" without one), its text,
+    and whether it is a note on the tournament."""
 
     where: str
     text: str
     is_note: bool
 
 
-def parted(line: str, words: Sequence[str]) -> Line:
-    """A line of the program, by the words of the command. Names of files may have
-    colons, and so may texts. So the place is the longest name in the words with which
-    the line begins. If there is none, as for a network, the text has no colon, since it
-    is neither a note nor a fault of a module."""
-    names = {shown(name) for word in words for name in names_in(word)}
-    named = [it for it in names if line.startswith(f"{it}: ")]
-    if not named:
+def split_line(line: str, words: Sequence[str]) -> Line:
+    """Parses a line of the program. File names and texts may contain colons, so the
+    place is the longest name among the command's words with which the line begins.
+    Lines about networks name no place, and their text contains no colon."""
+    names = {file_name(name) for word in words for name in names_in(word)}
+    prefixes = [name for name in names if line.startswith(f"{name}: ")]
+    if not prefixes:
         where, _, text = line.rpartition(": ")
         return Line(where, text, False)
-    where = max(named, key=len)
+    where = max(prefixes, key=len)
     text = line.removeprefix(f"{where}: ")
     return Line(where, text, NOTE.fullmatch(text) is not None)
 
 
 def in_words(line: str) -> str:
-    """A line of the program, and behind it what it means if that is known."""
-    said = LINE.fullmatch(line)
+    """Appends the explanation of a fault to its line, if it has one."""
+    match = LINE.fullmatch(line)
     for form, meaning in MEANINGS:
-        found = re.fullmatch(form, said[1]) if said else None
-        if found:
-            return f"{line}: {meaning.format(*found.groups())}"
+        meanings = re.fullmatch(form, match[1]) if match else None
+        if meanings:
+            return f"{line}: {meaning.format(*meanings.groups())}"
     return line

@@ -9,7 +9,7 @@ from collections import deque
 from typing import Collection, Deque, Dict, List, NamedTuple, Optional, Sequence, Tuple
 
 from arena_lab.rules.fixtures import Fixture
-from arena_lab.rules.limits import MOST_LINE
+from arena_lab.rules.limits import MAX_LINE
 from arena_lab.rules.model import (
     AWAY,
     LAST,
@@ -20,15 +20,15 @@ from arena_lab.rules.model import (
     Place,
     command_of,
     denial,
-    spelled,
+    spell,
     text_of,
 )
 
 # an agent: the numbers of its match and of itself
 Seat = Tuple[int, int]
-# what came out: connections, each with the reply or the line that it is sent
-Sent = List[Tuple[int, Object]]
-Said = Tuple[int, str]
+# replies or lines by connection, in order
+SentReplies = List[Tuple[int, Object]]
+SentLine = Tuple[int, str]
 # what a connection's input holds that was not taken yet: lines, and then None if it has
 # ended
 Item = Optional[bytes]
@@ -63,37 +63,40 @@ class Sessions:
         # the agent of each key, and the connection that plays it
         self.seats = {
             key: (game, agent)
-            for game, it in enumerate(ready)
-            for agent, key in enumerate(it.keys)
+            for game, ready_match in enumerate(ready)
+            for agent, key in enumerate(ready_match.keys)
         }
         self.plays: Dict[str, int] = {}
         self.connections: Dict[int, Connection] = {}
 
-    def bytes_of(self, conn: int, data: bytes) -> Sent:
-        """What comes of bytes that a client sends."""
+    def bytes_of(self, conn: int, data: bytes) -> SentReplies:
+        """Processes bytes from a client, and returns the replies."""
         connection = self._connection(conn)
         *lines, connection.unfinished = (connection.unfinished + data).split(b"\n")
-        return [it for line in lines for it in self.line(conn, line)]
+        return [reply for line in lines for reply in self.line(conn, line)]
 
-    def line(self, conn: int, item: Item) -> Sent:
-        """What comes of a line that a client sends, or of the end of its input."""
+    def line(self, conn: int, item: Item) -> SentReplies:
+        """Processes a line from a client, or the end of its input, and returns the
+        replies."""
         connection = self._connection(conn)
-        is_blank = item is not None and len(item) <= MOST_LINE and not item.strip(BLANK)
+        is_blank = item is not None and len(item) <= MAX_LINE and not item.strip(BLANK)
         if not is_blank and not connection.has_ended:
             connection.items.append(item)
             connection.has_ended = item is None
         return self._taken_by(conn)
 
-    def draw(self, game: int, word: int) -> Sent:
-        """What comes of a delivery that a word draws."""
+    def draw(self, game: int, word: int) -> SentReplies:
+        """Delivers the agent that a random word selects, and returns the replies."""
         pool = self.ready[game].match.pool
         return self.deliver(game, pool[word % len(pool)]) if pool else []
 
-    def deliver(self, game: int, number: int) -> Sent:
-        """What comes of a delivery of an agent, unless its link is held."""
-        match, held, keys = self.ready[game]
+    def deliver(self, game: int, number: int) -> SentReplies:
+        """Delivers an agent unless its link is held, and returns the replies."""
+        match, held_links, keys = self.ready[game]
         agent = match.agents[number]
-        reply = None if (agent.node, agent.port) in held else match.deliver(number)
+        reply = (
+            None if (agent.node, agent.port) in held_links else match.deliver(number)
+        )
         conn = self.plays.get(keys[number])
         return (
             []
@@ -101,8 +104,8 @@ class Sessions:
             else [(conn, reply), *self._taken_by(conn)]
         )
 
-    def close(self, game: int) -> Sent:
-        """What comes of the end of a match."""
+    def close(self, game: int) -> SentReplies:
+        """Closes a match, and returns the replies."""
         match, _, keys = self.ready[game]
         if match.closed:
             return []
@@ -123,7 +126,7 @@ class Sessions:
         return seat
 
     def waits(self, conn: int) -> bool:
-        """Whether its agent is on a link."""
+        """Returns whether the connection's agent is on a link."""
         connection = self.connections[conn]
         if connection.seat is None or connection.is_done:
             return False
@@ -133,18 +136,18 @@ class Sessions:
     def _connection(self, conn: int) -> Connection:
         return self.connections.setdefault(conn, Connection())
 
-    def _taken_by(self, conn: int) -> Sent:
+    def _taken_by(self, conn: int) -> SentReplies:
         """Takes what a connection sent, until its agent is on a link."""
         connection = self.connections[conn]
-        sent = []
+        replies = []
         while connection.items and not connection.is_done and not self.waits(conn):
             reply = self._answer(conn, connection.items.popleft())
             if reply is not None:
-                sent.append((conn, reply))
-        return sent
+                replies.append((conn, reply))
+        return replies
 
     def _answer(self, conn: int, item: Item) -> Optional[Object]:
-        """The reply to a line, or to the end of the input, which has none."""
+        """Returns the reply to a line; None (the end of the input) has no reply."""
         connection = self.connections[conn]
         if item is None:
             connection.is_done = True
@@ -163,7 +166,7 @@ class Sessions:
 
     def _tell(self, seat: Seat, command: Object) -> Object:
         game, agent = seat
-        return self.ready[game].match.tell(agent, command)
+        return self.ready[game].match.reply_to(agent, command)
 
 
 class Rehearsal:
@@ -177,28 +180,29 @@ class Rehearsal:
         self.script: List[bytes] = []
         self._sessions = Sessions([Ready(self.match, set(fixture.held), fixture.keys)])
 
-    def feed(self, number: int, line: bytes) -> List[Said]:
-        """What comes of a line that a client sends."""
+    def feed(self, number: int, line: bytes) -> List[SentLine]:
+        """Processes a line from a client, and returns the lines to send."""
         self.script.append(b"%d %s" % (number, line))
         return lines_of(self._sessions.line(number, line))
 
-    def end(self, number: int) -> List[Said]:
-        """What comes of the end of a client's input."""
+    def end(self, number: int) -> List[SentLine]:
+        """Processes the end of a client's input, and returns the lines to send."""
         self.script.append(b"end %d" % number)
         return lines_of(self._sessions.line(number, None))
 
-    def draw(self, word: int) -> List[Said]:
-        """What comes of a delivery that a word draws."""
+    def draw(self, word: int) -> List[SentLine]:
+        """Delivers the agent that a random word selects, and returns the lines to
+        send."""
         self.script.append(b"draw 0 %d" % word)
         return lines_of(self._sessions.draw(0, word))
 
-    def close(self) -> List[Said]:
-        """What comes of the end of the match."""
+    def close(self) -> List[SentLine]:
+        """Closes the match, and returns the lines to send."""
         self.script.append(b"close 0")
         return lines_of(self._sessions.close(0))
 
     def replay(self) -> bytes:
-        """The replay of the match, which must have been closed."""
+        """Returns the replay of the closed match."""
         return self.match.replay().encode()
 
     def stop(self) -> None:
@@ -217,10 +221,10 @@ class Rehearsal:
         self.script.clear()
 
     def is_seated(self, number: int) -> bool:
-        """Whether the connection plays an agent."""
+        """Returns whether the connection plays an agent."""
         return number in self._sessions.plays.values()
 
 
-def lines_of(sent: Sent) -> List[Said]:
+def lines_of(replies: SentReplies) -> List[SentLine]:
     """Replies as the lines that are sent."""
-    return [(conn, spelled(reply)) for conn, reply in sent]
+    return [(conn, spell(reply)) for conn, reply in replies]

@@ -37,7 +37,7 @@ ANY = "any"
 EVERY = "every"
 NATIVE = "native"
 ELF = b"\x7fELF"
-# the bits of an argument that is an int
+# mask of an int argument
 INT = 0xFFFFFFFF
 # a line of a trace: the process, the call, and its arguments
 LINE = re.compile(r"(?:\d+ +)?(\w+)\((.*)")
@@ -57,7 +57,7 @@ def languages() -> List[str]:
     return [*table()["languages"], ANY]
 
 
-def allowed(language: str) -> Set[str]:
+def allowed_calls(language: str) -> Set[str]:
     """The calls that a language may make whatever their arguments, and those that do
     nothing."""
     lists = (
@@ -66,8 +66,8 @@ def allowed(language: str) -> Set[str]:
         else [
             table()[EVERY],
             *(
-                it
-                for name, it in table()["languages"].items()
+                entry
+                for name, entry in table()["languages"].items()
                 if language in (name, ANY)
             ),
         ]
@@ -75,7 +75,7 @@ def allowed(language: str) -> Set[str]:
     idle = {
         call for row in table()["answers"] if row["error"] == 0 for call in row["calls"]
     }
-    return {call for it in lists for call in it["calls"]} | idle
+    return {call for row in lists for call in row["calls"]} | idle
 
 
 def never(call: str) -> str:
@@ -102,72 +102,82 @@ def language_of(words: str, content_of: Callable[[str], Optional[bytes]]) -> str
             if line.startswith(b"#!") and line.split()
             else first
         )
-    started = os.path.basename(first)
+    program_name = os.path.basename(first)
     # a shell may start programs in any language
     return next(
         (
             name
-            for name, it in table()["languages"].items()
-            if started in it["starts"] and name != "shell"
+            for name, entry in table()["languages"].items()
+            if program_name in entry["starts"] and name != "shell"
         ),
         ANY,
     )
 
 
-def refused(lines: Iterable[str], language: str) -> Tuple[Counter[str], Counter[str]]:
-    """How often a program that was traced has made each call, and each that is refused
-    to its language, with the arguments for which it is."""
-    made: Counter[str] = collections.Counter()
-    found: Counter[str] = collections.Counter()
-    known = allowed(language)
+def refused_calls(
+    lines: Iterable[str], language: str
+) -> Tuple[Counter[str], Counter[str]]:
+    """Counts the system calls of a trace, and those that the language's filter refuses,
+    with their arguments."""
+    call_counts: Counter[str] = collections.Counter()
+    refusal_counts: Counter[str] = collections.Counter()
+    allowed = allowed_calls(language)
     for line in lines:
-        matched = LINE.match(line)
-        if matched is None:
+        match = LINE.match(line)
+        if match is None:
             continue
-        call = matched[1]
-        rows = [row for row in table()["arguments"] if row["call"] == matched[1]]
-        made[call] += 1
-        numbers = numbers_in(call, matched[2])
+        call = match[1]
+        rows = [row for row in table()["arguments"] if row["call"] == match[1]]
+        call_counts[call] += 1
+        numbers = numbers_in(call, match[2])
         if rows and not any(is_allowed(row, numbers) for row in rows):
             places = sorted(
-                {int(place) for row in rows for it in row["rows"] for place in it}
+                {
+                    int(index)
+                    for row in rows
+                    for condition in row["rows"]
+                    for index in condition
+                }
             )
-            found[
-                f"{call} {' '.join(hex(numbers.get(place, 0)) for place in places)}"
+            refusal_counts[
+                f"{call} {' '.join(hex(numbers.get(index, 0)) for index in places)}"
             ] += 1
-        elif not rows and call not in known:
-            found[call] += 1
-    return made, found
+        elif not rows and call not in allowed:
+            refusal_counts[call] += 1
+    return call_counts, refusal_counts
 
 
 def is_allowed(row: Dict[str, Any], numbers: Dict[int, int]) -> bool:
-    """Whether a row allows a call that has these numbers as arguments."""
+    """Returns whether a row allows a call that has these numbers as arguments."""
     mask = row.get("mask", INT)
     return "error" not in row and any(
         all(
-            numbers.get(int(place), -1) & mask in values for place, values in it.items()
+            numbers.get(int(index), -1) & mask in values
+            for index, values in condition.items()
         )
-        for it in row["rows"]
+        for condition in row["rows"]
     )
 
 
-def numbers_in(call: str, given: str) -> Dict[int, int]:
+def numbers_in(call: str, arguments: str) -> Dict[int, int]:
     """The arguments of a call that a trace shows as numbers, by their places."""
     if call == "clone":
-        given = given.partition(FLAGS)[2]
-    found = {place: number_in(it) for place, it in enumerate(given.split(", "))}
-    return {place: number for place, number in found.items() if number is not None}
+        arguments = arguments.partition(FLAGS)[2]
+    numbers = {
+        index: number_in(part) for index, part in enumerate(arguments.split(", "))
+    }
+    return {index: number for index, number in numbers.items() if number is not None}
 
 
 def number_in(text: str) -> Optional[int]:
-    """The number with which a text of a trace begins, or None."""
-    matched = NUMBERS.match(text)
+    """Parses the leading number of an argument in a trace, or returns None."""
+    match = NUMBERS.match(text)
     try:
         return (
             None
-            if matched is None
+            if match is None
             else functools.reduce(
-                lambda found, part: found | int(part, 0), matched[0].split("|"), 0
+                lambda flags, part: flags | int(part, 0), match[0].split("|"), 0
             )
         )
     except ValueError:
@@ -175,30 +185,32 @@ def number_in(text: str) -> Optional[int]:
 
 
 def report_trace(language: str, lines: Iterable[str]) -> str:
-    """What is said of a trace."""
-    made, found = refused(lines, language)
-    said = [
-        f"{language}: of {len(made)} calls that were traced {len(found)} are refused"
+    """Returns the report on a trace."""
+    call_counts, refusal_counts = refused_calls(lines, language)
+    report = [
+        f"{language}: of {len(call_counts)} calls that were traced {len(refusal_counts)} are refused"
     ]
-    free = [call for call in sorted(found) if " " not in call and not never(call)]
-    for call, count in sorted(found.items()):
+    free = [
+        call for call in sorted(refusal_counts) if " " not in call and not never(call)
+    ]
+    for call, count in sorted(refusal_counts.items()):
         why = "by its arguments" if " " in call else never(call) or "it is in no list"
-        said.append(f"{count:7}  {call}: {why}")
+        report.append(f"{count:7}  {call}: {why}")
     if free:
-        said.append(
+        report.append(
             f"in {SETTINGS} this allows what is in no list: calls = {str(free).replace(chr(39), chr(34))}"
         )
-    return "\n".join(said)
+    return "\n".join(report)
 
 
-def main(given: Sequence[str]) -> int:
-    if len(given) < 2 or given[0] not in (*languages(), EVERY):
+def main(argv: Sequence[str]) -> int:
+    if len(argv) < 2 or argv[0] not in (*languages(), EVERY):
         print(
             f"{(__doc__ or '').strip()}\n\nLanguages: {', '.join([*languages(), EVERY])}"
         )
-        return 0 if given[:1] in (["-h"], ["--help"]) else 2
+        return 0 if argv[:1] in (["-h"], ["--help"]) else 2
     lines: List[str] = []
-    for name in given[1:]:
+    for name in argv[1:]:
         try:
             lines += (
                 pathlib.Path(name)
@@ -208,7 +220,7 @@ def main(given: Sequence[str]) -> int:
         except OSError as fault:
             print(f"{name}: {fault.strerror}", file=sys.stderr)
             return 1
-    print(report_trace(given[0], lines))
+    print(report_trace(argv[0], lines))
     return 0
 
 

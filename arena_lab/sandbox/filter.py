@@ -14,8 +14,8 @@ from typing import Any, Dict, Iterator, List, Sequence, Set
 
 import seccomp
 
-# the bits of an argument that is an int, as the kernel looks at no others; and the
-# language of all calls together
+# mask of an int argument, since the kernel ignores other bits; and the name of the
+# union of all languages
 INT = 0xFFFFFFFF
 ANY = "any"
 # what libseccomp says of a name that it does not know
@@ -23,45 +23,47 @@ UNKNOWN = -1
 Table = Dict[str, Any]
 
 
-def allowed(table: Table, language: str) -> Set[str]:
-    """The calls that a language may make, with those of which some are allowed by their
-    arguments."""
+def allowed_calls(table: Table, language: str) -> Set[str]:
+    """Returns the calls of a language that are allowed for all arguments or for
+    some."""
     languages: Dict[str, Any] = table["languages"]
     chosen = list(languages.values()) if language == ANY else [languages[language]]
     return {
-        call for it in [table["every"], *chosen] for call in it["calls"]
+        call for row in [table["every"], *chosen] for call in row["calls"]
     } | by_arguments(table)
 
 
 def by_arguments(table: Table) -> Set[str]:
-    """The calls of which some are allowed by their arguments."""
+    """Returns the calls that are allowed for some arguments only."""
     return {row["call"] for row in table["arguments"]}
 
 
-def made(
-    table: Table, language: str, more: Sequence[str] = ()
+def make_filter(
+    table: Table, language: str, extra: Sequence[str] = ()
 ) -> "seccomp.SyscallFilter":
     """The filter of a language, which allows these calls besides."""
-    found = seccomp.SyscallFilter(seccomp.ERRNO(errno.ENOSYS))
-    for call in sorted((allowed(table, language) | set(more)) - by_arguments(table)):
+    syscall_filter = seccomp.SyscallFilter(seccomp.ERRNO(errno.ENOSYS))
+    for call in sorted(
+        (allowed_calls(table, language) | set(extra)) - by_arguments(table)
+    ):
         if seccomp.resolve_syscall(seccomp.Arch(), call) == UNKNOWN:
             sys.exit(f"{call} is no call of Linux: write names as `strace` shows them")
-        found.add_rule(seccomp.ALLOW, call)
+        syscall_filter.add_rule(seccomp.ALLOW, call)
     for row in table["arguments"]:
         action = (
             seccomp.ERRNO(number_of(row["error"])) if "error" in row else seccomp.ALLOW
         )
         for conditions in conditions_of(row):
-            found.add_rule(action, row["call"], *conditions)
+            syscall_filter.add_rule(action, row["call"], *conditions)
     for row in [*table["answers"], *table["never"]]:
         error = number_of(row.get("error", "EPERM"))
         for call in row["calls"] if error != errno.ENOSYS else ():
-            found.add_rule(seccomp.ERRNO(error), call)
-    return found
+            syscall_filter.add_rule(seccomp.ERRNO(error), call)
+    return syscall_filter
 
 
 def number_of(error: Any) -> int:
-    """The number of an error that has a name, or none."""
+    """Returns the number of a named error, or 0."""
     return 0 if error == 0 else int(getattr(errno, error))
 
 
@@ -69,17 +71,17 @@ def conditions_of(row: Table) -> Iterator[List["seccomp.Arg"]]:
     """The conditions under which a row of arguments holds, each as what must hold
     together."""
     mask = row.get("mask", INT)
-    for it in row["rows"]:
-        for values in itertools.product(*it.values()):
+    for condition in row["rows"]:
+        for values in itertools.product(*condition.values()):
             yield [
-                seccomp.Arg(int(place), seccomp.MASKED_EQ, mask, value)
-                for place, value in zip(it, values)
+                seccomp.Arg(int(index), seccomp.MASKED_EQ, mask, value)
+                for index, value in zip(condition, values)
             ]
 
 
-def main(place: str, language: str, *more: str) -> None:
-    with open(place, "rb") as file:
-        made(tomllib.load(file), language, more).export_bpf(sys.stdout)
+def main(path: str, language: str, *extra: str) -> None:
+    with open(path, "rb") as file:
+        make_filter(tomllib.load(file), language, extra).export_bpf(sys.stdout)
 
 
 if __name__ == "__main__":

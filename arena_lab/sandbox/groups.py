@@ -17,21 +17,21 @@ from typing import Iterator, List, Optional
 
 from arena_lab.sandbox import processes, watch
 
-# where groups are, and which is that of this process
+# mount points of cgroups, and the file that names this process's own group
 MOUNTS = ("/sys/fs/cgroup", "/sys/fs/cgroup/unified")
-OWN = pathlib.Path("/proc/self/cgroup")
+OWN_GROUP = pathlib.Path("/proc/self/cgroup")
 CONTROLLERS = "cgroup.controllers"
 SUBTREE = "cgroup.subtree_control"
 PROCESSES = "cgroup.procs"
 KIND = "cgroup.type"
-NEEDED = {"memory", "pids"}
+NEEDED_CONTROLLERS = {"memory", "pids"}
 # the names of groups: of the lab itself, and of programs; behind it stands the lab's
 # process
 OF_LAB = "arena-lab-"
 OF_PROGRAM = "arena-program-"
 # processes and threads of a program: its own bound holds before, and its sandbox has
 # some too
-MOST_PROCESSES = 288
+MAX_PROCESSES = 288
 # a shell joins a group, and becomes the program
 JOIN = 'echo 0 > "$0" && exec "$@"'
 SECONDS_TO_END = 10.0
@@ -48,20 +48,20 @@ class ControlGroup:
     def bound(self) -> None:
         """Writes the bounds. Not every system has swap, and older ones end one process
         where all should end."""
-        write(self._folder / "memory.max", str(watch.MOST))
+        write(self._folder / "memory.max", str(watch.MAX_MEMORY))
         with contextlib.suppress(OSError):
             write(self._folder / "memory.swap.max", "0")
         with contextlib.suppress(OSError):
             write(self._folder / "memory.oom.group", "1")
-        write(self._folder / "pids.max", str(MOST_PROCESSES))
+        write(self._folder / "pids.max", str(MAX_PROCESSES))
 
     def words(self) -> List[str]:
-        """What stands before the words of a program so that it is in the group from its
-        start."""
+        """Returns the command prefix that starts a program inside the group."""
         return ["sh", "-c", JOIN, str(self._folder / PROCESSES)]
 
     def has_met_its_bound(self) -> bool:
-        """Whether the kernel has ended the program, as its memory is used up."""
+        """Returns whether the kernel has ended the program, as its memory is used
+        up."""
         try:
             lines = (self._folder / "memory.events").read_text().splitlines()
         except OSError:
@@ -73,82 +73,87 @@ class ControlGroup:
         )
 
     def end(self) -> None:
-        """Ends all that is in the group."""
+        """Kills all processes of the group."""
         with contextlib.suppress(OSError):
             write(self._folder / "cgroup.kill", "1")
 
 
 @contextlib.contextmanager
-def divided() -> Iterator[str]:
-    """The folder of the group that has those of programs, as long as it is open, or
-    nothing if there can be none. The lab's own processes are in a group beside those of
-    programs, as the kernel wants it."""
-    own = own_group()
-    if own is None:
+def program_group() -> Iterator[str]:
+    """Yields the folder of the group of programs, or "" if cgroups are not available.
+    The lab's own processes move to a sibling group, because the kernel allows processes
+    in leaves only."""
+    group = own_group()
+    if group is None:
         yield ""
         return
-    remove_left(own)
+    remove_left(group)
     # the first group of all may have processes and groups
-    place = own / f"{OF_LAB}{os.getpid()}" if (own / KIND).exists() else None
-    asked = NEEDED - set((own / SUBTREE).read_text().split())
+    folder = group / f"{OF_LAB}{os.getpid()}" if (group / KIND).exists() else None
+    missing_controllers = NEEDED_CONTROLLERS - set(
+        (group / SUBTREE).read_text().split()
+    )
     with contextlib.ExitStack() as undone:
         try:
-            if place is not None:
-                place.mkdir()
-                undone.callback(remove, place)
-                undone.callback(move, place, own)
-                move(own, place)
-            if asked:
-                undone.callback(switch, own, "-", asked)
-                switch(own, "+", asked)
-            found = str(own)
+            if folder is not None:
+                folder.mkdir()
+                undone.callback(remove, folder)
+                undone.callback(move, folder, group)
+                move(group, folder)
+            if missing_controllers:
+                undone.callback(switch, group, "-", missing_controllers)
+                switch(group, "+", missing_controllers)
+            program_folder = str(group)
         except OSError:
-            found = ""
-        if not found:
+            program_folder = ""
+        if not program_folder:
             undone.close()
-        yield found
+        yield program_folder
 
 
 @contextlib.contextmanager
 def group_in(folder: str) -> Iterator[Optional[ControlGroup]]:
-    """A new group for a program in this folder, or none if the folder has no name. All
-    in it is ended, and it is removed."""
+    """Yields a new group below the folder, or None for "". At the end its processes are
+    killed and it is removed."""
     if not folder:
         yield None
         return
-    place = pathlib.Path(folder) / f"{OF_PROGRAM}{os.getpid()}-{next(NUMBERS)}"
-    place.mkdir()
-    found = ControlGroup(place)
+    folder_path = pathlib.Path(folder) / f"{OF_PROGRAM}{os.getpid()}-{next(NUMBERS)}"
+    folder_path.mkdir()
+    control_group = ControlGroup(folder_path)
     try:
-        found.bound()
-        yield found
+        control_group.bound()
+        yield control_group
     finally:
-        found.end()
-        remove(place)
+        control_group.end()
+        remove(folder_path)
 
 
 def own_group() -> Optional[pathlib.Path]:
     """The group of this process, if groups with bounds can be made in it."""
     try:
         path = next(
-            line[3:] for line in OWN.read_text().splitlines() if line.startswith("0::")
+            line[3:]
+            for line in OWN_GROUP.read_text().splitlines()
+            if line.startswith("0::")
         )
         mount = next(
-            pathlib.Path(it)
-            for it in MOUNTS
-            if (pathlib.Path(it) / CONTROLLERS).exists()
+            pathlib.Path(mount)
+            for mount in MOUNTS
+            if (pathlib.Path(mount) / CONTROLLERS).exists()
         )
-        own = mount / path.lstrip("/")
-        has_all = NEEDED <= set((own / CONTROLLERS).read_text().split())
+        group = mount / path.lstrip("/")
+        has_all = NEEDED_CONTROLLERS <= set((group / CONTROLLERS).read_text().split())
         may_write = all(
-            os.access(it, os.W_OK) for it in (own, own / PROCESSES, own / SUBTREE)
+            os.access(path, os.W_OK)
+            for path in (group, group / PROCESSES, group / SUBTREE)
         )
-        is_alone = not (own / KIND).exists() or set(processes_in(own)) <= set(
+        is_alone = not (group / KIND).exists() or set(processes_in(group)) <= set(
             processes.below(os.getpid())
         )
     except (OSError, StopIteration, ValueError):
         return None
-    return own if has_all and may_write and is_alone else None
+    return group if has_all and may_write and is_alone else None
 
 
 def processes_in(group: pathlib.Path) -> List[int]:
@@ -163,7 +168,7 @@ def move(source: pathlib.Path, target: pathlib.Path) -> None:
 
 
 def switch(group: pathlib.Path, sign: str, controllers: "set[str]") -> None:
-    """Has a group bound those below it, or no more."""
+    """Enables (+) or disables (-) controllers for the children of a group."""
     with contextlib.suppress(OSError) if sign == "-" else contextlib.nullcontext():
         write(
             group / SUBTREE, " ".join(f"{sign}{name}" for name in sorted(controllers))
@@ -185,14 +190,14 @@ def remove(group: pathlib.Path) -> None:
         time.sleep(BETWEEN)
 
 
-def remove_left(own: pathlib.Path) -> None:
+def remove_left(group: pathlib.Path) -> None:
     """Removes groups of commands that were killed."""
     for prefix in (OF_LAB, OF_PROGRAM):
-        for place in own.glob(f"{prefix}*"):
-            process = place.name[len(prefix) :].partition("-")[0]
+        for leftover in group.glob(f"{prefix}*"):
+            process = leftover.name[len(prefix) :].partition("-")[0]
             if not os.path.exists(f"/proc/{process}"):
-                ControlGroup(place).end()
-                remove(place)
+                ControlGroup(leftover).end()
+                remove(leftover)
 
 
 def write(path: pathlib.Path, text: str) -> None:

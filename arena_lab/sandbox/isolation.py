@@ -7,11 +7,11 @@ import subprocess
 from typing import List, Optional, Sequence, Tuple
 
 from arena_lab.sandbox import calls
-from arena_lab.support.faults import Fault
+from arena_lab.support.faults import ArenaError
 from arena_lab.support.missing import DEBIANS_PYTHON
 
 FILTER = pathlib.Path(__file__).resolve().parent / "filter.py"
-# where a program's folder stands behind walls, where it connects, and who it is there
+# inside the sandbox: the program's folder, the port to connect to, and the user
 HOME = "/agent"
 PORT = 4000
 USER = "1000"
@@ -63,15 +63,15 @@ SPACES = (HOME, "/tmp", "/dev/shm")
 SPACE = 64 << 20
 
 
-class NoCell(Fault):
+class CellError(ArenaError):
     """A program cannot be kept apart; says what to change."""
 
 
 def words(tools: Sequence[str], has_proc: bool, root: str = "") -> List[str]:
-    """The command of bubblewrap that puts up walls, up to the command that is to run
-    behind them. These folders are seen besides the system's, and /proc if it is asked
-    for. Of the system a copy is seen, if there is one."""
-    found = [
+    """Returns the bubblewrap command up to the sandboxed command. `tools` are visible
+    besides the system folders, /proc if requested, and the copy of the system at `root`
+    instead of the system."""
+    command = [
         "bwrap",
         "--unshare-all",
         "--unshare-user",
@@ -95,49 +95,49 @@ def words(tools: Sequence[str], has_proc: bool, root: str = "") -> List[str]:
         "COUNTED",
         "yes",
     ]
-    found += [
+    command += [
         *disk_words(root),
         *(proc_words() if has_proc else ["--dir", "/proc"]),
         "--dev",
         "/dev",
     ]
-    # the machine has a number of terminals for all
-    found += ["--tmpfs", "/dev/pts", "--remount-ro", "/dev/pts"]
+    # terminals are numbered for the whole machine
+    command += ["--tmpfs", "/dev/pts", "--remount-ro", "/dev/pts"]
     for path in SPACES:
-        found += ["--size", str(SPACE), "--tmpfs", path]
+        command += ["--size", str(SPACE), "--tmpfs", path]
     for number, path in enumerate(tools):
         copy = f"{root}/{TOOLS}/{number}"
-        found += ["--ro-bind", copy if root and os.path.isdir(copy) else path, path]
+        command += ["--ro-bind", copy if root and os.path.isdir(copy) else path, path]
     for path in meeting_places((*(() if root else SEEN), *tools)):
-        found += ["--ro-bind", os.devnull, path]
-    return [*found, "--remount-ro", "/dev", "--remount-ro", "/", "--chdir", HOME]
+        command += ["--ro-bind", os.devnull, path]
+    return [*command, "--remount-ro", "/dev", "--remount-ro", "/", "--chdir", HOME]
 
 
 @functools.lru_cache(maxsize=8)
-def system_filter(language: str, more: Tuple[str, ...]) -> bytes:
+def system_filter(language: str, extra: Tuple[str, ...]) -> bytes:
     """The filter of system calls for programs in a language, which allows these
     besides, as bubblewrap takes it."""
-    ran = subprocess.run(
-        [DEBIANS_PYTHON, str(FILTER), str(calls.TABLE), language, *more],
+    result = subprocess.run(
+        [DEBIANS_PYTHON, str(FILTER), str(calls.TABLE), language, *extra],
         capture_output=True,
     )
-    if ran.returncode != 0:
-        said = ran.stderr.decode(errors="replace").strip().rpartition("\n")[2]
-        raise NoCell(f"the filter of system calls cannot be made: {said}")
-    return ran.stdout
+    if result.returncode != 0:
+        message = result.stderr.decode(errors="replace").strip().rpartition("\n")[2]
+        raise CellError(f"the filter of system calls cannot be made: {message}")
+    return result.stdout
 
 
 def disk_words(root: str) -> List[str]:
-    """What all programs see of the system: of its disk, or of a copy."""
-    found = []
+    """Returns the options that make the system's disk, or a copy of it, visible."""
+    options = []
     for name in TOP:
         if os.path.islink(f"/{name}"):
-            found += ["--symlink", os.readlink(f"/{name}"), f"/{name}"]
+            options += ["--symlink", os.readlink(f"/{name}"), f"/{name}"]
         elif os.path.isdir(f"/{name}"):
-            found += ["--ro-bind", f"/{name}", f"/{name}"]
+            options += ["--ro-bind", f"/{name}", f"/{name}"]
     if root:
         return [
-            *found,
+            *options,
             "--ro-bind",
             f"{root}/usr",
             "/usr",
@@ -151,29 +151,30 @@ def disk_words(root: str) -> List[str]:
         for path in sorted(pathlib.Path("/etc").glob(pattern))
     )
     for path in (*SEEN, *settings):
-        found += ["--ro-bind-try", path, path]
-    return found
+        options += ["--ro-bind-try", path, path]
+    return options
 
 
 def proc_words() -> List[str]:
-    """What shows /proc and hides all of it that is of no process."""
-    found = ["--proc", "/proc"]
+    """Returns the options that mount /proc and hide its entries other than
+    processes."""
+    options = ["--proc", "/proc"]
     for name in sorted(os.listdir("/proc")):
         if not name.isdigit() and name not in PROCESSES:
             path = f"/proc/{name}"
-            found += (
+            options += (
                 ["--tmpfs", path, "--remount-ro", path]
                 if os.path.isdir(path)
                 else ["--ro-bind", os.devnull, path]
             )
-    return found
+    return options
 
 
 @functools.lru_cache(maxsize=4)
 def meeting_places(folders: Sequence[str]) -> List[str]:
     """The pipes and sockets in these folders, by which programs that only read could
     talk."""
-    ran = subprocess.run(
+    result = subprocess.run(
         [
             "find",
             *filter(os.path.isdir, folders),
@@ -188,14 +189,14 @@ def meeting_places(folders: Sequence[str]) -> List[str]:
         ],
         capture_output=True,
     )
-    return [os.fsdecode(path) for path in ran.stdout.split(b"\0") if path]
+    return [os.fsdecode(path) for path in result.stdout.split(b"\0") if path]
 
 
 def seen_at(path: pathlib.Path, tools: Sequence[str]) -> Optional[str]:
-    """The folder that programs behind walls see, and that has this path or is in it;
-    None if they do not see it."""
+    """Returns the visible folder that contains a path, or None if sandboxed programs
+    cannot see the path."""
     real = path.resolve()
-    for seen in (*map("/{}".format, TOP), *SEEN, *tools):
-        if real.is_relative_to(pathlib.Path(seen).resolve()):
-            return seen
+    for visible_folder in (*map("/{}".format, TOP), *SEEN, *tools):
+        if real.is_relative_to(pathlib.Path(visible_folder).resolve()):
+            return visible_folder
     return None

@@ -4,14 +4,14 @@ import pathlib
 import subprocess
 import sys
 
-from arena_lab.support.faults import Fault
+from arena_lab.support.faults import ArenaError
 
 STIRRING = pathlib.Path(__file__).resolve().parent / "kernel_noise.py"
 # of Linux: what is written there has it forget what it keeps of files
 CACHES = pathlib.Path("/proc/sys/vm/drop_caches")
 
 
-class CannotForget(Fault):
+class CacheError(ArenaError):
     """The caches of the machine cannot be dropped; says what to change."""
 
 
@@ -27,12 +27,11 @@ def stir() -> None:
 
 
 def forget() -> None:
-    """Has the machine forget which names of files there are not, and what it has read
-    of files."""
+    """Drops the kernel's caches of file contents and of missing names."""
     os.sync()
     try:
         CACHES.write_text("3\n")
     except OSError as fault:
-        raise CannotForget(
+        raise CacheError(
             f"{CACHES}: {fault.strerror}: root may drop the caches; leave out --drop-caches"
         ) from None

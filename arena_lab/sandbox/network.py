@@ -20,7 +20,7 @@ NEW_NET = 0x40000000
 LIBC = ctypes.CDLL(None, use_errno=True)
 
 
-class NoNetwork(OSError):
+class NetworkSetupError(OSError):
     """A network cannot be bounded."""
 
 
@@ -36,7 +36,9 @@ def bound(process: int) -> None:
         finally:
             os._exit(status)
     if os.waitpid(child, 0)[1] != 0:
-        raise NoNetwork(f"{RANGE} cannot be written for the network of a sandbox")
+        raise NetworkSetupError(
+            f"{RANGE} cannot be written for the network of a sandbox"
+        )
 
 
 def write_range(process: int) -> None:
@@ -44,8 +46,8 @@ def write_range(process: int) -> None:
     of ports."""
     network = os.open(f"/proc/{process}/ns/net", os.O_RDONLY)
     owner = fcntl.ioctl(network, NS_GET_USERNS)
-    for entered, kind in ((owner, NEW_USER), (network, NEW_NET)):
-        if LIBC.setns(entered, kind) != 0:
-            raise NoNetwork(ctypes.get_errno())
-    place = os.open(RANGE, os.O_WRONLY)
-    os.write(place, PORTS.encode())
+    for namespace, kind in ((owner, NEW_USER), (network, NEW_NET)):
+        if LIBC.setns(namespace, kind) != 0:
+            raise NetworkSetupError(ctypes.get_errno())
+    descriptor = os.open(RANGE, os.O_WRONLY)
+    os.write(descriptor, PORTS.encode())

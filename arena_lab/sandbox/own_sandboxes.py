@@ -4,7 +4,7 @@ import contextlib
 import subprocess
 from typing import Any, Callable, Mapping, Optional, Sequence
 
-from arena_lab.play.grounds import Started
+from arena_lab.play.grounds import StartedProgram
 from arena_lab.rules.fixtures import Fixture
 from arena_lab.rules.model import Setup
 from arena_lab.sandbox.sandboxes import (
@@ -16,19 +16,19 @@ from arena_lab.sandbox.sandboxes import (
 
 
 class OwnSandbox:
-    """Where one program runs."""
+    """Runs a single program in a sandbox of its own."""
 
-    def __init__(self, options: SandboxOptions, kept: ProgramFiles) -> None:
-        self.facts: Mapping[str, str] = kept.facts
+    def __init__(self, options: SandboxOptions, files: ProgramFiles) -> None:
+        self.facts: Mapping[str, str] = files.facts
         self._options = options
-        self._kept = kept
+        self._kept = files
         self._held = contextlib.ExitStack()
         self._sandbox: Optional[Sandbox] = None
         self._fault = ""
 
-    def start(self, words: Sequence[str], seed: int, errors: Any) -> Started:
-        made = sandboxes_for(self._options, self._kept, 1)
-        self._sandbox = self._held.enter_context(made)[0]
+    def start(self, words: Sequence[str], seed: int, errors: Any) -> StartedProgram:
+        sandboxes = sandboxes_for(self._options, self._kept, 1)
+        self._sandbox = self._held.enter_context(sandboxes)[0]
         return self._sandbox.start(words, seed, errors)
 
     def kill(self, child: "subprocess.Popen[bytes]") -> None:
@@ -42,8 +42,8 @@ class OwnSandbox:
         if self._sandbox is not None:
             self._sandbox.hurry(child)
 
-    def told(self, text: str) -> str:
-        return text if self._sandbox is None else self._sandbox.told(text)
+    def stable_text(self, text: str) -> str:
+        return text if self._sandbox is None else self._sandbox.stable_text(text)
 
     def hint(self, words: str) -> str:
         return "" if self._sandbox is None else self._sandbox.hint(words)

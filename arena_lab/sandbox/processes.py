@@ -1,5 +1,4 @@
-"""The processes of this machine, as /proc tells of them. Each may end while it is
-looked at."""
+"""Reads the processes of this machine from /proc. Each may end at any moment."""
 import contextlib
 import os
 import pathlib
@@ -8,35 +7,32 @@ from typing import List
 PROC = pathlib.Path("/proc")
 
 
-def listed(folder: pathlib.Path = PROC) -> List[int]:
+def process_numbers(folder: pathlib.Path = PROC) -> List[int]:
     """The numbers of all processes, or of the threads in a folder of /proc; none if the
     folder's process has ended."""
-    # a glob would ask of each whether it is there, and fails where one ends before the
-    # answer
+    # a glob would check each entry, and fail if a process ends meanwhile
     with contextlib.suppress(OSError):
         return [int(name) for name in os.listdir(folder) if name.isdigit()]
     return []
 
 
 def below(process: int) -> List[int]:
-    """A process and all that it has started, as far as they have not lost those
-    between."""
-    found = []
+    """Returns a process and its descendants, except those whose parent has ended."""
+    processes = []
     waiting = [process]
     while waiting:
-        found.append(waiting.pop())
-        threads = PROC / str(found[-1]) / "task"
-        for thread in listed(threads):
+        processes.append(waiting.pop())
+        threads = PROC / str(processes[-1]) / "task"
+        for thread in process_numbers(threads):
             with contextlib.suppress(OSError):
                 waiting += map(
                     int, (threads / str(thread) / "children").read_text().split()
                 )
-    return found
+    return processes
 
 
 def is_alive(process: int) -> bool:
-    """Whether a process has not ended. One that has, but is not waited for, is listed
-    all the same."""
+    """Returns whether a process runs; zombies count as ended."""
     with contextlib.suppress(OSError):
         return (PROC / str(process) / "stat").read_text().rpartition(")")[2].split()[
             0
@@ -44,9 +40,9 @@ def is_alive(process: int) -> bool:
     return False
 
 
-def words_of(process: int) -> List[str]:
-    """The words of the command that started a process; none if it has ended, or is the
-    kernel's."""
+def command_words(process: int) -> List[str]:
+    """Returns the command line of a process, or [] if it has ended or is a kernel
+    thread."""
     with contextlib.suppress(OSError):
         return (
             (PROC / str(process) / "cmdline")

@@ -39,7 +39,7 @@ from typing import (
     Tuple,
 )
 
-from arena_lab.play.grounds import NoStart, Started
+from arena_lab.play.grounds import StartError, StartedProgram
 from arena_lab.play.wasm_modules import is_module
 from arena_lab.sandbox import (
     calls,
@@ -52,7 +52,7 @@ from arena_lab.sandbox import (
     watch,
 )
 from arena_lab.sandbox.groups import ControlGroup
-from arena_lab.sandbox.isolation import HOME, PATH, PORT, SPACES, NoCell
+from arena_lab.sandbox.isolation import HOME, PATH, PORT, SPACES, CellError
 from arena_lab.sandbox.start import GO, READY
 from arena_lab.sandbox.watch import TOO_MUCH, MemoryWatch, memory_of, space_of
 from arena_lab.support.built import player
@@ -65,7 +65,7 @@ SECONDS_TO_BEGIN = 60
 PACKAGES = "apt-get install bubblewrap python3-seccomp"
 # an archive of no files
 NOTHING = bytes(tarfile.RECORDSIZE)
-# last words of programs that meet a bound, and what is said of them
+# pattern of last words at a resource limit -> advice
 THREADS = "a program may have 256 processes and threads"
 HINTS = {
     "can't start new thread": THREADS,
@@ -78,8 +78,7 @@ HINTS = {
     "No space left on device": "a program's folder, /tmp and /dev/shm take 64 MB each",
 }
 
-# last words of programs that make a call of the system which is refused; what is said
-# of it
+# pattern of last words after a refused system call, and the advice
 NO_CALL = re.compile(
     "function not implemented|operation not permitted|bad system call|ENOSYS|EPERM",
     re.IGNORECASE,
@@ -91,7 +90,7 @@ A_CALL = (
 
 
 class Isolation(enum.Enum):
-    """What keeps a program apart, besides a folder of its own."""
+    """How a program is isolated, besides having its own folder."""
 
     ALL = "each program has a network, processes and a view of the disk of its own"
     USER = (
@@ -105,10 +104,10 @@ class Isolation(enum.Enum):
 
 
 class SandboxOptions(NamedTuple):
-    """What sandboxes share. `isolation` keeps programs apart. Besides the system's
-    folders programs see `tools`, and /proc if `has_proc`. `root` has the copy of the
-    system that they see, or is empty. They may make `calls` of the system besides those
-    of their languages. `groups` has the control groups of programs, or is empty."""
+    """Options shared by sandboxes: the `isolation`; folders visible besides the
+    system's (`tools`), and /proc if `has_proc`; `root`, the copy of the system, or "";
+    system calls allowed besides those of the language (`calls`); `groups`, the folder
+    of control groups, or ""."""
 
     isolation: Isolation
     tools: Tuple[str, ...] = ()
@@ -134,35 +133,35 @@ class Sandbox:
     def __init__(
         self,
         options: SandboxOptions,
-        kept: ProgramFiles,
+        files: ProgramFiles,
         user: Optional[int],
-        place: Optional[pathlib.Path],
+        path: Optional[pathlib.Path],
         group: Optional[ControlGroup] = None,
     ) -> None:
         self.options = options
         self._group = group
         self.user = user
-        self.place = place
-        self.facts = kept.facts
-        self._files = kept.files
-        self._language = kept.language
+        self.place = path
+        self.facts = files.facts
+        self._files = files.files
+        self._language = files.language
         self._child: Optional["subprocess.Popen[bytes]"] = None
         # the first process behind walls, as a file
         self._first: Optional[int] = None
         self._fault = ""
 
-    def start(self, words: Sequence[str], seed: int, errors: Any) -> Started:
+    def start(self, words: Sequence[str], seed: int, errors: Any) -> StartedProgram:
         """Starts a program."""
         ours, theirs = socket.socketpair()
-        with theirs, contextlib.ExitStack() as held:
-            files = held.enter_context(in_memory(self._files))
-            given = [theirs.fileno(), files]
+        with theirs, contextlib.ExitStack() as stack:
+            files = stack.enter_context(in_memory(self._files))
+            descriptors = [theirs.fileno(), files]
             command = self._before()
             port = 0
             if self.place is None:
                 port = PORT
-                given.append(
-                    held.enter_context(
+                descriptors.append(
+                    stack.enter_context(
                         in_memory(
                             isolation.system_filter(self._language, self.options.calls)
                         )
@@ -171,7 +170,7 @@ class Sandbox:
                 command += isolation.words(
                     self.options.tools, self.options.has_proc, self.options.root
                 )
-                command += ["--seccomp", str(given[-1])]
+                command += ["--seccomp", str(descriptors[-1])]
             command += [
                 python(),
                 "-I",
@@ -187,7 +186,7 @@ class Sandbox:
             path = PATH if self.user is not None else os.environ.get("PATH", PATH)
             child = self._child = subprocess.Popen(
                 command,
-                pass_fds=given,
+                pass_fds=descriptors,
                 stdin=subprocess.DEVNULL,
                 stdout=subprocess.DEVNULL,
                 stderr=errors,
@@ -228,30 +227,29 @@ class Sandbox:
         try:
             with channel:
                 channel.settimeout(SECONDS_TO_BEGIN)
-                _, sent, _, _ = socket.recv_fds(channel, len(READY), 1)
-                listener = socket.socket(fileno=sent[0])
+                _, descriptors, _, _ = socket.recv_fds(channel, len(READY), 1)
+                listener = socket.socket(fileno=descriptors[0])
                 if self.place is None:
                     inside = processes.below(child.pid)[1:2]
-                    self._first = opened(inside)
+                    self._first = open_process(inside)
                     network.bound(inside[0])
                 channel.sendall(GO)
                 return listener
         except (OSError, IndexError) as fault:
             self.kill(child)
             errors.seek(0)
-            said = errors.read().decode(errors="replace").strip()
-            why = f"a sandbox for a program cannot be made: {said or fault}"
+            message = errors.read().decode(errors="replace").strip()
+            why = f"a sandbox for a program cannot be made: {message or fault}"
         if self._files == NOTHING:
-            raise NoCell(why)
-        # if others can be started, it is this program's files or words
+            raise CellError(why)
+        # if the sandbox works, the program's files or words are to blame
         try_out(self.options)
-        raise NoStart(why)
+        raise StartError(why)
 
     def kill(self, child: "subprocess.Popen[bytes]") -> None:
-        """Ends the program, and all that it has started."""
+        """Kills the program and its descendants."""
         if self._first is not None:
-            # the first process behind walls takes all others with it, and has ended
-            # when they have
+            # all processes of the sandbox end with its first one
             with contextlib.suppress(ProcessLookupError):
                 signal.pidfd_send_signal(self._first, signal.SIGKILL)
             is_ready(self._first, SECONDS_TO_BEGIN)
@@ -270,19 +268,18 @@ class Sandbox:
                 signal.pidfd_send_signal(self._first, signal.SIGKILL)
             os.killpg(child.pid, signal.SIGKILL)
 
-    def told(self, text: str) -> str:
-        """What a program says, without the name of its folder, which is another one on
-        each run."""
+    def stable_text(self, text: str) -> str:
+        """Replaces the name of the program's folder, which differs in each run."""
         return text.replace(f"{self.place or HOME}/", "")
 
     def hint(self, words: str) -> str:
-        """What to change, as far as a program's last words show it."""
-        said = next((said for known, said in HINTS.items() if known in words), "")
-        if not said and self.place is None and NO_CALL.search(words):
-            said = A_CALL.format(
+        """Returns advice suggested by a program's last words."""
+        hint = next((hint for pattern, hint in HINTS.items() if pattern in words), "")
+        if not hint and self.place is None and NO_CALL.search(words):
+            hint = A_CALL.format(
                 language="a program" if self._language == calls.ANY else self._language
             )
-        return f" ({said})" if said else ""
+        return f" ({hint})" if hint else ""
 
     def fault(self) -> str:
         """Why the program was ended, if it has taken too much."""
@@ -291,13 +288,15 @@ class Sandbox:
         return self._fault
 
     def takes_too_much(self) -> bool:
-        """Whether the program has more memory than it may. In a group of its own the
-        kernel sees to that."""
+        """Returns whether the program exceeds its memory limit; in a cgroup the kernel
+        enforces it."""
         return (
-            self._group.has_met_its_bound() if self._group else self.used() > watch.MOST
+            self._group.has_met_its_bound()
+            if self._group
+            else self.memory_used() > watch.MAX_MEMORY
         )
 
-    def used(self) -> int:
+    def memory_used(self) -> int:
         """The bytes of memory that the program takes."""
         if self._child is None or self._child.returncode is not None:
             return 0
@@ -322,8 +321,8 @@ class Sandbox:
                 os.kill(process, signal.SIGKILL)
 
 
-def opened(running: Sequence[int]) -> Optional[int]:
-    """A process as a file, unless there is none or it has ended."""
+def open_process(running: Sequence[int]) -> Optional[int]:
+    """Opens a pidfd of the first process; returns None if it has ended."""
     with contextlib.suppress(ProcessLookupError):
         return os.pidfd_open(running[0]) if running else None
     return None
@@ -331,69 +330,70 @@ def opened(running: Sequence[int]) -> Optional[int]:
 
 @contextlib.contextmanager
 def sandboxes_for(
-    options: SandboxOptions, kept: ProgramFiles, count: int
+    options: SandboxOptions, files: ProgramFiles, count: int
 ) -> Iterator[List[Sandbox]]:
     """Sandboxes of programs, each with a copy of the files of an archive."""
-    with contextlib.ExitStack() as left:
-        made = []
+    with contextlib.ExitStack() as stack:
+        sandboxes = []
         for _ in range(count):
             has_user = os.geteuid() == 0 and options.isolation is not Isolation.NONE
-            user = left.enter_context(users.claimed()) if has_user else None
-            place = (
+            user = stack.enter_context(users.claim_user()) if has_user else None
+            path = (
                 None
                 if options.isolation is Isolation.ALL
-                else left.enter_context(folder_for(user))
+                else stack.enter_context(folder_for(user))
             )
-            made.append(
+            sandboxes.append(
                 Sandbox(
                     options,
-                    kept,
+                    files,
                     user,
-                    place,
-                    left.enter_context(groups.group_in(options.groups)),
+                    path,
+                    stack.enter_context(groups.group_in(options.groups)),
                 )
             )
-        left.enter_context(
+        stack.enter_context(
             MemoryWatch(
-                [sandbox.takes_too_much for sandbox in made],
-                [sandbox.end_for for sandbox in made],
+                [sandbox.takes_too_much for sandbox in sandboxes],
+                [sandbox.end_for for sandbox in sandboxes],
             )
         )
-        yield made
+        yield sandboxes
 
 
 @contextlib.contextmanager
-def furnished(
+def furnish(
     options: SandboxOptions, commands: Collection[str], packages: Sequence[str]
 ) -> Iterator[SandboxOptions]:
-    """The options with control groups, and with a copy of the system for these
-    commands, and these packages besides, if there can be one. If not, a line says
-    why."""
+    """Yields the options extended by control groups and by a copy of the system with
+    these commands and packages. If a copy is impossible, a line says why."""
     if any(map(is_module, commands)):
         # it may be compiled first, and nobody is timed yet
         player()
-    with contextlib.ExitStack() as held:
+    with contextlib.ExitStack() as stack:
         if options.isolation is Isolation.ALL and options.calls:
-            # so that a name which is none is told before the first match
+            # reports an unknown call name before the first match
             isolation.system_filter(calls.ANY, options.calls)
         try:
             folder = (
-                held.enter_context(
-                    system_copy.copied(commands, packages, options.tools)
+                stack.enter_context(
+                    system_copy.copy_system(commands, packages, options.tools)
                 )
                 if options.isolation is Isolation.ALL
                 else ""
             )
-        except system_copy.NoCopy as fault:
+        except system_copy.CopyError as fault:
             if packages:
-                raise NoCell(f"packages: {fault}") from None
+                raise CellError(f"packages: {fault}") from None
             print(
                 f"arena-lab: programs see the system's own disk, where the kernel keeps names for later ones: "
                 f"{fault}",
                 file=sys.stderr,
             )
             folder = ""
-        yield options._replace(root=folder, groups=held.enter_context(groups.divided()))
+        yield options._replace(
+            root=folder, groups=stack.enter_context(groups.program_group())
+        )
 
 
 def try_out(options: SandboxOptions) -> None:
@@ -401,24 +401,26 @@ def try_out(options: SandboxOptions) -> None:
     why."""
     with sandboxes_for(
         options, ProgramFiles(NOTHING), 1
-    ) as made, tempfile.TemporaryFile() as errors:
-        child, listener_of = made[0].start(["true"], 0, errors)
+    ) as sandboxes, tempfile.TemporaryFile() as errors:
+        child, listener_of = sandboxes[0].start(["true"], 0, errors)
         listener_of().close()
         if child.wait() != 0:
-            raise NoCell(
+            raise CellError(
                 f"a program that does nothing has ended with status {child.returncode}"
             )
 
 
 @contextlib.contextmanager
 def folder_for(user: Optional[int]) -> Iterator[pathlib.Path]:
-    """A folder of this user's own, who has nothing else, before and after."""
+    """Yields an empty folder owned by this user, and removes all of the user's files
+    and processes before and after."""
     if user is not None:
-        # a command that was killed may have left it
+        # remains of a killed command
         users.end_and_remove(user)
     above = pathlib.Path(tempfile.mkdtemp(prefix="lab-sandbox-"))
     try:
-        # a program may rename its folder, if it may write to the one above
+        # 0o711, because with write permission on the parent a program could rename its
+        # folder
         above.chmod(0o711)
         (above / "home").mkdir(mode=0o700)
         if user is not None:
@@ -452,7 +454,7 @@ def python() -> str:
 
 @functools.lru_cache(maxsize=1)
 def weakness() -> str:
-    """Why there are no walls here, or nothing if there are."""
+    """Returns why sandboxes are not available here, or ""."""
     if (
         shutil.which("bwrap") is None
         or not os.path.exists(DEBIANS_PYTHON)
@@ -465,7 +467,7 @@ def weakness() -> str:
     try:
         try_out(SandboxOptions(Isolation.ALL))
         return ""
-    except NoCell as fault:
+    except CellError as fault:
         return (
             f"this machine makes no walls between programs, as in a container: {fault}"
         )
@@ -473,7 +475,7 @@ def weakness() -> str:
 
 @functools.lru_cache(maxsize=1)
 def strongest() -> Isolation:
-    """What can keep programs apart here."""
+    """Returns the strongest isolation that is available here."""
     if not weakness():
         return Isolation.ALL
     return Isolation.USER if os.geteuid() == 0 else Isolation.NONE

@@ -36,11 +36,11 @@ AHEAD = 4 << 20
 
 
 def limit() -> None:
-    """Bounds what the program may take. Who has a name has other processes, which are
-    not counted against it."""
-    for kind, most in LIMITS.items():
+    """Sets the resource limits of the program. Users with a name have other processes,
+    so their process limit is not set."""
+    for kind, limit in LIMITS.items():
         hard = resource.getrlimit(kind)[1]
-        least = most if hard == resource.RLIM_INFINITY else min(most, hard)
+        least = limit if hard == resource.RLIM_INFINITY else min(limit, hard)
         if kind != resource.RLIMIT_NPROC or os.environ.get("COUNTED"):
             resource.setrlimit(kind, (least, least))
 
@@ -76,15 +76,14 @@ def listen(channel: int, port: int) -> int:
                 )
             ],
         )
-        opened: int = listener.getsockname()[1]
+        port_number: int = listener.getsockname()[1]
         if sends.recv(len(GO)) != GO:
             sys.exit("the lab has ended before the program began")
-        return opened
+        return port_number
 
 
 def hint(name: str) -> str:
-    """What to change in a team's file that cannot be started, as far as the file shows
-    it."""
+    """Returns why a file cannot be executed, as far as its contents show it."""
     try:
         with open(name, "rb") as file:
             first = file.readline(LONGEST)
@@ -108,8 +107,8 @@ def fail(name: str, why: str) -> NoReturn:
 def main(channel: str, files: str, port: str, seed: str, *words: str) -> None:
     limit()
     unpack(int(files))
-    opened = str(listen(int(channel), int(port)))
-    command: List[str] = [word.replace("{port}", opened) for word in words]
+    port_number = str(listen(int(channel), int(port)))
+    command: List[str] = [word.replace("{port}", port_number) for word in words]
     here = os.getcwd()
     environment = {
         "PATH": os.environ["PATH"],

@@ -22,7 +22,7 @@ from arena_lab.sandbox.isolation import PATH, SETTINGS, TOOLS
 
 # where file systems in memory are, and how many bytes of them a copy may take
 PLACES = ("/dev/shm", os.environ.get("XDG_RUNTIME_DIR", "/dev/shm"))
-MOST = 1 << 30
+MAX_BYTES = 1 << 30
 PREFIX = "lab-root-"
 # what each program may need: its sandbox is begun by Python and tar, and scripts by a
 # shell
@@ -45,25 +45,25 @@ LEFT_OUT = (
     "/usr/share/info/",
     "/usr/share/lintian/",
 )
-MOST_LINKS = 40
+MAX_LINKS = 40
 CACHE = "__pycache__"
 CHOSEN = "/etc/alternatives/"
 
 
-class NoCopy(Exception):
+class CopyError(Exception):
     """The system cannot be copied; says why."""
 
 
 class Package(NamedTuple):
-    """A package that is installed: the file that lists its files, and what it needs,
-    each as names of which one will do."""
+    """An installed package: the file that lists its files, and its dependencies, each a
+    list of alternatives."""
 
-    listed: pathlib.Path
+    file_list: pathlib.Path
     needs: List[List[str]]
 
 
 @contextlib.contextmanager
-def copied(
+def copy_system(
     commands: Iterable[str], packages: Sequence[str], tools: Sequence[str] = ()
 ) -> Iterator[str]:
     """The folder of a copy for these commands, and these packages and tools besides, as
@@ -71,13 +71,13 @@ def copied(
     remove_left()
     paths = files_of(closure([*ALWAYS, *packages, *owners(commands, tools)]))
     size = sum(os.lstat(path).st_size for path in paths)
-    if size > MOST:
-        raise NoCopy(
-            f"what the commands need takes {size >> 20} MB, and a copy may take {MOST >> 20}"
+    if size > MAX_BYTES:
+        raise CopyError(
+            f"what the commands need takes {size >> 20} MB, and a copy may take {MAX_BYTES >> 20}"
         )
     inside = all_in(map(os.path.realpath, tools))
-    more = sum(os.lstat(path).st_size for path in inside if is_plain(path))
-    room = size + more if size + more <= MOST else size
+    extra_bytes = sum(os.lstat(path).st_size for path in inside if is_plain(path))
+    room = size + extra_bytes if size + extra_bytes <= MAX_BYTES else size
     with tempfile.TemporaryDirectory(
         prefix=f"{PREFIX}{os.getpid()}-", dir=place_for(room)
     ) as folder:
@@ -87,13 +87,13 @@ def copied(
         )
         copy("/", folder, ["--no-recursion", "--null", "-T", "-"], names)
         try:
-            if room < size + more:
-                raise NoCopy(f"they take {more >> 20} MB")
+            if room < size + extra_bytes:
+                raise CopyError(f"they take {extra_bytes >> 20} MB")
             for number, tool in enumerate(tools):
-                place = f"{folder}/{TOOLS}/{number}"
-                os.makedirs(place)
-                copy(os.path.realpath(tool), place, ["."])
-        except NoCopy as fault:
+                target = f"{folder}/{TOOLS}/{number}"
+                os.makedirs(target)
+                copy(os.path.realpath(tool), target, ["."])
+        except CopyError as fault:
             shutil.rmtree(f"{folder}/{TOOLS}", ignore_errors=True)
             print(
                 f"arena-lab: programs see the tools on the disk, where the kernel keeps names for later ones: "
@@ -106,27 +106,27 @@ def copied(
 def copy(source: str, target: str, chosen: Sequence[str], names: bytes = b"") -> None:
     """Copies files from a folder to another, as `tar` chooses them by these words and
     names."""
-    made = subprocess.run(
+    archive = subprocess.run(
         ["tar", "-C", source, "-cf", "-", *chosen], input=names, capture_output=True
     )
-    ran = subprocess.run(
-        ["tar", "-C", target, "--no-same-owner", "-xpf", "-"], input=made.stdout
+    unpacking = subprocess.run(
+        ["tar", "-C", target, "--no-same-owner", "-xpf", "-"], input=archive.stdout
     )
-    if made.returncode != 0 or ran.returncode != 0:
-        raise NoCopy(
-            f"{source} cannot be copied: {made.stderr.decode(errors='replace').strip()[:200]}"
+    if archive.returncode != 0 or unpacking.returncode != 0:
+        raise CopyError(
+            f"{source} cannot be copied: {archive.stderr.decode(errors='replace').strip()[:200]}"
         )
 
 
 def place_for(size: int) -> str:
     """A file system in memory that has room for a copy."""
-    for place in PLACES:
-        said = subprocess.run(
-            ["stat", "-f", "-c", "%T", place], capture_output=True, text=True
+    for folder in PLACES:
+        kind = subprocess.run(
+            ["stat", "-f", "-c", "%T", folder], capture_output=True, text=True
         ).stdout
-        if said.strip() == "tmpfs" and shutil.disk_usage(place).free > 2 * size:
-            return place
-    raise NoCopy(
+        if kind.strip() == "tmpfs" and shutil.disk_usage(folder).free > 2 * size:
+            return folder
+    raise CopyError(
         f"no file system in memory has {2 * size >> 20} MB free: {' and '.join(sorted(set(PLACES)))}"
     )
 
@@ -134,7 +134,7 @@ def place_for(size: int) -> str:
 def remove_left() -> None:
     """Removes copies of commands that were killed."""
     for path in {
-        path for place in PLACES for path in pathlib.Path(place).glob(f"{PREFIX}*")
+        path for folder in PLACES for path in pathlib.Path(folder).glob(f"{PREFIX}*")
     }:
         process = path.name[len(PREFIX) :].partition("-")[0]
         if not os.path.exists(f"/proc/{process}"):
@@ -154,75 +154,77 @@ def owners(commands: Iterable[str], tools: Sequence[str] = ()) -> List[str]:
         if path and not path.startswith(tuple(f"{tool}/" for tool in tools))
     ]
     # where the package has put it may be another name for the same folder
-    asked = {
-        other
-        for way in ways
-        for path in way
-        for other in (path, path.removeprefix("/usr"))
+    paths = {
+        alias
+        for route in ways
+        for path in route
+        for alias in (path, path.removeprefix("/usr"))
     }
-    ran = (
+    query = (
         subprocess.run(
-            ["dpkg-query", "-S", *sorted(asked)], capture_output=True, text=True
+            ["dpkg-query", "-S", *sorted(paths)], capture_output=True, text=True
         )
-        if asked
+        if paths
         else None
     )
-    found = [
+    owner_rows = [
         line.partition(": ")
-        for line in (ran.stdout.splitlines() if ran else [])
+        for line in (query.stdout.splitlines() if query else [])
         if "diversion by" not in line
     ]
-    known = {path.removeprefix("/usr") for _, _, path in found}
-    for way in ways:
-        if way[-1].removeprefix("/usr") not in known:
-            raise NoCopy(f"{way[-1]} is of no package of Debian")
+    known_paths = {path.removeprefix("/usr") for _, _, path in owner_rows}
+    for route in ways:
+        if route[-1].removeprefix("/usr") not in known_paths:
+            raise CopyError(f"{route[-1]} is of no package of Debian")
     return [
-        name.partition(":")[0] for owner, _, _ in found for name in owner.split(", ")
+        name.partition(":")[0]
+        for owner, _, _ in owner_rows
+        for name in owner.split(", ")
     ]
 
 
 def way_of(path: str) -> List[str]:
-    """A program, and the links by which it is found before."""
-    found = [path]
-    while os.path.islink(found[-1]) and len(found) < MOST_LINKS:
-        found.append(
+    """Returns a program's path and the symbolic links that lead to it."""
+    paths = [path]
+    while os.path.islink(paths[-1]) and len(paths) < MAX_LINKS:
+        paths.append(
             os.path.normpath(
-                os.path.join(os.path.dirname(found[-1]), os.readlink(found[-1]))
+                os.path.join(os.path.dirname(paths[-1]), os.readlink(paths[-1]))
             )
         )
-    return found
+    return paths
 
 
 @functools.lru_cache(maxsize=1)
-def installed() -> Dict[str, Package]:
-    """The packages that are installed by their names, and by those of what they
-    provide."""
+def installed_packages() -> Dict[str, Package]:
+    """Returns installed packages by their names and by the names that they provide."""
     form = "${db:Status-Abbrev}\t${Package}\t${Architecture}\t${Provides}\t${Pre-Depends}, ${Depends}\n"
     try:
-        ran = subprocess.run(
+        query = subprocess.run(
             ["dpkg-query", "-W", "-f", form], capture_output=True, text=True, check=True
         )
     except (OSError, subprocess.CalledProcessError):
-        raise NoCopy("this is no Debian") from None
-    found: Dict[str, Package] = {}
-    provided: Dict[str, Package] = {}
-    for line in ran.stdout.splitlines():
+        raise CopyError("this is no Debian") from None
+    packages: Dict[str, Package] = {}
+    providers: Dict[str, Package] = {}
+    for line in query.stdout.splitlines():
         status, name, machine, provides, needs = line.split("\t")
         if not status.startswith("ii"):
             continue
         lists = [LISTS / f"{name}.list", LISTS / f"{name}:{machine}.list"]
         package = Package(
-            next((it for it in lists if it.exists()), lists[0]), alternatives(needs)
+            next((file_list for file_list in lists if file_list.exists()), lists[0]),
+            alternatives(needs),
         )
-        found[name] = package
-        provided.update(
-            {other: package for names in alternatives(provides) for other in names}
+        packages[name] = package
+        providers.update(
+            {name: package for names in alternatives(provides) for name in names}
         )
-    return {**provided, **found}
+    return {**providers, **packages}
 
 
 def alternatives(text: str) -> List[List[str]]:
-    """What a package needs: of each of these one is enough."""
+    """Parses a dependency field into lists of alternatives."""
     return [
         [re.split(r"[ (:]", name.strip())[0] for name in part.split("|")]
         for part in text.split(",")
@@ -231,56 +233,58 @@ def alternatives(text: str) -> List[List[str]]:
 
 
 def closure(names: Iterable[str]) -> List[Package]:
-    """The packages of these names, and all that they need."""
-    known = installed()
+    """Returns these packages and all their dependencies."""
+    packages_known = installed_packages()
     waiting = list(names)
-    found = {}
+    packages_needed = {}
     for name in waiting:
-        if name not in known:
-            raise NoCopy(
+        if name not in packages_known:
+            raise CopyError(
                 f"the package {name} is not installed: `apt-get install {name}`"
             )
     while waiting:
-        package = known[waiting.pop()]
-        if package.listed not in found:
-            found[package.listed] = package
+        package = packages_known[waiting.pop()]
+        if package.file_list not in packages_needed:
+            packages_needed[package.file_list] = package
             waiting += [
                 name
                 for names in package.needs
-                for name in [it for it in names if it in known][:1]
+                for name in [name for name in names if name in packages_known][:1]
             ]
-    return list(found.values())
+    return list(packages_needed.values())
 
 
 def files_of(packages: Iterable[Package]) -> List[str]:
-    """What programs see of these packages, a folder before what is in it, and the
-    settings of the system."""
-    found: Set[str] = set()
+    """Returns the files of these packages visible to programs, folders before their
+    contents, and the system's configuration."""
+    files: Set[str] = set()
     for package in packages:
-        for line in package.listed.read_text(
+        for line in package.file_list.read_text(
             encoding="utf-8", errors="surrogateescape"
         ).splitlines():
             path = os.path.join(
                 os.path.realpath(os.path.dirname(line)), os.path.basename(line)
             )
             if path.startswith("/usr/") and not path.startswith(LEFT_OUT):
-                found.add(path)
+                files.add(path)
     # what Python has compiled is listed nowhere, and neither is which of several
     # programs has a common name
-    found |= {
-        it.path
-        for it in os.scandir("/usr/bin")
-        if it.is_symlink()
-        and os.readlink(it).startswith(CHOSEN)
-        and os.path.realpath(it) in found
+    files |= {
+        entry.path
+        for entry in os.scandir("/usr/bin")
+        if entry.is_symlink()
+        and os.readlink(entry).startswith(CHOSEN)
+        and os.path.realpath(entry) in files
     }
-    found |= set(
+    files |= set(
         all_in(
             f"{folder}/{CACHE}"
-            for folder in {os.path.dirname(it) for it in found if it.endswith(".py")}
+            for folder in {
+                os.path.dirname(file) for file in files if file.endswith(".py")
+            }
         )
     )
-    found |= set(
+    files |= set(
         all_in(
             str(path)
             for pattern in SETTINGS
@@ -289,16 +293,16 @@ def files_of(packages: Iterable[Package]) -> List[str]:
     )
     above = {
         str(folder)
-        for path in found
+        for path in files
         for folder in list(pathlib.Path(path).parents)[:-1]
     }
     return sorted(
-        path for path in found | above if os.path.lexists(path) and is_plain(path)
+        path for path in files | above if os.path.lexists(path) and is_plain(path)
     )
 
 
 def all_in(paths: Iterable[str]) -> Iterator[str]:
-    """Files and folders, with all that is in the folders."""
+    """Yields the paths, and everything below them."""
     for path in paths:
         yield path
         for folder, folders, files in os.walk(path):
@@ -306,5 +310,6 @@ def all_in(paths: Iterable[str]) -> Iterator[str]:
 
 
 def is_plain(path: str) -> bool:
-    """Whether it is a file, a folder or a link, by which no programs can meet."""
+    """Returns whether a path is a file, folder or link. Sockets and pipes are excluded,
+    because programs could communicate by them."""
     return os.path.islink(path) or os.path.isfile(path) or os.path.isdir(path)

@@ -13,36 +13,36 @@ import time
 from typing import Iterator, List
 
 from arena_lab.sandbox import processes
-from arena_lab.support.faults import Fault
+from arena_lab.support.faults import ArenaError
 
 # numbers of users that no system gives out for long
 USERS = range(61_184, 65_520)
 # where root keeps a lock for each user; others cannot write there
 LOCKS = pathlib.Path("/run/arena-lab")
 # where users may leave files outside their programs' folders
-SHARED = ("/tmp", "/var/tmp", "/dev/shm")
+SHARED_FOLDERS = ("/tmp", "/var/tmp", "/dev/shm")
 SECONDS_TO_END = 10
 # users that are tried, one of which is free unless nearly all are taken
 TRIES = 1000
 
 
-class NoUser(Fault):
+class UserError(ArenaError):
     """No user can be claimed, or its processes do not end."""
 
 
 @functools.lru_cache(maxsize=1)
-def unnamed() -> List[int]:
+def unnamed_users() -> List[int]:
     """Numbers of users who have no name on this machine."""
-    named = {entry.pw_uid for entry in pwd.getpwall()}
-    return [user for user in USERS if user not in named]
+    named_users = {entry.pw_uid for entry in pwd.getpwall()}
+    return [user for user in USERS if user not in named_users]
 
 
 @contextlib.contextmanager
-def claimed() -> Iterator[int]:
+def claim_user() -> Iterator[int]:
     """A user that nobody else has, whose number tells nothing."""
     LOCKS.mkdir(mode=0o700, exist_ok=True)
     for _ in range(TRIES):
-        user = random.SystemRandom().choice(unnamed())
+        user = random.SystemRandom().choice(unnamed_users())
         with open(LOCKS / str(user), "a") as lock:
             try:
                 fcntl.flock(lock, fcntl.LOCK_EX | fcntl.LOCK_NB)
@@ -50,19 +50,18 @@ def claimed() -> Iterator[int]:
                 continue
             yield user
             return
-    raise NoUser(
-        f"of {len(unnamed())} users for programs {TRIES} that were tried are taken"
+    raise UserError(
+        f"of {len(unnamed_users())} users for programs {TRIES} that were tried are taken"
     )
 
 
 def end_all_of(user: int) -> None:
     """Ends all processes of a user."""
     until = time.monotonic() + SECONDS_TO_END
-    while found := processes_of(user):
+    while processes := processes_of(user):
         if time.monotonic() > until:
-            raise NoUser(f"processes of user {user} do not end: {found[:5]}")
-        # as that user, so that all of them are told in one call, also those that begin
-        # meanwhile
+            raise UserError(f"processes of user {user} do not end: {processes[:5]}")
+        # as that user, so that one call reaches all its processes, including new ones
         subprocess.run(
             [
                 "setpriv",
@@ -75,7 +74,7 @@ def end_all_of(user: int) -> None:
             ],
             stderr=subprocess.DEVNULL,
         )
-        for process in found:
+        for process in processes:
             with contextlib.suppress(ProcessLookupError):
                 os.kill(process, signal.SIGKILL)
         time.sleep(0.005)
@@ -86,15 +85,15 @@ def end_and_remove(user: int) -> None:
     all may write."""
     end_all_of(user)
     subprocess.run(
-        ["find", *SHARED, "-xdev", "-user", str(user), "-delete"],
+        ["find", *SHARED_FOLDERS, "-xdev", "-user", str(user), "-delete"],
         stderr=subprocess.DEVNULL,
     )
 
 
 def processes_of(user: int) -> List[int]:
     """The processes of a user that still run."""
-    found = []
-    for process in processes.listed():
+    numbers = []
+    for process in processes.process_numbers():
         with contextlib.suppress(OSError):
             # a process can choose its name, which stands in the first line, and whose
             # its files are
@@ -109,5 +108,5 @@ def processes_of(user: int) -> List[int]:
             ]
             has_ended = any(line.startswith(b"State:\tZ") for line in lines)
             if str(user).encode() in users and not has_ended:
-                found.append(process)
-    return found
+                numbers.append(process)
+    return numbers

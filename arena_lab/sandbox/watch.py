@@ -11,21 +11,23 @@ import pathlib
 import threading
 from typing import Any, Callable, Dict, Sequence
 
-# bytes of memory of a program with all that it has started, and how often it is looked
-# at, in seconds
-MOST = 2 << 30
+# memory limit in bytes of a program with its descendants, and the interval of checks in
+# seconds
+MAX_MEMORY = 2 << 30
 EVERY = 0.05
-TOO_MUCH = f"has taken more than {MOST >> 30} GB of memory with all that it has started"
+TOO_MUCH = (
+    f"has taken more than {MAX_MEMORY >> 30} GB of memory with all that it has started"
+)
 PAGE = os.sysconf("SC_PAGE_SIZE")
 # what the system holds for each file in memory, besides its bytes
 BYTES_OF_A_FILE = 1024
 # lines of /proc/PROCESS/status: pages of its own and of files, and what tables of pages
 # take; of smaps_rollup the shares of the first; and how maps end that are of shared
 # memory without a name
-OWN = ("RssAnon:", "RssFile:", "VmSwap:")
+OWN_MEMORY = ("RssAnon:", "RssFile:", "VmSwap:")
 TABLES = ("VmPTE:",)
 SHARES = ("Pss_Anon:", "Pss_File:", "SwapPss:")
-SHARED = "/dev/zero (deleted)"
+SHARED_MEMORY = "/dev/zero (deleted)"
 
 
 class MemoryWatch:
@@ -64,29 +66,33 @@ def memory_of(processes: Sequence[int]) -> int:
     several have count once, if it may matter."""
     addresses, resident = (
         sum(
-            counted(process, "statm", lambda text: int(text.split()[column]) * PAGE)
+            memory_count(
+                process, "statm", lambda text: int(text.split()[column]) * PAGE
+            )
             for process in processes
         )
         for column in (0, 1)
     )
-    if addresses <= MOST:
+    if addresses <= MAX_MEMORY:
         return resident
-    shared = sum(sizes_of_shared(processes).values())
-    quick = shared + sum(
-        counted(process, "status", lambda text: bytes_in(text, OWN + TABLES))
+    shared_bytes = sum(sizes_of_shared(processes).values())
+    quick = shared_bytes + sum(
+        memory_count(
+            process, "status", lambda text: bytes_in(text, OWN_MEMORY + TABLES)
+        )
         for process in processes
     )
-    if quick <= MOST:
+    if quick <= MAX_MEMORY:
         return quick
     tables = sum(
-        counted(process, "status", lambda text: bytes_in(text, TABLES))
+        memory_count(process, "status", lambda text: bytes_in(text, TABLES))
         for process in processes
     )
     return (
-        shared
+        shared_bytes
         + tables
         + sum(
-            counted(process, "smaps_rollup", lambda text: bytes_in(text, SHARES))
+            memory_count(process, "smaps_rollup", lambda text: bytes_in(text, SHARES))
             for process in processes
         )
     )
@@ -104,7 +110,7 @@ def bytes_in(text: str, names: Sequence[str]) -> int:
 def sizes_of_shared(processes: Sequence[int]) -> Dict[str, int]:
     """The bytes of each piece of memory without a name that processes share, by its
     number."""
-    found: Dict[str, int] = {}
+    sizes: Dict[str, int] = {}
     for process in processes:
         with contextlib.suppress(OSError, ValueError):
             for line in (
@@ -112,17 +118,17 @@ def sizes_of_shared(processes: Sequence[int]) -> Dict[str, int]:
                 .read_text(errors="replace")
                 .splitlines()
             ):
-                if line.endswith(SHARED):
-                    place, _, offset, _, number, *_ = line.split()
-                    first, last = (int(it, 16) for it in place.split("-"))
-                    found[number] = max(
-                        found.get(number, 0), int(offset, 16) + last - first
+                if line.endswith(SHARED_MEMORY):
+                    addresses, _, offset, _, number, *_ = line.split()
+                    first, last = (int(part, 16) for part in addresses.split("-"))
+                    sizes[number] = max(
+                        sizes.get(number, 0), int(offset, 16) + last - first
                     )
-    return found
+    return sizes
 
 
-def counted(process: int, name: str, count: Callable[[str], int]) -> int:
-    """What a file of /proc says of a process, or nothing if it has ended."""
+def memory_count(process: int, name: str, count: Callable[[str], int]) -> int:
+    """Reads a number from a file of /proc for a process; 0 if it has ended."""
     try:
         return count(pathlib.Path(f"/proc/{process}/{name}").read_text())
     except (OSError, IndexError, ValueError):
@@ -131,7 +137,7 @@ def counted(process: int, name: str, count: Callable[[str], int]) -> int:
 
 def space_of(folder: str) -> int:
     """The bytes of memory that a file system in memory takes."""
-    found = os.statvfs(folder)
-    return (found.f_blocks - found.f_bfree) * found.f_frsize + (
-        found.f_files - found.f_ffree
+    file_system = os.statvfs(folder)
+    return (file_system.f_blocks - file_system.f_bfree) * file_system.f_frsize + (
+        file_system.f_files - file_system.f_ffree
     ) * BYTES_OF_A_FILE

@@ -15,10 +15,10 @@ from arena_lab.rules.model import (
     OVER as TOLD_OVER,
     command_of,
     denial,
-    spelled,
+    spell,
     text_of,
 )
-from arena_lab.search.history_tree import EARLY, NoFunction
+from arena_lab.search.history_tree import EARLY, NoFunctionError
 
 SAYS = "says"
 SLEEP = "sleeps"
@@ -26,16 +26,16 @@ STOP = "stops"
 FAIL = "fails"
 LEAVE = b'{"do":"leave"}'
 # the last replies to an agent, and the replies after which it sees nothing
-ENDS = {spelled(reply) for reply in LAST}
-OVER = spelled(TOLD_OVER)
+ENDS = {spell(reply) for reply in LAST}
+OVER = spell(TOLD_OVER)
 BLIND = ENDS | {DEPARTED}
-# how a memory was met first: from which memory, or from the start of which agent, and
-# by what
-Way = Tuple[int, str]
+# (memory, news): the memory before (negative: the start of an agent) and the news that
+# led to this memory
+History = Tuple[int, str]
 
 
 class AgentStep(NamedTuple):
-    """What an agent does next: it says a line, sleeps, stops or has failed."""
+    """The next action of an agent: it sends a line, sleeps, stops or has failed."""
 
     does: str
     line: bytes = b""
@@ -62,7 +62,7 @@ class AgentProcess:
         self.player.stop()
 
     def is_over(self) -> bool:
-        """Whether nothing more comes of the program."""
+        """Returns whether nothing more comes of the program."""
         return (
             self.has_ended
             or self.is_denied
@@ -71,7 +71,7 @@ class AgentProcess:
         )
 
     def step(self) -> AgentStep:
-        """What the program does next."""
+        """Returns the program's next action."""
         player = self.player
         is_over = self.is_denied or self.has_ended
         if player.fault is not None:
@@ -87,7 +87,7 @@ class AgentProcess:
             or not player.line.strip()
             or b"\n" in player.line
         ):
-            raise NoFunction(
+            raise NoFunctionError(
                 f"agent {player.number} sends {player.line!r}, which is no line"
             )
         return AgentStep(SAYS, player.line)
@@ -113,14 +113,14 @@ class AgentProcesses:
         # what the programs of all agents inside the lab read and reach
         self.notes = Notes()
 
-    def begun(self, agent: int) -> AgentProcess:
+    def start_process(self, agent: int) -> AgentProcess:
         """The program of an agent, which has begun."""
         words = self._agents[agent].words
         key = self._fixture.keys[agent]
         if self._agents[agent].kind == INSIDE:
             player: Any = Player(self.team, agent, key, self._scripts[words])
             vars(player._thread)["notes"] = self.notes
-            one = AgentProcess(player)
+            process = AgentProcess(player)
             player.go_on()
         else:
             ground = self._agents[agent].ground(self._fixture)
@@ -128,39 +128,41 @@ class AgentProcesses:
             player.start()
             player.begin()
             player.settle()
-            one = AgentProcess(player)
-        self._deny(one)
-        return one
+            process = AgentProcess(player)
+        self._deny(process)
+        return process
 
-    def tell_all(self, one: AgentProcess, all_news: Sequence[str]) -> None:
+    def tell_all(self, process: AgentProcess, all_news: Sequence[str]) -> None:
         """Takes a program along noted news. One inside the lab takes most of them in
         one turn: see `Player.receive`."""
         ahead = collections.deque(all_news)
         while ahead:
-            self.tell(one, ahead.popleft(), ahead)
+            self.send_news(process, ahead.popleft(), ahead)
 
-    def tell(
-        self, one: AgentProcess, news: str, ahead: Optional[Deque[str]] = None
+    def send_news(
+        self, process: AgentProcess, news: str, ahead: Optional[Deque[str]] = None
     ) -> None:
         """Tells a program a line, or wakes it. It may take lines that are ahead."""
-        player = one.player
-        if player.state == DONE or one.is_denied:
+        player = process.player
+        if player.state == DONE or process.is_denied:
             return
         if news != WAKES and player.state == WAITS and player.line is None:
             # its input had ended, so it hears nothing
             player.state = DONE
         else:
-            news = self._heard(one, news, ahead)
-        self._deny(one)
-        one.has_ended = one.has_ended or news in ENDS
+            news = self._heard(process, news, ahead)
+        self._deny(process)
+        process.has_ended = process.has_ended or news in ENDS
         if news in BLIND and news != OVER:
             self._wake(player)
         if news == DEPARTED and player.state == WAITS and player.line is not None:
-            raise NoFunction(EARLY.format(player.number))
+            raise NoFunctionError(EARLY.format(player.number))
 
-    def _heard(self, one: AgentProcess, news: str, ahead: Optional[Deque[str]]) -> str:
+    def _heard(
+        self, process: AgentProcess, news: str, ahead: Optional[Deque[str]]
+    ) -> str:
         """Has a program hear a line or wake; gives the last news that it took."""
-        player = one.player
+        player = process.player
         before = tuple(ahead or ())
         if isinstance(player, Player):
             player.latest = news
@@ -171,9 +173,9 @@ class AgentProcesses:
             player.hear(news)
         if isinstance(player, Player):
             player.ahead = None
-        taken = len(before) - len(ahead or ())
-        one.has_entered = one.has_entered or news != WAKES or taken > 0
-        return before[taken - 1] if taken > 0 else news
+        taken_count = len(before) - len(ahead or ())
+        process.has_entered = process.has_entered or news != WAKES or taken_count > 0
+        return before[taken_count - 1] if taken_count > 0 else news
 
     def _wake(self, player: Any) -> None:
         """Wakes an agent that sees nothing: what it does then depends on nothing that
@@ -184,18 +186,18 @@ class AgentProcesses:
         if player.state == SLEEPS:
             player.fault = player.fault or STUCK
 
-    def _deny(self, one: AgentProcess) -> None:
+    def _deny(self, process: AgentProcess) -> None:
         """Denies what a server denies: a first line that does not enter by the agent's
         key."""
-        player = one.player
-        if one.has_entered or player.state != WAITS or player.line is None:
+        player = process.player
+        if process.has_entered or player.state != WAITS or player.line is None:
             return
         command = command_of(text_of(player.line))
-        own = self._fixture.keys[player.number]
+        agent_key = self._fixture.keys[player.number]
         key = command.get("key")
-        if key in self._fixture.keys and key != own:
+        if key in self._fixture.keys and key != agent_key:
             player.stop("enters with the key of another agent")
-            one.is_denied = True
-        elif denial(command, [own], []) is not None:
-            one.is_denied = True
-            player.hear(spelled(denial(command, [own], [])))
+            process.is_denied = True
+        elif denial(command, [agent_key], []) is not None:
+            process.is_denied = True
+            player.hear(spell(denial(command, [agent_key], [])))

@@ -1,5 +1,5 @@
 """How many states of a match fit in the memory of this machine."""
-from arena_lab.search.explore import MOST_STATES
+from arena_lab.search.explore import MAX_STATES
 from arena_lab.support.memory import available
 
 # bytes of a state, with room for more than was measured: in the program's search, and
@@ -7,15 +7,15 @@ from arena_lab.support.memory import available
 OF_PROGRAM = 120
 OF_MODEL = 1_000
 # the most that the program takes as a number of states
-MOST = 2**32 - 1
+MAX_PROGRAM_STATES = 2**32 - 1
 
 
 def fitting(bytes_each: int, at_a_time: int = 1) -> int:
-    """How many states of a match fit in half of the memory that is left, if this number
-    of matches share it."""
-    left = available()
+    """Returns how many states of a match fit in half of the memory that is left, if
+    this number of matches share it."""
+    bytes_left = available()
     return (
-        MOST_STATES
-        if left is None
-        else max(1, min(MOST, left // 2 // at_a_time // bytes_each))
+        MAX_STATES
+        if bytes_left is None
+        else max(1, min(MAX_PROGRAM_STATES, bytes_left // 2 // at_a_time // bytes_each))
     )

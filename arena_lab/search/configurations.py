@@ -31,13 +31,12 @@ Memory = TypeVar("Memory")
 
 @dataclass(frozen=True)
 class Before:
-    """An agent that has not entered."""
+    """An agent before its entry."""
 
 
 @dataclass(frozen=True)
 class At:
-    """An agent at a node, and the port by which it came, or None if it entered
-    there."""
+    """An agent at a node, and the port of its arrival (None at its entry)."""
 
     node: int
     came: Optional[int]
@@ -57,7 +56,7 @@ class After:
 
 
 Position = Union[Before, At, Bound, After]
-# what has happened to an agent: a reply, as its client is sent it, or that it woke
+# an event of an agent's history: a reply, or None for a wake-up
 WOKE = None
 Item = Optional[Object]
 # all that has happened to an agent, the newest first
@@ -89,7 +88,7 @@ class Bounds(NamedTuple):
 
 
 class World:
-    """The network of a match and what does not change in it."""
+    """The constant part of a match: network, black holes and dark links."""
 
     def __init__(self, match: Match) -> None:
         setup = match.setup
@@ -103,17 +102,16 @@ class World:
         self._match = match
 
     def degree(self, node: int) -> int:
-        """How many links a node has."""
+        """Returns how many links a node has."""
         return len(self._match.far[node])
 
     def far(self, node: int, port: int) -> Place:
-        """Where the link of a port leads: the node at its far end, and the label that
-        it has there."""
+        """Returns the far end of a port's link: node and label."""
         return self._match.far[node][port]
 
     def doomed(self, node: int, port: int) -> bool:
-        """Whether an agent that departs by this port is destroyed."""
-        return self._match.doomed(node, port)
+        """Returns whether an agent that departs by this port is destroyed."""
+        return self._match.destroys(node, port)
 
 
 def held_after(
@@ -134,20 +132,22 @@ class Configurations:
         """The picture of a state."""
         pasts = state.pasts
         # the link that each agent has accused, by its node and port
-        accused = tuple(past.accused[-1] if past.accused else None for past in pasts)
+        accusations = tuple(
+            past.accused[-1] if past.accused else None for past in pasts
+        )
         return Configuration(
             tuple(map(position_of, pasts)),
             tuple(map(self._history, pasts)),
             state.woken,
             tuple(past.agent.used for past in pasts),
             state.boards,
-            accused,
+            accusations,
             frozenset().union(*(past.reached for past in pasts)),
             sum(past.moves for past in pasts),
         )
 
     def _history(self, past: Past) -> History:
-        """What has happened to an agent up to a past."""
+        """Returns the events of an agent up to a node of its history tree."""
         waiting: List[Past] = []
         at: Optional[Past] = past
         while at is not None and at not in self._histories:
@@ -160,7 +160,7 @@ class Configurations:
 
 
 def news_of(past: Past) -> History:
-    """What has happened to an agent last, the newest first."""
+    """Returns the latest events of an agent, the newest first."""
     before = past.before
     if before is None or is_unanswered(before):
         return ()

@@ -23,19 +23,18 @@ from typing import (
 from arena_lab.play.agent_files import digests
 from arena_lab.play.parallel import Parallelism
 from arena_lab.play.teams import Matches, digests_of
-from arena_lab.search.checking import Checks, Counted
+from arena_lab.search.checking import Checks, CheckCounts
 from arena_lab.search.findings import ExploreAnswer
-from arena_lab.search.history_tree import NoFunction
+from arena_lab.search.history_tree import NoFunctionError
 from arena_lab.search.machines import Machines
 from arena_lab.search.merge_checks import MERGES
 from arena_lab.search.match_results import MatchResult
-from arena_lab.search.program_search import STOPPED, SampleRequest, asked
+from arena_lab.search.program_search import STOPPED_TEXT, SampleRequest, run_search
 from arena_lab.support.progress import NO_PROGRESS
 
 # how many drawn schedules of a search are played by the agents
-CHECKED = 20
-# what is made of a match that the program has tried, such as one that the Python model
-# searches too
+CHECKED_SAMPLES = 20
+# hook that completes an explored match, for example by the Python model's search
 After = Callable[[MatchResult, Any], MatchResult]
 
 
@@ -46,14 +45,14 @@ class NumberedMatch(NamedTuple):
 
 
 class ExploreJobResult(NamedTuple):
-    """A match that was tried, and what was checked of it."""
+    """An explored match, with the counts of its checks."""
 
-    tried: MatchResult
-    counted: Counted
+    match_result: MatchResult
+    check_counts: CheckCounts
 
 
 class ExploreJob(NamedTuple):
-    """What a process needs to try matches."""
+    """The data that a worker process needs to explore matches."""
 
     matches: Matches
     program: str
@@ -64,11 +63,11 @@ class ExploreJob(NamedTuple):
     def play(self, case: NumberedMatch) -> ExploreJobResult:
         """Tries a match in a process of a command."""
         matches = here(self)
-        tried, counted = matches.done(case.number)
-        return ExploreJobResult(tried._replace(read=matches.read()), counted)
+        result, counts = matches.explore_match(case.number)
+        return ExploreJobResult(result._replace(read_hashes=matches.read()), counts)
 
     def digests(self) -> Dict[str, str]:
-        """The SHA-256 of each file that what is found depends on."""
+        """Returns the SHA-256 of each file on which the findings depend."""
         return {**digests_of(self.matches.agents), **digests([self.program])}
 
 
@@ -87,90 +86,91 @@ class LocalMatches:
         self._checks = Checks(self._machines, matches, job.check)
         self._machines.start()
         self.stop = self._machines.stop
-        self.read = self._machines.read
+        self.read = self._machines.read_hashes
 
-    def done(self, number: int, shown: Any = NO_PROGRESS) -> ExploreJobResult:
+    def explore_match(
+        self, number: int, progress: Any = NO_PROGRESS
+    ) -> ExploreJobResult:
         """Tries the match of a number, and checks it."""
         fixture = self._job.matches.fixtures[number]
-        counted = self._checks.counted()
-        tried = MatchResult(
+        counts = self._checks.counts()
+        result = MatchResult(
             fixture,
-            asked(
+            run_search(
                 self._job.program,
                 fixture,
                 self._machines,
                 self._job.states,
-                shown,
+                progress,
                 self._job.draws,
             ),
         )
-        shown.clear()
-        if tried.is_whole():
-            self._checks.check(fixture, tried.answered.found, shown, number)
-        return ExploreJobResult(tried, self._checks.counted().since(counted))
+        progress.clear()
+        if result.is_whole():
+            self._checks.check(fixture, result.answer.finding, progress, number)
+        return ExploreJobResult(result, self._checks.counts().since(counts))
 
 
-# of a process of a command: the job, as it was sent, and its matches
+# cache of a worker process: pickled job -> its matches
 HERE: Dict[bytes, LocalMatches] = {}
 
 
 def here(job: ExploreJob) -> LocalMatches:
     """The matches of a job in this process. Asked to end, it ends the program that
     searches first."""
-    sent = pickle.dumps(job)
-    if sent not in HERE:
+    job_bytes = pickle.dumps(job)
+    if job_bytes not in HERE:
         HERE.clear()
-        HERE[sent] = LocalMatches(job)
-        multiprocessing.util.Finalize(None, HERE[sent].stop, exitpriority=1)
+        HERE[job_bytes] = LocalMatches(job)
+        multiprocessing.util.Finalize(None, HERE[job_bytes].stop, exitpriority=1)
         signal.signal(signal.SIGTERM, lambda *_: sys.exit(1))
-    return HERE[sent]
+    return HERE[job_bytes]
 
 
 class Search:
-    """The matches of a game that were tried so far, what was checked of them, and the
-    seconds that it took."""
+    """The explored matches of a game, the counts of checks, and the seconds taken."""
 
     def __init__(
         self,
         job: ExploreJob,
-        way: Optional[Parallelism] = None,
+        parallelism: Optional[Parallelism] = None,
         before: Sequence[MatchResult] = (),
-        after: After = lambda tried, _: tried,
+        after: After = lambda result, _: result,
     ) -> None:
         """This process tries them if no way is named. Those of earlier runs come first,
         and are not tried again."""
         self.tries: List[MatchResult] = list(before)
-        self.checks = Counted()
+        self.checks = CheckCounts()
         self.seconds = 0.0
         self._job = job
-        self._way = way
+        self._way = parallelism
         self._after = after
 
-    def tried(self, shown: Any) -> Iterator[MatchResult]:
+    def results(self, progress: Any) -> Iterator[MatchResult]:
         """Tries the matches; they come in their order, each once it was checked."""
-        started = time.monotonic()
+        start = time.monotonic()
         with contextlib.closing(
-            self._elsewhere(self._way, shown) if self._way else self._here(shown)
+            self._elsewhere(self._way, progress) if self._way else self._here(progress)
         ) as results:
             for result in results:
-                self.checks = self.checks.more(result.counted)
-                tried = self._after(result.tried, shown)
-                self.tries.append(tried)
-                yield tried
-                if not tried.is_whole() or tried.has_failed():
+                self.checks = self.checks.plus(result.check_counts)
+                match_result = self._after(result.match_result, progress)
+                self.tries.append(match_result)
+                yield match_result
+                if not match_result.is_whole() or match_result.has_failed():
                     break
-        self.seconds = time.monotonic() - started
+        self.seconds = time.monotonic() - start
 
-    def _here(self, shown: Any) -> Generator[ExploreJobResult, None, None]:
+    def _here(self, progress: Any) -> Generator[ExploreJobResult, None, None]:
         matches = LocalMatches(self._job)
         try:
             for number in range(len(self.tries), len(self._job.matches.fixtures)):
-                yield matches.done(number, shown)
+                yield matches.explore_match(number, progress)
         finally:
             matches.stop()
 
     def _elsewhere(
-        self, way: Parallelism, shown: Any
+        self, parallelism: Parallelism, progress: Any
     ) -> Generator[ExploreJobResult, None, None]:
         fixtures = self._job.matches.fixtures
         cases = [
@@ -178,17 +178,18 @@ class Search:
         ]
         try:
             with contextlib.closing(
-                way.results(self._job, cases, is_long=True)
+                parallelism.results(self._job, cases, is_long=True)
             ) as results:
                 for result in results:
                     if result.fault:
-                        raise NoFunction(result.fault)
-                    shown.update()
-                    yield result.found
+                        raise NoFunctionError(result.fault)
+                    progress.update()
+                    yield result.result
         except KeyboardInterrupt:
             yield ExploreJobResult(
                 MatchResult(
-                    fixtures[len(self.tries)], ExploreAnswer(None, 0.0, why=STOPPED)
+                    fixtures[len(self.tries)],
+                    ExploreAnswer(None, 0.0, why=STOPPED_TEXT),
                 ),
-                Counted(),
+                CheckCounts(),
             )

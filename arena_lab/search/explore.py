@@ -11,7 +11,7 @@ import time
 from array import array
 from typing import Any, Dict, Iterator, List, NamedTuple, Optional, Sequence, Set, Tuple
 
-from arena_lab.play.agent_files import NoAgent
+from arena_lab.play.agent_files import AgentError
 from arena_lab.play.bounds import LIMIT
 from arena_lab.play.players import SLEEPS, TRAVELS, WAITS, Team
 from arena_lab.play.schedulers import ANSWER, ARRIVE, WAKE, Choice
@@ -21,17 +21,17 @@ from arena_lab.rules.fixtures import Fixture
 from arena_lab.rules.model import AWAY, ENDED, Match, Verdict, outcome_of
 from arena_lab.search.history_tree import Past, Pasts, HistoryState
 
-MOST_STATES = 10_000_000
+MAX_STATES = 10_000_000
 DOES = {WAITS: ANSWER, TRAVELS: ARRIVE, SLEEPS: WAKE}
 
 
-class TooMany(Exception):
-    """There are more states than were to be visited."""
+class TooManyStatesError(Exception):
+    """The search exceeded its limit of states."""
 
 
 class End(NamedTuple):
-    """A way in which the match ends: whether it is a failure, its verdict, and the
-    number of its state."""
+    """A final state of the match: whether it fails, the verdict, and the number of the
+    state."""
 
     has_failed: bool
     verdict: Verdict
@@ -46,12 +46,12 @@ class Explorer:
     agent that moved."""
 
     def __init__(
-        self, fixture: Fixture, team: Team, scripts: List[Any], most: int
+        self, fixture: Fixture, team: Team, scripts: List[Any], limit: int
     ) -> None:
         self.fixture = fixture
         self.worst: Optional[End] = None
         self.most_lost = 0
-        self._most = most
+        self._most = limit
         self._match = Match(fixture.setup)
         self._held = set(fixture.held)
         self._pasts = [
@@ -71,10 +71,10 @@ class Explorer:
         visited since."""
         start = self._start()
         self._new(start, -1, -1)
-        left = [(start, 0)]
-        counted = 0
-        while left:
-            state, number = left.pop()
+        stack = [(start, 0)]
+        visit_count = 0
+        while stack:
+            state, number = stack.pop()
             movers = self._movers(state)
             if not movers and self._end(state, number):
                 return
@@ -82,10 +82,10 @@ class Explorer:
                 after = self._after(state, agent)
                 count = self.states()
                 if self._new(after, number, agent):
-                    left.append((after, count))
-            if self.states() - counted >= 1000:
-                yield self.states() - counted
-                counted = self.states()
+                    stack.append((after, count))
+            if self.states() - visit_count >= 1000:
+                yield self.states() - visit_count
+                visit_count = self.states()
 
     def forget(self) -> None:
         """Drops what only the search needs."""
@@ -107,7 +107,7 @@ class Explorer:
     def _start(self) -> HistoryState:
         """How the match stands before anything has happened."""
         return HistoryState(
-            tuple(it.start for it in self._pasts),
+            tuple(past.start for past in self._pasts),
             ("",) * self.fixture.setup.nodes,
             (0,) * len(self._pasts),
         )
@@ -123,7 +123,7 @@ class Explorer:
         if key in self._seen:
             return False
         if len(self._before) >= self._most:
-            raise TooMany
+            raise TooManyStatesError
         self._seen.add(key)
         self._before.append(before)
         self._moved.append(agent)
@@ -158,7 +158,7 @@ class Explorer:
         past = state.pasts[agent]
         ahead = self._pasts[agent].node_ahead(past)
         text = state.boards[ahead]
-        new, put = self._pasts[agent].step(past, text)
+        new, new_board = self._pasts[agent].step(past, text)
         pasts = (*state.pasts[:agent], new, *state.pasts[agent + 1 :])
         woken = list(state.woken)
         woken[agent] = (
@@ -166,15 +166,15 @@ class Explorer:
         )
         if is_blind(new) and not is_blind(past):
             woken[agent] = 0
-        if put == text:
+        if new_board == text:
             return HistoryState(pasts, state.boards, tuple(woken))
         woken = [
-            0 if other.agent.node == ahead and not is_blind(other) else it
-            for it, other in zip(woken, pasts)
+            0 if past_of.agent.node == ahead and not is_blind(past_of) else wakes
+            for wakes, past_of in zip(woken, pasts)
         ]
         return HistoryState(
             pasts,
-            (*state.boards[:ahead], put, *state.boards[ahead + 1 :]),
+            (*state.boards[:ahead], new_board, *state.boards[ahead + 1 :]),
             tuple(woken),
         )
 
@@ -182,18 +182,20 @@ class Explorer:
         """Judges the match that ends here; answers whether the team fails."""
         match = self._match
         match.agents = [past.agent for past in state.pasts]
-        match.accused = [place for past in state.pasts for place in past.accused]
+        match.accused = [link_end for past in state.pasts for link_end in past.accused]
         match.reached = {node for past in state.pasts for node in past.reached}
         lost = sum(past.agent.lost for past in state.pasts)
         verdict = Verdict(
             outcome_of(match), sum(past.moves for past in state.pasts), lost
         )
         stuck = any(past.state == SLEEPS for past in state.pasts)
-        ended = [
-            own.closed(past) if past.state == TRAVELS else past
-            for own, past in zip(self._pasts, state.pasts)
+        closed_pasts = [
+            tree.close(past) if past.state == TRAVELS else past
+            for tree, past in zip(self._pasts, state.pasts)
         ]
-        has_failed = not verdict.is_solved or stuck or any(past.fault for past in ended)
+        has_failed = (
+            not verdict.is_solved or stuck or any(past.fault for past in closed_pasts)
+        )
         end = End(has_failed, verdict, number)
         self.most_lost = max(self.most_lost, lost)
         if self.worst is None or end.rank() > self.worst.rank():
@@ -202,11 +204,11 @@ class Explorer:
 
 
 def is_blind(past: Past) -> bool:
-    """Whether an agent sees nothing: it is on a link, or has ended."""
+    """Returns whether an agent sees nothing: it is on a link, or has ended."""
     return past.agent.standing in (AWAY, ENDED)
 
 
-class Explored(NamedTuple):
+class ExploredMatch(NamedTuple):
     """A match whose schedules were tried."""
 
     explorer: Explorer
@@ -214,7 +216,7 @@ class Explored(NamedTuple):
     seconds: float
 
     def rank(self) -> Tuple[bool, int]:
-        """How much it is worth to be told: a failure, or else the most moves."""
+        """Returns the rank for reports: failures first, then the most moves."""
         return self.explorer.worst.rank() if self.explorer.worst else (False, -1)
 
     def schedule(self, game: Game) -> Schedule:
@@ -231,56 +233,56 @@ class Explored(NamedTuple):
 
 
 def check_inside(game: Game) -> None:
-    """Refuses agents that are programs, whose states cannot be told apart."""
+    """Raises AgentError for programs, whose states cannot be distinguished."""
     if any(agent.kind != INSIDE for agent in game.agents):
-        raise NoAgent(
+        raise AgentError(
             "the Python model's search plays Python agents inside the lab: name them by --agent"
         )
 
 
-def tried(game: Game, states: int, shown: Any) -> Iterator[Explored]:
+def explore_matches(game: Game, states: int, progress: Any) -> Iterator[ExploredMatch]:
     """Tries the schedules of each match of a game, up to one that fails or has too many
     states."""
     check_inside(game)
     for fixture in game.fixtures():
-        found = explored(fixture, game.agents, shown, states, game.limit)
-        yield found
-        if not found.is_whole or found.rank()[0]:
+        match = explore_match(fixture, game.agents, progress, states, game.limit)
+        yield match
+        if not match.is_whole or match.rank()[0]:
             return
 
 
-def explored(
+def explore_match(
     fixture: Fixture,
     agents: Sequence[AgentWords],
-    shown: Any,
-    states: int = MOST_STATES,
+    progress: Any,
+    states: int = MAX_STATES,
     limit: float = LIMIT,
     seconds: float = math.inf,
-) -> Explored:
+) -> ExploredMatch:
     """Tries the schedules of one match, for this many seconds of a processor."""
     team = Team(fixture.keys, {}, limit)
-    started = time.monotonic()
+    start = time.monotonic()
     until = time.process_time() + seconds
     team.start()
     try:
         scripts = [agent.script(fixture.setup) for agent in agents]
         explorer = Explorer(fixture, team, scripts, states)
-        is_whole = is_visited(explorer, shown, until)
-        return Explored(explorer, is_whole, time.monotonic() - started)
+        is_whole = is_visited(explorer, progress, until)
+        return ExploredMatch(explorer, is_whole, time.monotonic() - start)
     finally:
         team.stop()
 
 
-def is_visited(explorer: Explorer, shown: Any, until: float = math.inf) -> bool:
+def is_visited(explorer: Explorer, progress: Any, until: float = math.inf) -> bool:
     """Visits all states, and shows how many; gives whether it came to the end: before
     these seconds of a processor, with no more states than are allowed, and not
     interrupted."""
     try:
         for count in explorer.explore():
-            shown.update(count)
+            progress.update(count)
             if time.process_time() > until:
                 return False
-    except (TooMany, KeyboardInterrupt):
+    except (TooManyStatesError, KeyboardInterrupt):
         return False
     finally:
         explorer.forget()

@@ -61,8 +61,8 @@ class Breaks:
 
 @dataclasses.dataclass(frozen=True)
 class Endless:
-    """Behind this schedule a round of turns may be repeated for ever; if it is fair,
-    each agent that can move throughout it has a turn in it."""
+    """An infinite schedule: after `schedule` the turns of `round` repeat forever. If
+    `fair`, each agent that can move throughout the round has a turn in it."""
 
     schedule: Turns
     round: Turns
@@ -71,15 +71,15 @@ class Endless:
 
 @dataclasses.dataclass(frozen=True)
 class Exceeds:
-    """An agent may use this many commands, which are more than its quota. Of the match
-    nothing is said."""
+    """An agent may use this many commands, more than its quota; the match is not
+    explored."""
 
     agent: int
     commands: int
 
 
-Failed = Union[Fails, Breaks, Endless]
-Finding = Union[Solves, Comes, Failed, Exceeds]
+Failure = Union[Fails, Breaks, Endless]
+Finding = Union[Solves, Comes, Failure, Exceeds]
 SOLVED = (Solves, Comes)
 FAILED = (Fails, Breaks, Endless)
 
@@ -115,16 +115,15 @@ class ModuleRun(NamedTuple):
 
 
 class ExploreAnswer(NamedTuple):
-    """What the program found in one match, in how many seconds, and how much it visited
-    or drew. If `found` is None, it was stopped before all was visited, and `why` says
-    why. `unwoken` counts the memories that sleep and go on to something that was never
-    asked, if they wake once more and see the same: agents that hold them have napped as
-    often as they may."""
+    """The result of the program for one match, with seconds and counts. If `finding` is
+    None, the program was stopped early, and `why` gives the reason. `unwoken` counts
+    sleeping memories whose reaction to one more spurious wake-up was never explored,
+    because their agents have used all allowed ones."""
 
-    found: Optional[Finding]
+    finding: Optional[Finding]
     seconds: float
     states: Optional[int] = None
-    drawn: Optional[SampleCounts] = None
+    samples: Optional[SampleCounts] = None
     why: str = ""
     unwoken: int = 0
     modules: Tuple[ModuleRun, ...] = ()
@@ -143,30 +142,30 @@ def frozen(value: Any) -> Any:
     return tuple(map(frozen, value)) if isinstance(value, list) else value
 
 
-def of_names(told: Mapping[str, Any], names: Tuple[str, ...]) -> Dict[str, Any]:
-    """What a line of the program has under these names."""
-    return {name: frozen(told[name]) for name in names if name in told}
+def of_names(row: Mapping[str, Any], names: Tuple[str, ...]) -> Dict[str, Any]:
+    """Returns the members of a row under these names, as hashable values."""
+    return {name: frozen(row[name]) for name in names if name in row}
 
 
-def finding_of(told: Mapping[str, Any]) -> Finding:
-    """What the first line of a result says."""
-    kind = KINDS[told["found"]]
-    found: Finding = kind(
-        **of_names(told, tuple(field.name for field in dataclasses.fields(kind)))
+def finding_of(row: Mapping[str, Any]) -> Finding:
+    """Parses the finding in the first line of a result."""
+    kind = KINDS[row["found"]]
+    finding: Finding = kind(
+        **of_names(row, tuple(field.name for field in dataclasses.fields(kind)))
     )
-    return found
+    return finding
 
 
 def answer_of(
-    told: Mapping[str, Any],
+    row: Mapping[str, Any],
     counts: Mapping[str, Any],
     modules: Sequence[Mapping[str, Any]],
     seconds: float,
     unwoken: int = 0,
 ) -> ExploreAnswer:
-    """What the lines of a result say."""
+    """Parses the lines of a result."""
     return ExploreAnswer(
-        finding_of(told),
+        finding_of(row),
         seconds,
         counts.get("states"),
         SampleCounts(**of_names(counts, SampleCounts._fields))
@@ -179,19 +178,22 @@ def answer_of(
     )
 
 
-def turns_of(found: Union[Comes, Failed]) -> Turns:
-    """The agents whose turns are told, in order."""
+def turns_of(finding: Union[Comes, Failure]) -> Turns:
+    """Returns the agents of the schedule's turns, in order."""
     return (
-        found.schedule + found.round if isinstance(found, Endless) else found.schedule
+        finding.schedule + finding.round
+        if isinstance(finding, Endless)
+        else finding.schedule
     )
 
 
-def verdict_of(found: Finding) -> Optional[Verdict]:
-    """What the schedule that is told comes to, if the program says so."""
-    if isinstance(found, Comes):
-        return Verdict(model.SOLVED, found.moves, found.lost)
+def verdict_of(finding: Finding) -> Optional[Verdict]:
+    """Returns the verdict of the program's schedule, or None if the finding has
+    none."""
+    if isinstance(finding, Comes):
+        return Verdict(model.SOLVED, finding.moves, finding.lost)
     return (
-        Verdict(found.outcome, found.moves, found.lost)
-        if isinstance(found, Fails)
+        Verdict(finding.outcome, finding.moves, finding.lost)
+        if isinstance(finding, Fails)
         else None
     )

@@ -10,7 +10,7 @@ import copy
 from typing import Dict, FrozenSet, List, NamedTuple, Optional, OrderedDict, Tuple
 
 from arena_lab.play.agent_files import Script
-from arena_lab.play.matches import IS_REFUSED, MOST_REFUSED, REFUSED
+from arena_lab.play.matches import IS_REFUSED, MAX_REFUSED, REFUSAL_PREFIX
 from arena_lab.play.players import DONE, SLEEPS, TRAVELS, WAITS, Player, Team
 from arena_lab.rules.fixtures import Fixture, enters_as_another
 from arena_lab.rules.model import (
@@ -21,26 +21,26 @@ from arena_lab.rules.model import (
     AgentState,
     Place,
     command_of,
-    spelled,
+    spell,
     text_of,
 )
 from arena_lab.rules.rehearsal import Rehearsal
-from arena_lab.support.faults import Fault
+from arena_lab.support.faults import ArenaError
 
 # how many programs are left where they wait, to go on from there
-MOST_LEFT = 4096
+MAX_PROGRAMS_LEFT = 4096
 READS = ("enter", "look", "write")
 # of an agent that sends more lines than it waits for answers
 EARLY = "agent {} sends a line before it has arrived: explore needs agents that wait for each answer"
 
 
-class NoFunction(Fault):
-    """An agent's program cannot be explored: it does something else when it is told the
-    same, or is another's."""
+class NoFunctionError(ArenaError):
+    """An agent cannot be explored, for example because it reacted differently to the
+    same history."""
 
 
 class Past:
-    """What one agent has met, and what its program does next."""
+    """The history of one agent, and the next action of its program."""
 
     def __init__(
         self,
@@ -69,9 +69,10 @@ class Past:
 
 
 def refused_in_a_row(before: int, heard: Tuple[str, ...]) -> int:
-    """How often an agent was refused in a row, once it has heard these lines too."""
+    """Returns how often an agent was refused in a row, once it has heard these lines
+    too."""
     for line in heard:
-        before = before + 1 if line.startswith(REFUSED) else 0
+        before = before + 1 if line.startswith(REFUSAL_PREFIX) else 0
     return before
 
 
@@ -103,12 +104,12 @@ class Pasts:
         )
 
     def step(self, past: Past, board: str) -> Tuple[Past, str]:
-        """What comes of the agent's next step: it is answered, it arrives, or it
-        wakes."""
-        found = past.steps.get(board)
-        if found is None:
-            found = past.steps[board] = self._taken(past, board)
-        return found
+        """Returns the past after the agent's next step (a reply, an arrival or a
+        wake-up), and the whiteboard after it."""
+        step = past.steps.get(board)
+        if step is None:
+            step = past.steps[board] = self._taken(past, board)
+        return step
 
     def _taken(self, past: Past, board: str) -> Tuple[Past, str]:
         if past.state == SLEEPS or is_unanswered(past):
@@ -119,17 +120,19 @@ class Pasts:
         alone.set_alone(number, copy.copy(past.agent), past.is_seated, board)
         alone.match.boards[ahead] = board
         if past.state == TRAVELS:
-            said = alone.draw(0)
+            command = alone.draw(0)
         elif past.line is None:
-            said = alone.end(number)
+            command = alone.end(number)
         elif past.agent.standing == AWAY:
-            raise NoFunction(EARLY.format(number))
+            raise NoFunctionError(EARLY.format(number))
         elif not past.is_seated and enters_as_another(self._fixture, number, past.line):
-            raise NoFunction(f"agent {number} enters with the key of another agent")
+            raise NoFunctionError(
+                f"agent {number} enters with the key of another agent"
+            )
         else:
-            said = alone.feed(number, past.line)
-        heard = tuple(line for _, line in said)
-        if refused_in_a_row(past.refused, heard) >= MOST_REFUSED:
+            command = alone.feed(number, past.line)
+        heard = tuple(line for _, line in command)
+        if refused_in_a_row(past.refused, heard) >= MAX_REFUSED:
             alone.end(number)
         return (
             self._next(
@@ -138,22 +141,23 @@ class Pasts:
             alone.match.boards[ahead],
         )
 
-    def closed(self, past: Past) -> Past:
-        """What comes of an agent on a link once it is told that the match is over."""
+    def close(self, past: Past) -> Past:
+        """Returns the past of an agent on a link after it received the end of the
+        match."""
         self._alone.set_alone(self._number, copy.copy(past.agent), past.is_seated, "")
-        return self._next(past, (spelled(OVER),), past.agent, past.is_seated)
+        return self._next(past, (spell(OVER),), past.agent, past.is_seated)
 
     def _next(
         self, past: Past, heard: Tuple[str, ...], agent: AgentState, is_seated: bool
     ) -> Past:
-        """The past after this one in which the agent has heard these lines, or has
-        woken."""
-        found = past.later.get(heard)
-        if found is None:
-            found = past.later[heard] = Past(past, heard, agent, is_seated)
-            self._note(found, past)
-            self._settle(found, self._player_at(past), past)
-        return found
+        """Returns the successor of a past in which the agent has received these lines
+        or woken."""
+        later = past.later.get(heard)
+        if later is None:
+            later = past.later[heard] = Past(past, heard, agent, is_seated)
+            self._note(later, past)
+            self._settle(later, self._player_at(past), past)
+        return later
 
     def _note(self, past: Past, before: Past) -> None:
         """Notes what the last step shows of the agent."""
@@ -172,7 +176,7 @@ class Pasts:
         """Gives the player the last answers of the past, and keeps what it does next."""
         if before is not None:
             move(player, before, past.heard)
-            if past.refused >= MOST_REFUSED:
+            if past.refused >= MAX_REFUSED:
                 player.stop(IS_REFUSED)
         past.number = self.count
         self.count = self.count + 1
@@ -181,16 +185,16 @@ class Pasts:
         past.fault = player.fault
         past.is_local = self._is_local(past)
         self._left[past] = player
-        if len(self._left) > MOST_LEFT:
+        if len(self._left) > MAX_PROGRAMS_LEFT:
             self._left.popitem(last=False)[1].stop()
 
     def _is_local(self, past: Past) -> bool:
-        """Whether the agent's next step neither reads nor writes a whiteboard, so that
-        it meets nobody."""
+        """Returns whether the agent's next step neither reads nor writes a whiteboard,
+        so that it meets nobody."""
         match = self._alone.match
         agent = past.agent
         if past.state == TRAVELS:
-            return agent.standing == AWAY and match.doomed(agent.node, agent.port)
+            return agent.standing == AWAY and match.destroys(agent.node, agent.port)
         if past.state == WAITS:
             return (
                 past.line is None or command_of(text_of(past.line))["do"] not in READS
@@ -205,8 +209,8 @@ class Pasts:
         return player
 
     def _player_at(self, past: Past) -> Player:
-        """A program that has met this past: one that was left there, or one that is
-        played anew."""
+        """Returns a program that has received this past: a suspended one, or one that
+        is replayed."""
         player = self._left.pop(past, None)
         if player is not None:
             return player
@@ -218,7 +222,7 @@ class Pasts:
         for before, after in reversed(steps):
             move(player, before, after.heard)
             if (player.state, player.line) != (after.state, after.line):
-                raise NoFunction(
+                raise NoFunctionError(
                     f"agent {self._number} sends {player.line!r} where it sent {after.line!r}, having "
                     "heard the same: explore needs agents that are functions of what they are told"
                 )
@@ -226,7 +230,7 @@ class Pasts:
 
 
 def is_unanswered(past: Past) -> bool:
-    """Whether an agent says something once it has ended: nobody answers it."""
+    """Returns whether an agent says something once it has ended: nobody answers it."""
     return (
         past.state == WAITS and past.line is not None and past.agent.standing == ENDED
     )

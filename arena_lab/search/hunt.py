@@ -18,14 +18,14 @@ from arena_lab.play.schedules import Schedule, schedule_of
 from arena_lab.play.teams import Game
 from arena_lab.rules.fixtures import Fixture
 from arena_lab.rules.rehearsal import Rehearsal
-from arena_lab.search.minimising import Cut, Runs, noted, runs_of
-from arena_lab.support.missing import needed
+from arena_lab.search.minimising import Cut, Runs, noting_scheduler, runs_of
+from arena_lab.support.missing import require
 
 FAILURE = "failure"
 MOVES = "moves"
 LOST = "lost"
 RUNS = 3000
-MOST_BLOCKS = 60
+MAX_BLOCKS = 60
 LONGEST_BLOCK = 40
 # how many schedules a hunt draws before it changes some, and how many it tries to make
 # a drawn one small
@@ -38,8 +38,8 @@ Blocks = Sequence[Tuple[int, int]]
 
 
 class Hunt(NamedTuple):
-    """What a hunt looks for, in which game: a failure, the most moves or the most lost
-    agents."""
+    """The objective of a hunt (a failure, the most moves or the most lost agents) and
+    its game."""
 
     game: Game
     looked_for: str = FAILURE
@@ -55,9 +55,9 @@ class Hunt(NamedTuple):
         return f"hunt for {self.looked_for} {self.seed}{self.game.where()}"
 
     def key(self) -> bytes:
-        """What is looked for and of whom: Hypothesis keeps its examples by this."""
+        """Returns the key under which Hypothesis stores the examples of this hunt."""
         game = self.game
-        drawn = (
+        facts = (
             game.quota,
             game.board,
             game.naps,
@@ -67,7 +67,7 @@ class Hunt(NamedTuple):
         )
         places = game.home, game.holes, game.dark, game.match, game.ports
         network = game.name, game.network, *places
-        return repr((network, drawn, [agent[:2] for agent in game.agents])).encode()
+        return repr((network, facts, [agent[:2] for agent in game.agents])).encode()
 
 
 class Stop(Exception):
@@ -75,34 +75,34 @@ class Stop(Exception):
 
 
 class HuntedMatch(NamedTuple):
-    """A schedule that was tried, and what it is worth."""
+    """A tried schedule, and its worth for the objective."""
 
     worth: int
     has_failed: bool
     fixture: Fixture
-    played: PlayedMatch
+    match: PlayedMatch
 
 
 class Hunter:
     """A hunt: what it looks for, what it tried, and the best until now."""
 
-    def __init__(self, asked: Hunt, shown: Any) -> None:
-        self.asked = asked
+    def __init__(self, hunt: Hunt, progress: Any) -> None:
+        self.asked = hunt
         self.tried = 0
         # how many schedules were tried when the team failed first
         self.failed_at: Optional[int] = None
         self.best: Optional[HuntedMatch] = None
         self.wanted: Optional[int] = None
         self.was_stopped = False
-        self._shown = shown
+        self._shown = progress
         self._kept: Any = None
-        self._fixture = functools.lru_cache(maxsize=None)(asked.game.fixture)
-        game = asked.game
+        self._fixture = functools.lru_cache(maxsize=None)(hunt.game.fixture)
+        game = hunt.game
         nodes = game.network.nodes
         self._homes: Sequence[Optional[int]]
         # how many matches: each black hole with NUMBERS keys and numberings of ports
         self._numbers = NUMBERS * (1 if game.is_fixed() else nodes - 1)
-        is_any = asked.any_home or game.home is None
+        is_any = hunt.any_home or game.home is None
         self._homes = range(nodes) if is_any and not game.match else [game.home]
 
     def play(
@@ -111,19 +111,19 @@ class Hunter:
         """Plays a schedule, and keeps it if it is the best."""
         fixture = self._fixture(match, home)
         game = self.asked.game
-        played = play(
+        match_played = play(
             Rehearsal(fixture),
             teams.Together(game.agents, fixture, game.limit),
             scheduler,
             fixture,
         )
         if self.asked.repeats:
-            played = with_repeats(played, game.agents, fixture, game.limit)
-        verdict = played.verdict()
+            match_played = with_repeats(match_played, game.agents, fixture, game.limit)
+        verdict = match_played.verdict()
         worth = {FAILURE: 0, MOVES: verdict.moves, LOST: verdict.lost}[
             self.asked.looked_for
         ]
-        trial = HuntedMatch(worth, played.has_failed(), fixture, played)
+        trial = HuntedMatch(worth, match_played.has_failed(), fixture, match_played)
         self.tried += 1
         if trial.has_failed and self.failed_at is None:
             self.failed_at = self.tried
@@ -140,12 +140,14 @@ class Hunter:
         """Plays the schedules that `run` draws, at most half of those that are left,
         until the team fails under one."""
         first = self.asked.seed * DRAWS
-        left = self.asked.runs - self.tried
-        for number in range(first, first + min(DRAWS, (left + 1) // 2)):
+        runs_left = self.asked.runs - self.tried
+        for number in range(first, first + min(DRAWS, (runs_left + 1) // 2)):
             match = number % self._numbers
             home = self._homes[number * NUMBERS // self._numbers % len(self._homes)]
             numbers: List[int] = []
-            if self.play(home, match, noted(fair(number), numbers)).has_failed:
+            if self.play(
+                home, match, noting_scheduler(fair(number), numbers)
+            ).has_failed:
                 self._make_small(home, match, runs_of(numbers))
                 return
 
@@ -153,10 +155,10 @@ class Hunter:
         """Makes a schedule small after which the team fails."""
 
         def fails(runs: Runs) -> bool:
-            tried = self.play(home, match, in_runs(runs))
-            if tried.has_failed:
-                self.best = tried
-            return tried.has_failed
+            hunted_match = self.play(home, match, in_runs(runs))
+            if hunted_match.has_failed:
+                self.best = hunted_match
+            return hunted_match.has_failed
 
         Cut(runs, fails, SMALLER)
 
@@ -167,11 +169,11 @@ class Hunter:
         try:
             test()
         except unittest.SkipTest:
-            # Hypothesis has no earlier find, and was told to try nothing else
+            # no earlier example exists, and the phases allow no others
             pass
-        except (Stop, needed("hypothesis").errors.Flaky):
-            # flaky is what does not fail again under the same schedule, as a program
-            # that does not repeat
+        except (Stop, require("hypothesis").errors.Flaky):
+            # Hypothesis calls a test flaky whose failure does not recur, as with
+            # nondeterministic programs
             if self.best is None or not self.best.has_failed and self.wanted is None:
                 raise
 
@@ -184,15 +186,15 @@ class Hunter:
             self.best.fixture,
             game.agents,
             self.asked.origin(),
-            self.best.played.choices,
+            self.best.match.choices,
             game.limit,
         )
 
     def _database(self) -> Any:
-        """Where Hypothesis keeps its examples: in a folder, or as long as the hunt goes
-        on."""
+        """Returns the database of Hypothesis: a folder, or memory for the duration of
+        the hunt."""
         if self._kept is None:
-            stores = needed("hypothesis.database")
+            stores = require("hypothesis.database")
             folder = self.asked.database
             self._kept = (
                 stores.DirectoryBasedExampleDatabase(folder)
@@ -202,11 +204,11 @@ class Hunter:
         return self._kept
 
     def _test(self, phases: Sequence[str]) -> Callable[[], None]:
-        hypothesis = needed("hypothesis")
-        asked = self.asked
-        given = needed("hypothesis.strategies")
+        hypothesis = require("hypothesis")
+        hunt = self.asked
+        strategies = require("hypothesis.strategies")
         settings = hypothesis.settings(
-            max_examples=max(1, asked.runs - self.tried),
+            max_examples=max(1, hunt.runs - self.tried),
             deadline=None,
             report_multiple_bugs=False,
             print_blob=False,
@@ -215,36 +217,37 @@ class Hunter:
             suppress_health_check=list(hypothesis.HealthCheck),
             phases=[hypothesis.Phase[phase] for phase in phases],
         )
-        agents = len(asked.game.agents)
-        blocks = given.tuples(
-            given.integers(0, max(1, agents - 1)), given.integers(1, LONGEST_BLOCK)
+        agents = len(hunt.game.agents)
+        blocks = strategies.tuples(
+            strategies.integers(0, max(1, agents - 1)),
+            strategies.integers(1, LONGEST_BLOCK),
         )
 
         def trial(home: Optional[int], match: int, blocks: Blocks) -> None:
-            tried = self.play(home, match, in_runs(blocks))
-            hypothesis.target(float(tried.worth))
+            hunted_match = self.play(home, match, in_runs(blocks))
+            hypothesis.target(float(hunted_match.worth))
             if (
-                tried.has_failed
+                hunted_match.has_failed
                 or self.wanted is not None
-                and tried.worth >= self.wanted
+                and hunted_match.worth >= self.wanted
             ):
-                self.best = tried
+                self.best = hunted_match
                 raise Stop
 
         draws = hypothesis.given(
-            given.sampled_from(list(self._homes)),
-            given.integers(0, self._numbers - 1),
-            given.lists(blocks, max_size=MOST_BLOCKS),
+            strategies.sampled_from(list(self._homes)),
+            strategies.integers(0, self._numbers - 1),
+            strategies.lists(blocks, max_size=MAX_BLOCKS),
         )
         # a seed takes the database away, so it comes before the settings
-        test: Callable[[], None] = settings(hypothesis.seed(asked.seed)(draws(trial)))
-        test._hypothesis_internal_database_key = asked.key()  # type: ignore[attr-defined]
+        test: Callable[[], None] = settings(hypothesis.seed(hunt.seed)(draws(trial)))
+        test._hypothesis_internal_database_key = hunt.key()  # type: ignore[attr-defined]
         return test
 
 
-def hunted(hunter: Hunter) -> None:
-    """Searches, and makes what was found small. An interrupt ends the search, and
-    leaves what was found."""
+def run_hunter(hunter: Hunter) -> None:
+    """Searches, then minimises the failure. An interrupt ends the search and keeps its
+    result."""
     try:
         if hunter.asked.looked_for == FAILURE:
             look_for_failure(hunter)

@@ -21,7 +21,7 @@ from arena_lab.play.imports import PACKAGE
 from arena_lab.play.players import DONE, TRAVELS, WAKES, Player
 from arena_lab.play.teams import INSIDE, AgentWords, digests_of, modules_of
 from arena_lab.rules.fixtures import Fixture
-from arena_lab.rules.model import Object, command_of, spelled, text_of
+from arena_lab.rules.model import Object, command_of, spell, text_of
 from arena_lab.search.agent_processes import (
     FAIL,
     SAYS,
@@ -29,57 +29,56 @@ from arena_lab.search.agent_processes import (
     AgentProcess,
     AgentProcesses,
     AgentStep,
-    Way,
+    History,
 )
-from arena_lab.search.history_tree import NoFunction
+from arena_lab.search.history_tree import NoFunctionError
 from arena_lab.search.merge_checks import MERGES, MergeChecks
 from arena_lab.search.step_machines import StepMachine, StepMemory
 
-# how many programs are left where they wait, to go on from there: inside the lab, and
-# of their own
-MOST_LEFT = 4096
-MOST_PROCESSES = 200
+# limits on suspended programs: inside the lab, and as processes
+MAX_PROGRAMS_LEFT = 4096
+MAX_PROCESSES = 200
 # of this many programs that are played again one is played from its start
 FROM_START = 16
 
 
-class Left:
+class IdlePrograms:
     """Programs that are left where they wait, by their memories; of too many the oldest
     end."""
 
-    def __init__(self, most: int) -> None:
-        self._most = most
+    def __init__(self, limit: int) -> None:
+        self._most = limit
         self._count = 0
         self.programs: OrderedDict[int, List[AgentProcess]] = collections.OrderedDict()
 
     def stop(self) -> None:
-        for left in self.programs.values():
-            for one in left:
-                one.player.stop()
+        for program in self.programs.values():
+            for idle_program in program:
+                idle_program.player.stop()
 
     def take(self, memory: int) -> Optional[AgentProcess]:
-        """A program that was left at this memory, if there is one."""
-        left = self.programs.get(memory)
-        if not left:
+        """Removes and returns a program suspended at this memory, or None."""
+        programs = self.programs.get(memory)
+        if not programs:
             return None
         self._count -= 1
-        one = left.pop()
-        if not left:
+        idle_program = programs.pop()
+        if not programs:
             del self.programs[memory]
-        return one
+        return idle_program
 
-    def put(self, memory: int, one: AgentProcess) -> None:
-        self.programs.setdefault(memory, []).append(one)
+    def store(self, memory: int, process: AgentProcess) -> None:
+        self.programs.setdefault(memory, []).append(process)
         self._count += 1
         if self._count > self._most:
             _, oldest = self.programs.popitem(last=False)
             self._count -= len(oldest)
-            for other in oldest:
-                other.player.stop()
+            for oldest_process in oldest:
+                oldest_process.player.stop()
 
 
 class Machines:
-    """The machines of a team, one for each agent."""
+    """The state machines of a team's agents: memories, and transitions by news."""
 
     def __init__(
         self,
@@ -88,15 +87,14 @@ class Machines:
         seconds: float,
         merges: int = MERGES,
     ) -> None:
-        """Of this many merges of declared memories at least all are checked; of more, a
-        sample."""
+        """Checks at least `merges` merges of declared memories, all if there are fewer;
+        of more, a sample."""
         self.steps: List[AgentStep] = []
         self.asked = 0
         self.names: List[bytes] = []
-        self.ways: List[Way] = []
-        # of each memory the way by which programs have come there last on the shortest
-        # one, and how long that is
-        self._short: List[Way] = []
+        self.ways: List[History] = []
+        # by memory: the last event of the shortest known history, and its length
+        self._short: List[History] = []
         self._length: List[int] = []
         # before the agents' files are loaded, which may take functions out of modules
         watch()
@@ -113,16 +111,16 @@ class Machines:
         self._starts: Dict[int, int] = {}
         self._after: Dict[Tuple[int, str], int] = {}
         self._news: Dict[bytes, str] = {}
-        # of each memory what was told first at it, and the memory after it
+        # by memory: the first news received there, and the next memory
         self.first: Dict[int, Tuple[str, int]] = {}
-        most = (
-            MOST_LEFT
+        limit = (
+            MAX_PROGRAMS_LEFT
             if all(agent.kind == INSIDE for agent in agents)
-            else MOST_PROCESSES
+            else MAX_PROCESSES
         )
-        self._left = Left(most)
+        self._left = IdlePrograms(limit)
         self._replayed = 0
-        self.beside = MergeChecks(self, merges, most // 2)
+        self.beside = MergeChecks(self, merges, limit // 2)
 
     def start(self) -> None:
         self._processes.start()
@@ -137,7 +135,7 @@ class Machines:
         """The memory of an agent at the start."""
         if agent not in self._starts:
             words = self._agents[agent]
-            way = (-1 - agent, "")
+            history = (-1 - agent, "")
             if words.is_step():
                 machine = self._steps.setdefault(
                     words,
@@ -149,41 +147,43 @@ class Machines:
                     ),
                 )
                 self._starts[agent] = self._held_as(
-                    machine, machine.begin(self._fixture.keys[agent]), way
+                    machine, machine.begin(self._fixture.keys[agent]), history
                 )
             else:
-                self._starts[agent] = self._number(self._processes.begun(agent), way)
+                self._starts[agent] = self._number(
+                    self._processes.start_process(agent), history
+                )
         return self._starts[agent]
 
     def next(self, before: int, news: str) -> int:
-        """The memory of an agent that had this one before, and that wakes now or hears
-        this reply."""
-        found = self._after.get((before, news))
-        if found is not None:
-            return found
+        """Returns the memory that follows `before` when the agent receives this reply
+        or wakes."""
+        memory = self._after.get((before, news))
+        if memory is not None:
+            return memory
         if before in self._held:
-            machine, held = self._held[before]
-            found = self._after[before, news] = self._held_as(
-                machine, machine.next(held, news), (before, news)
+            machine, step_memory = self._held[before]
+            memory = self._after[before, news] = self._held_as(
+                machine, machine.next(step_memory, news), (before, news)
             )
-            return found
-        found = self._after[before, news] = self._number(
-            self.told((before, news)), (before, news)
+            return memory
+        memory = self._after[before, news] = self._number(
+            self.replay_program((before, news)), (before, news)
         )
-        self.first.setdefault(before, (news, found))
-        self.beside.answered(before, news, found)
-        return found
+        self.first.setdefault(before, (news, memory))
+        self.beside.check_answer(before, news, memory)
+        return memory
 
-    def news_in(self, told: bytes) -> str:
-        """What a question of the program tells an agent, as the program spells it
-        behind the memory that it asks of."""
-        found = self._news.get(told)
-        if found is None:
-            question = json.loads(b"{" + told)
-            found = self._news[told] = (
-                WAKES if "wakes" in question else spelled(question["hears"])
+    def news_in(self, message: bytes) -> str:
+        """Returns the news in a question of the program, which spells them behind the
+        number of the memory."""
+        news = self._news.get(message)
+        if news is None:
+            question = json.loads(b"{" + message)
+            news = self._news[message] = (
+                WAKES if "wakes" in question else spell(question["hears"])
             )
-        return found
+        return news
 
     def way_to(self, memory: int) -> Tuple[int, List[str]]:
         """The agent that was played to a memory first, and what has happened to it, in
@@ -191,34 +191,34 @@ class Machines:
         return along(self.ways, memory)
 
     def steps_to(self, memory: int) -> List[AgentStep]:
-        """What the agent did that was played to a memory first: at the start, and after
-        each thing that happened."""
+        """Returns the agent's steps along the history by which the memory was first
+        reached."""
         return [
             *(self.steps[before] for before, _ in all_ways(self.ways, memory)[1:]),
             self.steps[memory],
         ]
 
     def seen_by(self, memory: int) -> Optional[str]:
-        """What an agent that was played to a memory is told if it looks and nothing has
-        changed since it saw its node last; None if it has seen none."""
+        """Returns the reply to a look of an agent at this memory if nothing has changed
+        since it last saw its node; None if it has seen none."""
         here: Object = {}
         for before, news in all_ways(self.ways, memory)[1:]:
             reply: Object = {} if news == WAKES else json.loads(news)
             if reply.get("ok") == "here":
                 here = reply
             elif here and reply.get("ok") in ("changed", "written"):
-                said = (
+                answer = (
                     reply
                     if reply["ok"] == "changed"
                     else json.loads(self.steps[before].line)
                 )
-                here = {**here, "board": said.get("board", said.get("put"))}
-        return spelled(here) if here else None
+                here = {**here, "board": answer.get("board", answer.get("put"))}
+        return spell(here) if here else None
 
-    def seen(self) -> FrozenSet[str]:
-        """What the programs inside the lab read or reach besides replies: each ends a
-        sentence about them."""
-        found = set(self._processes.notes.reads)
+    def observations(self) -> FrozenSet[str]:
+        """Returns what programs inside the lab read or access besides replies, as ends
+        of sentences."""
+        reads = set(self._processes.notes.reads)
         notes = self._processes.notes
         inside = [agent for agent in self._agents if agent.kind == INSIDE]
         packages = sorted(
@@ -227,168 +227,180 @@ class Machines:
             if name.startswith(PACKAGE)
         )
         if packages:
-            found.add(f"share the installed {', '.join(packages)}")
+            reads.add(f"share the installed {', '.join(packages)}")
         if notes.reaches:
-            found.add(f"reach {notes.reaches}")
-        return frozenset(found)
+            reads.add(f"reach {notes.reaches}")
+        return frozenset(reads)
 
-    def read(self) -> Dict[str, str]:
+    def read_hashes(self) -> Dict[str, str]:
         """The SHA-256 of each file that programs inside the lab have read, by their
         names."""
         return read_by(self._processes.notes)
 
     def looks(self, memory: int) -> bool:
-        """Whether a program that has this memory looks next."""
+        """Returns whether a program that has this memory looks next."""
         step = self.steps[memory]
         return step.does == SAYS and command_of(text_of(step.line)).get("do") == "look"
 
-    def told(self, way: Way) -> AgentProcess:
+    def replay_program(self, history: History) -> AgentProcess:
         """A program that has come this way."""
-        before, news = way
+        before, news = history
         if before < 0:
-            return self._processes.begun(-1 - before)
-        one = self._left.take(before) or self._played(before)
-        self._processes.tell(one, news)
-        return one
+            return self._processes.start_process(-1 - before)
+        program = self._left.take(before) or self._played(before)
+        self._processes.send_news(program, news)
+        return program
 
-    def tell(self, one: AgentProcess, news: str) -> None:
+    def send_news(self, process: AgentProcess, news: str) -> None:
         """Tells a program a line, or wakes it."""
-        self._processes.tell(one, news)
+        self._processes.send_news(process, news)
 
-    def name_of(self, one: AgentProcess, way: Way) -> bytes:
-        """A name of a program's memory, and of what it does next."""
-        step = one.step()
-        player = one.player
+    def name_of(self, process: AgentProcess, history: History) -> bytes:
+        """Returns a name for a program's memory together with its next step."""
+        step = process.step()
+        player = process.player
         is_over = (
             step.does == FAIL
             or player.line is None
             and bool(step.line)
-            or (step.does == STOP and (player.state != TRAVELS or one.has_ended))
+            or (step.does == STOP and (player.state != TRAVELS or process.has_ended))
         )
-        declared = (
+        declaration = (
             None if is_over or isinstance(player, Player) else declared_in(step.line)
         )
-        held = (
+        memory_text = (
             "over"
             if is_over
-            else (player.number, way if declared is None else declared, player.state)
+            else (
+                player.number,
+                history if declaration is None else declaration,
+                player.state,
+            )
         )
-        return hashlib.blake2b(repr((step, held)).encode(), digest_size=24).digest()
+        return hashlib.blake2b(
+            repr((step, memory_text)).encode(), digest_size=24
+        ).digest()
 
-    def leave(self, memory: int, one: AgentProcess) -> None:
+    def leave(self, memory: int, process: AgentProcess) -> None:
         """Leaves a program where it waits, if it has not ended."""
-        if one.player.state == DONE:
-            one.player.stop()
+        if process.player.state == DONE:
+            process.player.stop()
         else:
-            self._left.put(memory, one)
+            self._left.store(memory, process)
 
     def _played(self, memory: int) -> AgentProcess:
-        """A program that is played up to a memory, from the nearest one before it at
-        which a program is left, or from its start."""
-        one, all_news = self._nearest(memory)
-        self._processes.tell_all(one, all_news)
-        if one.step() != self.steps[memory]:
-            raise NoFunction(
-                f"agent {one.player.number} does something else when it is played again: explore needs "
+        """Returns a program replayed to a memory, from the nearest suspended program or
+        from the start."""
+        program, all_news = self._nearest(memory)
+        self._processes.tell_all(program, all_news)
+        if program.step() != self.steps[memory]:
+            raise NoFunctionError(
+                f"agent {program.player.number} does something else when it is played again: explore needs "
                 "agents that are functions of what they are told"
             )
-        return one
+        return program
 
     def _nearest(self, memory: int) -> Tuple[AgentProcess, List[str]]:
-        """A program before a memory, and the news that lead it there. The program was
-        left on the way, or begins; as a check one of many begins."""
+        """Returns a program before a memory, and the remaining news. It is a suspended
+        program, or (as a check, now and then) a new one."""
         self._replayed += 1
         if self._replayed % FROM_START:
-            found = self._left_before(memory)
-            if found is not None:
-                return found
+            program_left = self._left_before(memory)
+            if program_left is not None:
+                return program_left
         agent, all_news = along(self._short, memory)
-        return self._processes.begun(agent), all_news
+        return self._processes.start_process(agent), all_news
 
     def _left_before(self, memory: int) -> Optional[Tuple[AgentProcess, List[str]]]:
-        """The nearest program that is left on the shortest way to a memory, and what it
-        is to be told to come there. Others may be nearer, but to look for them takes
-        longer than to play on."""
-        left = self._left.programs
+        """Returns the nearest suspended program on the shortest history of a memory,
+        and the remaining news. Programs on other histories are not considered, because
+        looking for them takes longer than replaying."""
+        programs = self._left.programs
         short = self._short
         all_news: List[str] = []
         while memory >= 0:
-            if memory in left:
-                one = self._left.take(memory)
-                return (one, all_news[::-1]) if one else None
+            if memory in programs:
+                program = self._left.take(memory)
+                return (program, all_news[::-1]) if program else None
             memory, news = short[memory]
             all_news.append(news)
         return None
 
-    def _number(self, one: AgentProcess, way: Way) -> int:
-        """The number of a program's memory. The program is left there, or goes on
-        beside the one that was there first."""
-        name = self.name_of(one, way)
-        number, is_new = self._named(name, way, one.step())
+    def _number(self, process: AgentProcess, history: History) -> int:
+        """Returns the number of a program's memory. The program is suspended there, or
+        checked against the first one."""
+        name = self.name_of(process, history)
+        number, is_new = self._named(name, history, process.step())
         if not is_new:
-            self._shorten(number, way)
-            if self.beside.takes(number, one, way):
+            self._shorten(number, history)
+            if self.beside.takes(number, process, history):
                 return number
-        self.leave(number, one)
+        self.leave(number, process)
         return number
 
-    def _held_as(self, machine: StepMachine, held: StepMemory, way: Way) -> int:
+    def _held_as(
+        self, machine: StepMachine, memory: StepMemory, history: History
+    ) -> int:
         """The number of what an agent holds that is written as a step."""
         name = hashlib.blake2b(
-            repr((machine.words, held)).encode(errors="replace"), digest_size=24
+            repr((machine.words, memory)).encode(errors="replace"), digest_size=24
         ).digest()
-        number, is_new = self._named(name, way, held.step)
+        number, is_new = self._named(name, history, memory.step)
         if is_new:
-            self._held[number] = machine, held
+            self._held[number] = machine, memory
         return number
 
-    def _named(self, name: bytes, way: Way, step: AgentStep) -> Tuple[int, bool]:
-        """The number of a memory by its name, and whether it is a new one."""
+    def _named(
+        self, name: bytes, history: History, step: AgentStep
+    ) -> Tuple[int, bool]:
+        """Returns the number of a memory by name, and whether it is new."""
         self.asked += 1
         number = self._numbers.get(name)
         if number is not None:
             return number, False
         number = self._numbers[name] = len(self.ways)
-        self.ways.append(way)
-        self._short.append(way)
-        self._length.append(self._length_of(way))
+        self.ways.append(history)
+        self._short.append(history)
+        self._length.append(self._length_of(history))
         self.steps.append(step)
         self.names.append(name)
         return number, True
 
-    def _length_of(self, way: Way) -> int:
-        return self._length[way[0]] + 1 if way[0] >= 0 else 0
+    def _length_of(self, history: History) -> int:
+        return self._length[history[0]] + 1 if history[0] >= 0 else 0
 
-    def _shorten(self, number: int, way: Way) -> None:
-        """Takes a way to a memory if it is shorter than those known. What is played
-        again then takes it."""
-        if self._length_of(way) < self._length[number]:
-            self._short[number], self._length[number] = way, self._length_of(way)
+    def _shorten(self, number: int, history: History) -> None:
+        """Stores a history of a memory if it is the shortest so far; later replays use
+        it."""
+        if self._length_of(history) < self._length[number]:
+            self._short[number], self._length[number] = history, self._length_of(
+                history
+            )
 
 
-def all_ways(ways: List[Way], memory: int) -> List[Way]:
+def all_ways(ways: List[History], memory: int) -> List[History]:
     """The ways on which an agent comes to a memory, from its start on."""
-    found = [ways[memory]]
-    while found[-1][0] >= 0:
-        found.append(ways[found[-1][0]])
-    return found[::-1]
+    ways_found = [ways[memory]]
+    while ways_found[-1][0] >= 0:
+        ways_found.append(ways[ways_found[-1][0]])
+    return ways_found[::-1]
 
 
-def along(ways: List[Way], memory: int) -> Tuple[int, List[str]]:
+def along(ways: List[History], memory: int) -> Tuple[int, List[str]]:
     """The agent that comes to a memory on these ways, and what happens to it, in
     order."""
-    (start, _), *others = all_ways(ways, memory)
-    return -1 - start, [news for _, news in others]
+    (start, _), *later_ways = all_ways(ways, memory)
+    return -1 - start, [news for _, news in later_ways]
 
 
 def declared_in(line: bytes) -> Any:
-    """What a line declares as its program's memory, as it is spelled, or None."""
+    """Returns the memory that a line declares, as spelled there, or None."""
     try:
-        said = json.loads(line)
+        command = json.loads(line)
     except ValueError:
         return None
     return (
-        json.dumps(said["memory"], sort_keys=True)
-        if isinstance(said, dict) and "memory" in said
+        json.dumps(command["memory"], sort_keys=True)
+        if isinstance(command, dict) and "memory" in command
         else None
     )

@@ -10,7 +10,7 @@ from arena_lab.play.teams import AgentWords, Game, Together
 from arena_lab.rules.fixtures import Fixture
 from arena_lab.rules.model import AWAY, ENDED, OUTSIDE
 from arena_lab.rules.rehearsal import Rehearsal
-from arena_lab.search.explore import Explored
+from arena_lab.search.explore import ExploredMatch
 from arena_lab.search.findings import (
     FAILED,
     SOLVED,
@@ -18,10 +18,10 @@ from arena_lab.search.findings import (
     Comes,
     Exceeds,
     ExploreAnswer,
-    Failed,
+    Failure,
     turns_of,
 )
-from arena_lab.search.history_tree import NoFunction
+from arena_lab.search.history_tree import NoFunctionError
 
 
 class MatchResult(NamedTuple):
@@ -30,22 +30,22 @@ class MatchResult(NamedTuple):
     read; it is empty unless rows are written."""
 
     fixture: Fixture
-    answered: ExploreAnswer
-    beside: Optional[Explored] = None
-    read: Dict[str, str] = {}
+    answer: ExploreAnswer
+    beside: Optional[ExploredMatch] = None
+    read_hashes: Dict[str, str] = {}
 
     def has_failed(self) -> bool:
         return (
             self.beside.rank()[0]
             if self.beside
-            else isinstance(self.answered.found, FAILED)
+            else isinstance(self.answer.finding, FAILED)
         )
 
     def is_whole(self) -> bool:
         if self.beside:
             return self.beside.is_whole
-        return self.answered.found is not None and not isinstance(
-            self.answered.found, Exceeds
+        return self.answer.finding is not None and not isinstance(
+            self.answer.finding, Exceeds
         )
 
     def bounds(self) -> Tuple[int, int]:
@@ -56,35 +56,35 @@ class MatchResult(NamedTuple):
                 worst is not None
             ), "a match whose schedules were all tried has an end"
             return worst.verdict.moves, worst.verdict.lost
-        found = self.answered.found
-        assert isinstance(found, SOLVED), "no schedule fails"
-        return found.moves, found.lost
+        finding = self.answer.finding
+        assert isinstance(finding, SOLVED), "no schedule fails"
+        return finding.moves, finding.lost
 
 
-def told_in(tried: MatchResult) -> Union[Comes, Failed]:
-    """What the program found of a match, with a schedule."""
-    found = tried.answered.found
-    assert isinstance(found, (Comes, *FAILED)), "the program tells a schedule"
-    return found
+def finding_with_schedule(result: MatchResult) -> Union[Comes, Failure]:
+    """Returns the program's finding, which must contain a schedule."""
+    finding = result.answer.finding
+    assert isinstance(finding, (Comes, *FAILED)), "the program tells a schedule"
+    return finding
 
 
-def told_schedule(game: Game, tried: MatchResult) -> Schedule:
+def program_schedule(game: Game, result: MatchResult) -> Schedule:
     """The schedule that the program tells, as the agents play it."""
-    found = told_in(tried)
+    finding = finding_with_schedule(result)
     choices = choices_of(
-        tried.fixture,
+        result.fixture,
         game.agents,
-        turns_of(found),
-        found.agent if isinstance(found, Breaks) else None,
+        turns_of(finding),
+        finding.agent if isinstance(finding, Breaks) else None,
         game.limit,
     )
     return schedule_of(
-        tried.fixture, game.agents, f"explore{game.origin}", choices, game.limit
+        result.fixture, game.agents, f"explore{game.origin}", choices, game.limit
     )
 
 
 def unkept(turns: Sequence[int]) -> str:
-    """What is said of a schedule that the player of a module does not play again."""
+    """Returns the line for a schedule that the module player cannot replay."""
     return (
         "the schedule is not kept, since the player of a module that sleeps looks again by the clock; its turns: "
         f"{' '.join(map(str, turns))}"
@@ -98,17 +98,24 @@ def choices_of(
     breaks: Optional[int],
     seconds: float,
 ) -> List[Choice]:
-    """What the agents do that have these turns, one after the other. Who sleeps and
-    sees nothing is woken at once, and an agent that breaks and has not entered is
-    denied. In the end the lost arrive where they are lost."""
+    """Replays turns, and returns the choices made. Sleeping agents are woken at once,
+    and an agent that breaks before it enters is denied. In the end the lost agents
+    arrive at black holes."""
     team = Together(agents, fixture, seconds)
     run = MatchRun(Rehearsal(fixture), team, fixture)
     team.start()
     try:
         for agent in turns:
-            choice = next((it for it in run.may_happen() if it.agent == agent), None)
+            choice = next(
+                (
+                    possible_choice
+                    for possible_choice in run.may_happen()
+                    if possible_choice.agent == agent
+                ),
+                None,
+            )
             if choice is None:
-                raise NoFunction(
+                raise NoFunctionError(
                     f"agent {agent} does nothing at choice {len(run.choices) + 1}, where it did something"
                 )
             run.happen(choice)

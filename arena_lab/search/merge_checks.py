@@ -3,8 +3,8 @@ search takes both programs for one. `MergeChecks` keeps the second, gives it the
 news as the first, and compares their next steps."""
 from typing import Any, Dict, List, NamedTuple
 
-from arena_lab.search.history_tree import NoFunction
-from arena_lab.search.agent_processes import AgentProcess, Way
+from arena_lab.search.history_tree import NoFunctionError
+from arena_lab.search.agent_processes import AgentProcess, History
 
 # how many merges are all checked, and which one of those that follow is; for how many
 # steps a program goes on beside another
@@ -17,9 +17,9 @@ class MergedProgram(NamedTuple):
     """A program that came to a memory second, that memory, how it came there, and for
     how many steps it still goes on."""
 
-    one: AgentProcess
+    program: AgentProcess
     memory: int
-    way: Way
+    history: History
     steps: int
 
 
@@ -27,8 +27,7 @@ class MergeChecks:
     """The programs that go on beside those that came to their memories first."""
 
     def __init__(self, machines: Any, merges: int, most_waiting: int) -> None:
-        """Of this many merges at least all are checked, unless too many programs wait
-        beside others."""
+        """Checks at least `merges` merges, unless too many programs wait."""
         self._machines = machines
         self._merges = merges
         self._most_waiting = most_waiting
@@ -39,28 +38,29 @@ class MergeChecks:
     def stop(self) -> None:
         for waiting in self._waiting.values():
             for second in waiting:
-                second.one.player.stop()
+                second.program.player.stop()
         self._waiting = {}
 
-    def takes(self, memory: int, one: AgentProcess, way: Way) -> bool:
-        """Whether this program, which has come to a memory second, goes on beside the
-        first."""
-        if way == self._machines.ways[memory] or one.is_over():
+    def takes(self, memory: int, process: AgentProcess, history: History) -> bool:
+        """Returns whether this program, which has come to a memory second, goes on
+        beside the first."""
+        if history == self._machines.ways[memory] or process.is_over():
             return False
         self.merged += 1
         if not self._is_chosen():
             return False
         self.checked += 1
-        self._go_on(memory, MergedProgram(one, memory, way, STEPS))
+        self._go_on(memory, MergedProgram(process, memory, history, STEPS))
         return True
 
     def _is_chosen(self) -> bool:
-        """All are, while there are few; then one of many."""
+        """Returns whether this merge is checked: all while they are few, then a
+        sample."""
         if not self._merges or self._count >= self._most_waiting:
             return False
         return self.checked < self._merges or self.merged % ONE_OF == 0
 
-    def answered(self, memory: int, news: str, after: int) -> None:
+    def check_answer(self, memory: int, news: str, after: int) -> None:
         """Gives the programs that wait at a memory the news that the first one had
         there."""
         waiting = self._waiting.pop(memory, None)
@@ -71,48 +71,49 @@ class MergeChecks:
 
     def _go_on(self, memory: int, second: MergedProgram) -> None:
         """Takes the next noted news, or waits for some."""
-        if not second.steps or second.one.is_over():
-            self._machines.leave(memory, second.one)
+        if not second.steps or second.program.is_over():
+            self._machines.leave(memory, second.program)
             return
-        told = self._machines.first.get(memory)
-        if told is None:
+        news = self._machines.first.get(memory)
+        if news is None:
             self._waiting.setdefault(memory, []).append(second)
             self._count += 1
         else:
-            self._step(memory, second, *told)
+            self._step(memory, second, *news)
 
     def _step(self, memory: int, second: MergedProgram, news: str, after: int) -> None:
         """Gives the second program the news that the first had at a memory, and
         compares the next steps, and after the last step the memories."""
         machines = self._machines
-        one = second.one
-        machines.tell(one, news)
+        process = second.program
+        machines.send_news(process, news)
         self.compared += 1
-        is_last = second.steps == 1 or one.is_over()
+        is_last = second.steps == 1 or process.is_over()
         if (
-            one.step() != machines.steps[after]
+            process.step() != machines.steps[after]
             or is_last
-            and machines.name_of(one, (memory, news)) != machines.names[after]
+            and machines.name_of(process, (memory, news)) != machines.names[after]
         ):
-            raise NoFunction(self._difference(second, after))
+            raise NoFunctionError(self._difference(second, after))
         self._go_on(after, second._replace(steps=second.steps - 1))
 
     def _difference(self, second: MergedProgram, after: int) -> str:
-        """What is said of two programs that came to one memory and go on in two
-        ways."""
+        """Describes how two programs with equal memories continued differently."""
         machines = self._machines
-        came = second.way
+        history = second.history
         agent, first = machines.way_to(after)
-        step = second.one.step()
-        wanted = machines.steps[after]
+        step = second.program.step()
+        first_step = machines.steps[after]
         does = (
             f"both {step}, and come to different memories"
-            if step == wanted
-            else f"one {wanted}, the other {step}"
+            if step == first_step
+            else f"one {first_step}, the other {step}"
         )
-        other = [*machines.way_to(came[0])[1], came[1]] if came[0] >= 0 else []
+        other_news = (
+            [*machines.way_to(history[0])[1], history[1]] if history[0] >= 0 else []
+        )
         return (
             f"agent {agent} came to one memory in two ways, and goes on in two: {does}. What it declares leaves "
             "something out, or it is no function of its memory. The ways: "
-            f"{' '.join(first) or 'nothing'}; {' '.join(other) or 'nothing'}"
+            f"{' '.join(first) or 'nothing'}; {' '.join(other_news) or 'nothing'}"
         )

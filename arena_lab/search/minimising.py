@@ -12,7 +12,7 @@ from arena_lab.play.schedulers import Choice, Scheduler, MatchView
 Runs = List[Tuple[int, int]]
 
 
-def noted(scheduler: Scheduler, numbers: List[int]) -> Scheduler:
+def noting_scheduler(scheduler: Scheduler, numbers: List[int]) -> Scheduler:
     """The scheduler, which notes the number of each choice that it makes among
     several."""
 
@@ -34,15 +34,15 @@ def runs_of(numbers: Sequence[int]) -> Runs:
 
 def tidy(runs: Runs) -> Runs:
     """The same choices in as few runs as possible."""
-    found: Runs = []
+    merged_runs: Runs = []
     for which, times in runs:
-        if found and found[-1][0] == which:
-            found[-1] = which, found[-1][1] + times
+        if merged_runs and merged_runs[-1][0] == which:
+            merged_runs[-1] = which, merged_runs[-1][1] + times
         elif times:
-            found.append((which, times))
-    while found and found[-1][0] == 0:
-        found.pop()
-    return found
+            merged_runs.append((which, times))
+    while merged_runs and merged_runs[-1][0] == 0:
+        merged_runs.pop()
+    return merged_runs
 
 
 def size(runs: Runs) -> Tuple[int, int, int]:
@@ -59,30 +59,28 @@ def smaller(runs: Runs) -> Iterator[Runs]:
     while length := length // 2:
         for start in range(0, len(runs), length):
             yield tidy(runs[:start] + runs[start + length :])
-    for place, (which, times) in enumerate(runs):
+    for index, (which, times) in enumerate(runs):
         for less in dict.fromkeys((1, times // 2, times - 1)):
             if 0 < less < times:
-                yield tidy([*runs[:place], (which, less), *runs[place + 1 :]])
+                yield tidy([*runs[:index], (which, less), *runs[index + 1 :]])
         for lower in range(which):
-            yield tidy([*runs[:place], (lower, times), *runs[place + 1 :]])
+            yield tidy([*runs[:index], (lower, times), *runs[index + 1 :]])
 
 
 ORDINALS = ("first", "second", "third", "fourth", "fifth", "sixth", "seventh", "eighth")
 
 
 def in_words(runs: Runs) -> str:
-    """A schedule as one says it."""
+    """Describes a schedule in words."""
     names = [
         ORDINALS[which] if which < len(ORDINALS) else f"one at place {which + 1}"
         for which, _ in runs
     ]
-    said = [
+    phrases = [
         f"the {name} {'once' if times == 1 else f'{times} times'}"
         for name, (_, times) in zip(names, runs)
     ]
-    return (
-        f"of the agents that can go on, {', then '.join([*said, 'always the first'])}"
-    )
+    return f"of the agents that can go on, {', then '.join([*phrases, 'always the first'])}"
 
 
 class Cut:
@@ -93,16 +91,16 @@ class Cut:
         self,
         runs: Runs,
         fails: Callable[[Runs], bool],
-        most: int,
+        limit: int,
         is_late: Callable[[], bool] = lambda: False,
     ) -> None:
         self.runs = runs
         self.tried = 0
         self._fails = fails
-        self._most = most
+        self._most = limit
         self._is_late = is_late
-        while (found := self._step()) is not None:
-            self.runs = found
+        while (smaller_runs := self._step()) is not None:
+            self.runs = smaller_runs
 
     def _step(self) -> Optional[Runs]:
         """The first smaller schedule after which the team fails."""

@@ -12,7 +12,7 @@ from typing import Iterator, List, NamedTuple, Optional, Sequence
 from arena_lab.play.teams import INSIDE, OUTSIDE, AgentWords
 from arena_lab.rules.fixtures import Fixture
 from arena_lab.search.agent_processes import AgentProcesses, AgentStep
-from arena_lab.search.history_tree import NoFunction
+from arena_lab.search.history_tree import NoFunctionError
 from arena_lab.search.machines import Machines
 from arena_lab.search.step_machines import StepMachine
 from arena_lab.support.built import TOP
@@ -25,15 +25,15 @@ NOBODY = AgentWords(OUTSIDE, "nobody")
 
 
 class History(NamedTuple):
-    """The news of one agent, and its steps: at the start and after each of them."""
+    """An agent's news, and its steps at the start and after each of them."""
 
     agent: int
     news: List[str]
     steps: List[AgentStep]
 
 
-class Told(NamedTuple):
-    """What a process needs to tell agents some histories."""
+class RetellRequest(NamedTuple):
+    """The data that a process needs to replay histories."""
 
     fixture: Fixture
     agents: List[AgentWords]
@@ -44,15 +44,16 @@ class Told(NamedTuple):
 def histories_of(
     machines: Machines, agents: Sequence[AgentWords], first: int
 ) -> List[History]:
-    """Histories of agents inside the lab, evenly among the memories from this number
-    on. Functions of this process are in no other."""
+    """Returns histories of agents inside the lab, evenly sampled from the memories
+    since `first`. Functions of this process are omitted, because other processes cannot
+    import them."""
     numbers = range(first, len(machines.ways))
-    found = []
+    histories = []
     for number in numbers[:: max(1, len(numbers) // HISTORIES)]:
         agent, news = machines.way_to(number)
         if agents[agent].kind == INSIDE and agents[agent].function is None:
-            found.append(History(agent, news, machines.steps_to(number)))
-    return found[-HISTORIES:]
+            histories.append(History(agent, news, machines.steps_to(number)))
+    return histories[-HISTORIES:]
 
 
 def play_apart(
@@ -62,18 +63,18 @@ def play_apart(
     histories: List[History],
     seed: int,
 ) -> int:
-    """Has another process tell the agents these histories, with the order of sets of
-    this seed; gives how many it told them."""
+    """Replays histories in another process whose sets are ordered by this seed; returns
+    the number of replays."""
     if not histories:
         return 0
     is_there = {history.agent for history in histories}
-    named = [
+    agents_there = [
         agent if number in is_there else NOBODY for number, agent in enumerate(agents)
     ]
-    told = pickle.dumps(Told(fixture, named, seconds, histories))
-    ran = subprocess.run(
+    message = pickle.dumps(RetellRequest(fixture, agents_there, seconds, histories))
+    result = subprocess.run(
         [sys.executable, "-m", __name__],
-        input=told,
+        input=message,
         capture_output=True,
         check=False,
         env={
@@ -84,31 +85,31 @@ def play_apart(
             ),
         },
     )
-    if ran.returncode:
-        raise NoFunction(
+    if result.returncode:
+        raise NoFunctionError(
             "agents that another process tells the same end it: "
-            f"{ran.stderr.decode(errors='replace').strip()[-200:]}"
+            f"{result.stderr.decode(errors='replace').strip()[-200:]}"
         )
-    if ran.stdout:
-        raise NoFunction(ran.stdout.decode(errors="replace"))
+    if result.stdout:
+        raise NoFunctionError(result.stdout.decode(errors="replace"))
     return HISTORIES
 
 
-def difference(told: Told) -> Optional[str]:
-    """What an agent does otherwise first, if one does."""
-    processes = AgentProcesses(told.fixture, told.agents, told.seconds)
+def difference(request: RetellRequest) -> Optional[str]:
+    """Returns the first difference in an agent's steps, or None."""
+    processes = AgentProcesses(request.fixture, request.agents, request.seconds)
     processes.start()
     try:
-        for history in itertools.islice(itertools.cycle(told.histories), HISTORIES):
-            does = steps_of(told, processes, history)
-            for number, (step, wanted) in enumerate(zip(does, history.steps)):
-                if step != wanted:
+        for history in itertools.islice(itertools.cycle(request.histories), HISTORIES):
+            does = steps_of(request, processes, history)
+            for number, (step, step_there) in enumerate(zip(does, history.steps)):
+                if step != step_there:
                     return (
                         f"agent {history.agent} {step} when it is told the same in another process, after {number} "
-                        f"lines, where it {wanted}: it is no function of what it is told. It may go by a clock, by "
+                        f"lines, where it {step_there}: it is no function of what it is told. It may go by a clock, by "
                         "chance, by the order of a set, or by what another agent has kept"
                     )
-    except NoFunction as fault:
+    except NoFunctionError as fault:
         return str(fault)
     finally:
         processes.stop()
@@ -116,33 +117,33 @@ def difference(told: Told) -> Optional[str]:
 
 
 def steps_of(
-    told: Told, processes: AgentProcesses, history: History
+    request: RetellRequest, processes: AgentProcesses, history: History
 ) -> Iterator[AgentStep]:
-    """What an agent does at the start of a history, and after each line of it."""
-    words = told.agents[history.agent]
+    """Yields an agent's steps at the start of a history and after each news."""
+    words = request.agents[history.agent]
     if words.is_step():
-        machine = StepMachine(words, told.fixture.setup, processes.team)
-        held = machine.begin(told.fixture.keys[history.agent])
-        yield held.step
+        machine = StepMachine(words, request.fixture.setup, processes.team)
+        memory = machine.begin(request.fixture.keys[history.agent])
+        yield memory.step
         for news in history.news:
-            held = machine.next(held, news)
-            yield held.step
+            memory = machine.next(memory, news)
+            yield memory.step
         return
-    one = processes.begun(history.agent)
-    with contextlib.closing(one):
-        yield one.step()
+    process = processes.start_process(history.agent)
+    with contextlib.closing(process):
+        yield process.step()
         for news in history.news:
-            processes.tell(one, news)
-            yield one.step()
+            processes.send_news(process, news)
+            yield process.step()
 
 
 def main() -> None:
-    told: Told = pickle.load(sys.stdin.buffer)
+    request: RetellRequest = pickle.load(sys.stdin.buffer)
     answers = sys.stdout
     # what agents print is no answer
     with contextlib.redirect_stdout(sys.stderr):
-        found = difference(told)
-    answers.write(found or "")
+        text = difference(request)
+    answers.write(text or "")
 
 
 if __name__ == "__main__":

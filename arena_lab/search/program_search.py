@@ -11,7 +11,7 @@ from typing import Any, Callable, Dict, List, NamedTuple, Optional, Tuple
 
 from arena_lab.play.players import WAKES
 from arena_lab.play.wasm_modules import with_advice, word_of
-from arena_lab.rules.engines import EngineRefused, text_of_fault
+from arena_lab.rules.engines import EngineRefusedError, text_of_fault
 from arena_lab.rules.fixtures import Fixture, write_tournament
 from arena_lab.rules.model import Object
 from arena_lab.search.agent_processes import SAYS, SLEEP
@@ -24,16 +24,16 @@ TOO_MANY = "states"
 BEGIN = b'{"begin":'
 ASK = b'{"ask":'
 QUESTIONS = BEGIN, ASK
-STOPPED = "stopped"
-MORE = "more states than were to be visited"
+STOPPED_TEXT = "stopped"
+LIMIT_TEXT = "more states than were to be visited"
 LONGER = "a drawn schedule has more turns than --max-states allows"
 # seconds between two looks at the program while it works
 PAUSE = 1.0
 
 
 class SampleRequest(NamedTuple):
-    """How many schedules are drawn of each match, from which seed, whose turn it is in
-    them, and what is hunted for."""
+    """The schedules to draw for each match: their number, seed, scheduler and
+    objective."""
 
     schedules: int
     seed: int
@@ -63,8 +63,8 @@ class ProgramRun:
         self._after: Dict[Tuple[int, str], int] = {}
 
     def unwoken(self) -> int:
-        """How many memories sleep and go on to something that was never asked, if they
-        wake and see the same."""
+        """Returns how many memories sleep and go on to something that was never asked,
+        if they wake and see the same."""
         return sum(self._is_unwoken(memory) for memory in self.back)
 
     def _is_unwoken(self, memory: int) -> bool:
@@ -73,30 +73,30 @@ class ProgramRun:
         woken = self._after.get((memory, WAKES))
         if woken is None:
             return True
-        seen = self._machines.seen_by(memory) if self._machines.looks(woken) else None
-        return seen is not None and (woken, seen) not in self._after
+        board = self._machines.seen_by(memory) if self._machines.looks(woken) else None
+        return board is not None and (woken, board) not in self._after
 
     def answer(self, line: bytes) -> bytes:
         """The lines that answer a question, which is a line of the program."""
         machines = self._machines
         if line.startswith(ASK):
-            number, _, told = line[len(ASK) :].partition(b",")
+            number, _, message = line[len(ASK) :].partition(b",")
             before = self.back[int(number)]
-            news = machines.news_in(told)
+            news = machines.news_in(message)
             memory = self._after[before, news] = machines.next(before, news)
         else:
             memory = machines.begin(json.loads(line)["begin"])
-        found = self._answers.get(memory)
-        if found is None:
+        line_bytes = self._answers.get(memory)
+        if line_bytes is None:
             step = machines.steps[memory]
-            said = b"\n%b\n" % step.line if step.does == SAYS else b"\n"
-            found = self._answers[memory] = b"%d %b%b" % (
+            text = b"\n%b\n" % step.line if step.does == SAYS else b"\n"
+            line_bytes = self._answers[memory] = b"%d %b%b" % (
                 len(self.back),
                 step.does.encode(),
-                said,
+                text,
             )
             self.back.append(memory)
-        return found
+        return line_bytes
 
 
 class ProgressWatch:
@@ -104,10 +104,10 @@ class ProgressWatch:
     far it is, also while it asks nothing."""
 
     def __init__(
-        self, child: "subprocess.Popen[bytes]", said: Callable[[str], None]
+        self, child: "subprocess.Popen[bytes]", show_text: Callable[[str], None]
     ) -> None:
         self._child = child
-        self._said = said
+        self._said = show_text
         self._started = time.monotonic()
         self._far = ""
         self._ended = threading.Event()
@@ -121,11 +121,11 @@ class ProgressWatch:
         self._ended.set()
         self._thread.join()
 
-    def visited(self, told: Object) -> None:
+    def show_progress(self, message: Object) -> None:
         """Takes what the program tells of how far it is."""
-        states = told["visited"]
-        speed = told["visited"] / max(time.monotonic() - self._started, 1e-9)
-        self._far = f": {states:,} states, {speed:,.0f} a second, {told['depth']} turns on the path"
+        states = message["visited"]
+        speed = message["visited"] / max(time.monotonic() - self._started, 1e-9)
+        self._far = f": {states:,} states, {speed:,.0f} a second, {message['depth']} turns on the path"
 
     def _watch(self) -> None:
         while not self._ended.wait(PAUSE):
@@ -136,7 +136,7 @@ class ProgressWatch:
 
 
 def megabytes_of(pid: int) -> int:
-    """How much memory a process takes; 0 once it has ended."""
+    """Returns how much memory a process takes; 0 once it has ended."""
     try:
         status = pathlib.Path(f"/proc/{pid}/status").read_text(encoding="utf-8")
     except OSError:
@@ -151,7 +151,7 @@ def megabytes_of(pid: int) -> int:
     )
 
 
-def program_words(program: str, fixture: Fixture, most: int) -> List[str]:
+def program_words(program: str, fixture: Fixture, limit: int) -> List[str]:
     """The command by which a program tries the schedules of a match, and visits at most
     `most` states. It is run in the folder of the match's tournament."""
     return [
@@ -160,23 +160,23 @@ def program_words(program: str, fixture: Fixture, most: int) -> List[str]:
         "tournament.toml",
         "0",
         "--max-states",
-        str(most),
+        str(limit),
         "--spurious-wakeups",
         str(fixture.naps),
     ]
 
 
-def asked(
+def run_search(
     program: str,
     fixture: Fixture,
     machines: Machines,
-    most: int,
-    shown: Any = NO_PROGRESS,
+    limit: int,
+    progress: Any = NO_PROGRESS,
     draws: Optional[SampleRequest] = None,
 ) -> ExploreAnswer:
     """Lets the program try all schedules of a match, or draw some, and answers its
     questions. Ctrl-C stops it."""
-    started = time.monotonic()
+    start = time.monotonic()
     run = ProgramRun(machines)
     last = []
     # of modules the program says there how far it is, which nobody reads meanwhile
@@ -184,11 +184,11 @@ def asked(
         prefix="lab-"
     ) as name, tempfile.TemporaryFile() as errors:
         write_tournament(fixture, pathlib.Path(name))
-        words = program_words(program, fixture, most)
+        words = program_words(program, fixture, limit)
         words += [
-            it
+            module_word
             for module in machines.modules
-            for it in ("--module", word_of(module, fixture.setup))
+            for module_word in ("--module", word_of(module, fixture.setup))
         ]
         words += draws.words() if draws else []
         child = subprocess.Popen(
@@ -200,34 +200,34 @@ def asked(
         )
         assert child.stdin and child.stdout
         try:
-            with ProgressWatch(child, shown.set_postfix_str) as watch:
+            with ProgressWatch(child, progress.set_postfix_str) as watch:
                 for line in child.stdout:
                     if line.startswith(QUESTIONS):
                         child.stdin.write(run.answer(line))
                         child.stdin.flush()
-                        shown.update()
+                        progress.update()
                         continue
-                    told = json.loads(line)
-                    if "visited" in told:
-                        watch.visited(told)
+                    message = json.loads(line)
+                    if "visited" in message:
+                        watch.show_progress(message)
                     else:
-                        last.append(told)
+                        last.append(message)
                 child.communicate()
         except BrokenPipeError:
             # the program has ended, and says why
             child.communicate()
         except KeyboardInterrupt:
-            return ExploreAnswer(None, time.monotonic() - started, why=STOPPED)
+            return ExploreAnswer(None, time.monotonic() - start, why=STOPPED_TEXT)
         finally:
             if child.poll() is None:
                 child.kill()
                 child.communicate()
         errors.seek(0)
-        # behind what it said of how far it was; the second line of a fault is indented
+        # after the progress lines; the second line of a fault is indented
         fault = re.split(r"\n(?! )", text_of_fault(errors.read()))[-1]
-    seconds = time.monotonic() - started
+    seconds = time.monotonic() - start
     if len(last) >= 2:
         return answer_of(last[0], last[1], last[2:], seconds, run.unwoken())
     if fault.endswith(f": {TOO_MANY}"):
-        return ExploreAnswer(None, seconds, why=LONGER if draws else MORE)
-    raise EngineRefused(with_advice(fault), child.returncode)
+        return ExploreAnswer(None, seconds, why=LONGER if draws else LIMIT_TEXT)
+    raise EngineRefusedError(with_advice(fault), child.returncode)

@@ -4,8 +4,8 @@ import itertools
 
 
 def rounds(nodes: int) -> int:
-    """How often this many nodes are halved until one is left: the least R with 2^R >=
-    `nodes`."""
+    """Returns how often this many nodes are halved until one is left: the least R with
+    2^R >= `nodes`."""
     return (nodes - 1).bit_length()
 
 
@@ -19,15 +19,15 @@ def more_moves(nodes: int) -> int:
     """The most that the second bound from below gives (`more_moves` of `bhs_protocols_bounds`): k
     n + 3 (n - 2 - f_k) + 4 - f_(k+1) moves for some k with f_k at most n - 2, where
     f_0, f_1, f_2, .. are 1, 2, 3, 5, 8, .. ."""
-    most = 0
+    limit = 0
     this = 1
     following = 2
     for k in itertools.count():
         if this > nodes - 2:
             break
-        most = max(most, k * nodes + 3 * (nodes - 2 - this) + 4 - following)
+        limit = max(limit, k * nodes + 3 * (nodes - 2 - this) + 4 - following)
         this, following = following, this + following
-    return most
+    return limit
 
 
 def most_moves(nodes: int) -> int:

@@ -1,6 +1,6 @@
-"""Plays drawn schedules with the agents' programs, and compares each step with the
-noted answers. So it checks that an agent is a function of its history, or of the memory
-that it declares."""
+"""Replays drawn schedules with the agents' programs, and compares each step with the
+recorded answers. This checks that an agent is a function of its history, or of its
+declared memory."""
 import random
 from typing import List
 
@@ -11,7 +11,7 @@ from arena_lab.rules.fixtures import Fixture
 from arena_lab.rules.model import AWAY, ENDED
 from arena_lab.rules.rehearsal import Rehearsal
 from arena_lab.search.machines import Machines
-from arena_lab.search.history_tree import NoFunction
+from arena_lab.search.history_tree import NoFunctionError
 from arena_lab.search.agent_processes import SLEEP, STOP, AgentStep
 
 
@@ -52,7 +52,7 @@ class SampledProgram:
             # it has ended or travels, and says nothing more or leaves
             return
         if does != step:
-            raise NoFunction(
+            raise NoFunctionError(
                 f"after {step_number} choices of a drawn schedule agent {player.number} {does.does} "
                 f"{does.line!r}, and it answered {step.does} {step.line!r}: it is no function of what "
                 "it is told, or of the memory that it declares"
@@ -67,26 +67,26 @@ def follow(
     seconds: float,
 ) -> int:
     """Plays a drawn schedule, and compares each step; gives how many there were."""
-    chance = random.Random(seed)
+    rng = random.Random(seed)
     team = Together(agents, fixture, seconds)
     run = MatchRun(Rehearsal(fixture), team, fixture)
     team.start()
     try:
-        followed = [SampledProgram(machines, player) for player in team.players]
+        programs = [SampledProgram(machines, player) for player in team.players]
         steps = 0
         while True:
             choices = run.may_happen()
             if not choices:
                 return steps
-            choice = chance.choice(choices)
-            one = followed[choice.agent]
-            is_waking = one.player.state == SLEEPS
+            choice = rng.choice(choices)
+            program = programs[choice.agent]
+            is_waking = program.player.state == SLEEPS
             run.happen(choice)
             if is_waking:
-                one.go_on(WAKES)
+                program.go_on(WAKES)
             steps += 1
-            if one.player.state != DONE:
+            if program.player.state != DONE:
                 standing = run.match.agents[choice.agent].standing
-                one.compare(steps, standing in (AWAY, ENDED), standing == ENDED)
+                program.compare(steps, standing in (AWAY, ENDED), standing == ENDED)
     finally:
         team.stop()

@@ -1,4 +1,4 @@
-"""What searches found, as Python programs and notebooks are given it."""
+"""Results of searches for Python programs and notebooks."""
 import importlib
 from typing import Any, Dict, List, NamedTuple, Optional
 
@@ -7,15 +7,15 @@ from arena_lab.rules.model import Verdict
 from arena_lab.search.findings import Exceeds, Solves, name_of as kind_of
 
 
-def said_of(record: Record) -> str:
-    """The verdict of a match, and what else failed in it."""
-    return "; ".join([str(record.verdict), *record.played.faults])
+def record_text(record: Record) -> str:
+    """Returns the verdict of a match and its faults."""
+    return "; ".join([str(record.verdict), *record.match.faults])
 
 
 class Exploration(NamedTuple):
-    """What came of all schedules of some matches: how many states there are, whether
-    all were visited, and the first match that fails, or else the one with the most
-    moves, if any has ended."""
+    """The result of the Python model's search over some matches: number of states,
+    whether all were visited, and the first failing match, else the match with the most
+    moves (None if no match ended)."""
 
     states: int
     is_whole: bool
@@ -25,7 +25,7 @@ class Exploration(NamedTuple):
 
     @property
     def solves(self) -> bool:
-        """Whether no schedule fails."""
+        """Returns whether no schedule fails."""
         return self.is_whole and not self.fails
 
     @property
@@ -33,25 +33,24 @@ class Exploration(NamedTuple):
         return self.worst.verdict.moves if self.worst else None
 
     def __str__(self) -> str:
-        said = (
+        text = (
             "a schedule fails"
             if self.fails
             else "no schedule fails, of the Python model"
             if self.is_whole
             else ("stopped before all were visited; no schedule failed until then")
         )
-        worst = f"; {said_of(self.worst)}" if self.worst else ""
-        return f"{self.states} states in {self.seconds:.1f} s: {said}{worst}"
+        worst = f"; {record_text(self.worst)}" if self.worst else ""
+        return f"{self.states} states in {self.seconds:.1f} s: {text}{worst}"
 
     def _repr_html_(self) -> str:
         return f"<p>{self}</p>{self.worst._repr_html_() if self.worst else ''}"
 
 
 class SearchResult(NamedTuple):
-    """What the program found of all schedules of some matches, or of those that it
-    drew: a row for each match, what was checked of how agents are taken for machines,
-    and the match that fails, if one does. A match that was not tried as a whole has no
-    `found`."""
+    """The result of the program's search over some matches, or over drawn schedules: a
+    row per match, the checks that agents are state machines, and the failing match, if
+    any. The finding of an incomplete match is None."""
 
     rows: List[Dict[str, Any]]
     checked: str
@@ -68,7 +67,7 @@ class SearchResult(NamedTuple):
 
     @property
     def solves(self) -> bool:
-        """Whether every schedule of these matches was tried, and none fails."""
+        """Returns whether every schedule of these matches was tried, and none fails."""
         return all(row["found"] == kind_of(Solves) for row in self.rows)
 
     @property
@@ -102,24 +101,24 @@ class SearchResult(NamedTuple):
 
     def __str__(self) -> str:
         if self.fails:
-            said = f"a schedule fails; {said_of(self.worst)}" if self.worst else ""
+            text = f"a schedule fails; {record_text(self.worst)}" if self.worst else ""
         elif not self.is_whole:
-            said = "stopped before all were visited; no schedule failed until then"
+            text = "stopped before all were visited; no schedule failed until then"
         else:
             what = (
                 "no drawn schedule fails, which says nothing of the others"
                 if self.is_drawn
                 else "every schedule that the lab tried solves"
             )
-            said = f"{what}; most moves {self.most_moves}, most agents lost {self.most_lost}; {self.checked}"
-        return f"{self.states} states in {self.seconds:.1f} s: {said}"
+            text = f"{what}; most moves {self.most_moves}, most agents lost {self.most_lost}; {self.checked}"
+        return f"{self.states} states in {self.seconds:.1f} s: {text}"
 
     def _repr_html_(self) -> str:
         return f"<p>{self}</p>{self.worst._repr_html_() if self.worst else ''}"
 
 
 def pandas_or_none() -> Any:
-    """The module pandas, or None where it is not installed."""
+    """Returns the module pandas, or None if it is not installed."""
     try:
         return importlib.import_module("pandas")
     except ModuleNotFoundError:
@@ -127,7 +126,7 @@ def pandas_or_none() -> Any:
 
 
 class HuntResult(NamedTuple):
-    """What a hunt found: how many schedules were tried, whether the team fails, and the
+    """The result of a hunt: number of schedules tried, whether the team fails, and the
     best match."""
 
     tried: int
@@ -139,10 +138,10 @@ class HuntResult(NamedTuple):
         return self.best.verdict
 
     def __str__(self) -> str:
-        said = (
+        text = (
             "the team fails" if self.fails else "the team solved its network under each"
         )
-        return f"{self.tried} schedules were tried: {said}; {said_of(self.best)}"
+        return f"{self.tried} schedules were tried: {text}; {record_text(self.best)}"
 
     def _repr_html_(self) -> str:
         return f"<p>{self}</p>{self.best._repr_html_()}"

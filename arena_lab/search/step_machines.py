@@ -7,12 +7,12 @@ from typing import Any, Dict, NamedTuple, Optional
 from arena_lab.play.agent_files import client_module
 from arena_lab.play.foreign_files import Notes
 from arena_lab.play.own_modules import OwnModules
-from arena_lab.play.players import DEPARTED, WAKES, Team, TooSlow
+from arena_lab.play.players import DEPARTED, WAKES, Team, TooSlowError
 from arena_lab.play.steps import Step, memory_of, name_of
 from arena_lab.play.teams import AgentWords
 from arena_lab.rules.model import Object, Setup
 from arena_lab.search.agent_processes import ENDS, FAIL, SAYS, SLEEP, STOP, AgentStep
-from arena_lab.support.missing import needed
+from arena_lab.support.missing import require
 
 OUTSIDE = "outside"
 WAITS = "waits"
@@ -21,7 +21,7 @@ OVER = "over"
 
 
 class StepMemory(NamedTuple):
-    """Where an agent is in its match, its memory by its name, and what it does next."""
+    """An agent's phase in the match, the name of its memory, and its next step."""
 
     where: str
     memory: bytes
@@ -39,7 +39,7 @@ class StepMachine:
     def __init__(
         self, agent: AgentWords, setup: Setup, team: Team, notes: Optional[Notes] = None
     ) -> None:
-        """What the step reads and reaches is noted in these notes."""
+        """Reads and accesses of the step function are recorded in `notes`."""
         self.words = agent.words
         self._agent = agent
         self._setup = setup
@@ -49,7 +49,7 @@ class StepMachine:
         self._loaded: Dict[str, Step] = {}
 
     def begin(self, key: str) -> StepMemory:
-        """An agent that is to enter by its key."""
+        """Returns the memory of an agent that enters by this key."""
         line = client_module().line_of({"do": "enter", "key": key})
         return StepMemory(OUTSIDE, START, AgentStep(SAYS, line.encode()))
 
@@ -65,15 +65,15 @@ class StepMachine:
         if before.where == OUTSIDE and "no" in reply:
             return FAILED
         # in a greenlet, so that the team's clocks end a step that computes without end
-        thread = needed("greenlet").greenlet(self._taken)
+        thread = require("greenlet").greenlet(self._taken)
         vars(thread)["notes"] = self._notes
         self._team.turns += 1
         with self._modules:
-            found: StepMemory = thread.switch(before.memory, reply)
-        return found
+            memory: StepMemory = thread.switch(before.memory, reply)
+        return memory
 
     def _taken(self, memory: bytes, reply: Object) -> StepMemory:
-        """What a step comes to."""
+        """Returns the memory after a step."""
         client: Any = client_module()
         try:
             after, command = self._step()(memory_of(memory), reply)
@@ -82,7 +82,7 @@ class StepMachine:
             line = (
                 b"" if is_sleeping else client.line_of(command).encode(errors="replace")
             )
-        except (TooSlow, Exception, SystemExit):
+        except (TooSlowError, Exception, SystemExit):
             return FAILED
         return StepMemory(WAITS, name, AgentStep(SLEEP if is_sleeping else SAYS, line))
 

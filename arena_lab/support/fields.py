@@ -3,22 +3,22 @@ says what to write."""
 import tomllib
 from typing import Any, Callable, Dict, List, Mapping, NamedTuple, Sequence
 
-from arena_lab.support.faults import Fault
+from arena_lab.support.faults import ArenaError
 
 NEEDED = object()
 
 
-class WrongFile(Fault):
-    """A file is not as it has to be; says what to change."""
+class FileFormatError(ArenaError):
+    """A file has an invalid format; the text says what to change."""
 
 
 class Field(NamedTuple):
-    """What a key may hold: which values are right, how that is said, and what counts if
-    the key is absent."""
+    """The type of a key: which values are valid, how to describe them, and the
+    default."""
 
     is_right: Callable[[Any], bool]
-    wanted: str
-    usual: Any = NEEDED
+    expected: str
+    default: Any = NEEDED
 
 
 def table_of(text: str) -> Dict[str, Any]:
@@ -26,34 +26,33 @@ def table_of(text: str) -> Dict[str, Any]:
     try:
         return tomllib.loads(text)
     except tomllib.TOMLDecodeError as fault:
-        raise WrongFile(f"it is no TOML: {fault}") from None
+        raise FileFormatError(f"it is no TOML: {fault}") from None
 
 
 def values_of(
     table: Mapping[str, Any], fields: Mapping[str, Field], name: str
 ) -> Dict[str, Any]:
-    """What a table of this name says under each key. One that has another key is
-    refused."""
+    """Returns the values of a table by key. Raises FileFormatError for unknown keys."""
     unknown = sorted(set(table) - set(fields))
     if unknown:
-        raise WrongFile(
+        raise FileFormatError(
             f"{name} has no key {unknown[0]}; its keys are {', '.join(sorted(fields))}"
         )
     return {key: value_of(table, key, field) for key, field in fields.items()}
 
 
 def value_of(table: Mapping[str, Any], key: str, field: Field) -> Any:
-    """The value of a key, or the usual one if it is absent."""
-    value = table.get(key, field.usual)
+    """Returns the value of a key, or the default if it is absent."""
+    value = table.get(key, field.default)
     if value is NEEDED or not field.is_right(value):
-        raise WrongFile(f"{key} must be {field.wanted}")
+        raise FileFormatError(f"{key} must be {field.expected}")
     return value
 
 
 def unlike(rows: List[Dict[str, Any]], what: str) -> List[Dict[str, Any]]:
-    """What some tables say, if each has a name of its own."""
+    """Returns the rows. Raises FileFormatError if two rows have the same name."""
     if len({row["name"] for row in rows}) < len(rows):
-        raise WrongFile(f"two {what}s have the same name")
+        raise FileFormatError(f"two {what}s have the same name")
     return rows
 
 
@@ -80,52 +79,60 @@ def is_count(value: Any) -> bool:
 
 TEXT = Field(is_text, "a text")
 NAMES = Field(is_texts, "a list of names")
-# a list that may have none, and what is false if it is not said
-MAYBE_NAMES = NAMES._replace(is_right=lambda it: it == [] or is_texts(it), usual=[])
-FLAG = Field(lambda it: isinstance(it, bool), "true or false", False)
+# an optional list of names (default empty), and a flag (default false)
+MAYBE_NAMES = NAMES._replace(
+    is_right=lambda value: value == [] or is_texts(value), default=[]
+)
+FLAG = Field(lambda value: isinstance(value, bool), "true or false", False)
 
 
-def count(usual: int, unit: str = "") -> Field:
+def count(default: int, unit: str = "") -> Field:
     """A number of these."""
     return Field(
-        is_count, f"a whole number {f'of {unit} ' if unit else ''}from 1", usual
+        is_count, f"a whole number {f'of {unit} ' if unit else ''}from 1", default
     )
 
 
-def up_to(most: int, usual: int, least: int = 1) -> Field:
+def up_to(limit: int, default: int, least: int = 1) -> Field:
     return Field(
-        lambda it: is_number(it) and least <= it <= most, f"{least} to {most}", usual
+        lambda value: is_number(value) and least <= value <= limit,
+        f"{least} to {limit}",
+        default,
     )
 
 
 def maybe(field: Field) -> Field:
-    """What may be absent, and is None then."""
-    return Field(lambda it: it is None or field.is_right(it), field.wanted, None)
-
-
-def one_of(choices: Sequence[str], usual: Any) -> Field:
+    """Makes a field optional, with the default None."""
     return Field(
-        lambda it: it == usual or it in choices, f"one of {', '.join(choices)}", usual
+        lambda value: value is None or field.is_right(value), field.expected, None
     )
 
 
-def table(name: str, usual: Any) -> Field:
+def one_of(choices: Sequence[str], default: Any) -> Field:
     return Field(
-        lambda it: it is usual or isinstance(it, dict),
+        lambda value: value == default or value in choices,
+        f"one of {', '.join(choices)}",
+        default,
+    )
+
+
+def table(name: str, default: Any) -> Field:
+    return Field(
+        lambda value: value is default or isinstance(value, dict),
         f"a table: write [{name}] and its keys below it",
-        usual,
+        default,
     )
 
 
-def tables(name: str, usual: Any = NEEDED) -> Field:
-    """One table or more, unless none is the usual."""
+def tables(name: str, default: Any = NEEDED) -> Field:
+    """One table or more, unless none is the default."""
 
     def is_right(value: Any) -> bool:
         return (
-            value == usual
+            value == default
             or isinstance(value, list)
             and value != []
-            and all(isinstance(it, dict) for it in value)
+            and all(isinstance(table, dict) for table in value)
         )
 
-    return Field(is_right, f"given: write [[{name}]] and its keys below it", usual)
+    return Field(is_right, f"given: write [[{name}]] and its keys below it", default)

@@ -6,8 +6,8 @@ MEMINFO = pathlib.Path("/proc/meminfo")
 
 
 def available() -> Optional[int]:
-    """How many bytes programs may take without others going short, or None where Linux
-    does not say it."""
+    """Returns how many bytes programs may take without others going short, or None
+    where Linux does not say it."""
     try:
         lines = MEMINFO.read_text(encoding="ascii").splitlines()
     except OSError:

@@ -8,7 +8,7 @@ from types import ModuleType
 from typing import Iterable, Sequence
 
 import arena_lab
-from arena_lab.support.faults import Fault
+from arena_lab.support.faults import ArenaError
 
 PACKAGES = {
     "greenlet": "python3-greenlet",
@@ -31,24 +31,25 @@ PACKAGES = {
 DEBIANS_PYTHON = "/usr/bin/python3"
 
 
-class Missing(Fault):
-    """Packages are not installed, or this Python does not see them; says what to do."""
+class MissingPackageError(ArenaError):
+    """Python packages are missing or invisible to this interpreter; the text says how
+    to install them."""
 
     def __init__(self, modules: Iterable[str]) -> None:
         self.modules = list(dict.fromkeys(modules))
         is_one = len(self.modules) == 1
-        said = (
+        subject = (
             f"module {self.modules[0]} is"
             if is_one
             else f"modules {', '.join(self.modules)} are"
         )
         how = by_pip(self.modules) if in_environment() else by_debian(self.modules)
-        super().__init__(f"the Python {said} missing: {how}")
+        super().__init__(f"the Python {subject} missing: {how}")
 
 
 def in_environment() -> bool:
-    """Whether this Python is that of a virtual environment, which does not see Debian's
-    packages."""
+    """Returns whether this Python is that of a virtual environment, which does not see
+    Debian's packages."""
     return sys.prefix != sys.base_prefix
 
 
@@ -61,33 +62,33 @@ def by_pip(modules: Sequence[str]) -> str:
 
 def by_debian(modules: Sequence[str]) -> str:
     packages = " ".join(PACKAGES[name] for name in modules)
-    said = f"install Debian's package{'' if len(modules) == 1 else 's'} by `apt-get install {packages}`"
+    advice = f"install Debian's package{'' if len(modules) == 1 else 's'} by `apt-get install {packages}`"
     is_debians = (
         pathlib.Path(sys.executable).resolve() == pathlib.Path(DEBIANS_PYTHON).resolve()
     )
     return (
-        said
+        advice
         if is_debians
-        else f"{said}, and run the lab by `{arena_lab.called()}`, which takes Debian's Python"
+        else f"{advice}, and run the lab by `{arena_lab.command_name()}`, which takes Debian's Python"
     )
 
 
-def needed(name: str) -> ModuleType:
+def require(name: str) -> ModuleType:
     """The module of this name; if it is missing, a line that says what to install."""
     package = name.partition(".")[0]
     try:
         return importlib.import_module(name)
     except ModuleNotFoundError:
-        raise Missing([package]) from None
+        raise MissingPackageError([package]) from None
 
 
 def check(*modules: str) -> None:
     """Refuses to begin what would end without these modules."""
     missing = missing_of(modules)
     if missing:
-        raise Missing(missing)
+        raise MissingPackageError(missing)
 
 
 def missing_of(modules: Iterable[str]) -> Iterable[str]:
-    """Which of these modules are not installed."""
+    """Returns the modules that are not installed."""
     return [name for name in modules if importlib.util.find_spec(name) is None]

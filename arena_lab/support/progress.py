@@ -2,7 +2,7 @@
 import sys
 from typing import Any, Iterable, Iterator, Optional, TypeVar
 
-from arena_lab.support.missing import needed
+from arena_lab.support.missing import require
 
 Item = TypeVar("Item")
 
@@ -25,14 +25,14 @@ NO_PROGRESS = NoProgress()
 
 def bar(total: Optional[int], unit: str) -> Any:
     """A bar of Debian's python3-tqdm. It is silent if standard error is no terminal."""
-    return needed("tqdm").tqdm(
+    return require("tqdm").tqdm(
         total=total, unit=unit, disable=not sys.stderr.isatty(), leave=False
     )
 
 
 def along(items: Iterable[Item], total: int, unit: str) -> Iterator[Item]:
     """The items, with a bar that counts them."""
-    with bar(total, unit) as shown:
+    with bar(total, unit) as progress:
         for item in items:
             yield item
-            shown.update()
+            progress.update()

@@ -10,14 +10,14 @@ from types import FrameType
 from typing import Any, Callable, Optional, Set
 
 # seconds after which a signal comes again that Python dropped
-SOON = 0.01
-# signals that are to come again
+REPEAT_SECONDS = 0.01
+# signals that will be sent again
 dropped_signals: Set[int] = set()
 
 
-class Terminated(BaseException):
-    """The lab is to end. An agent that is playing then does not catch it, as it would
-    an exit."""
+class TerminatedError(BaseException):
+    """The lab must end. It derives from BaseException, so that agents which catch
+    SystemExit or Exception do not catch it."""
 
 
 def end(lab: int, number: int, frame: Optional[FrameType]) -> None:
@@ -35,11 +35,12 @@ def end(lab: int, number: int, frame: Optional[FrameType]) -> None:
     signal.signal(signal.SIGTERM, signal.SIG_IGN)
     for process in multiprocessing.active_children():
         process.terminate()
-    raise Terminated
+    raise TerminatedError
 
 
 def runs_in(function: Callable[..., Any], frame: Optional[FrameType]) -> bool:
-    """Whether a frame is of a call of the function, or of one that it made."""
+    """Returns whether the frame belongs to a call of the function, or to a call made by
+    it."""
     while frame is not None and frame.f_code is not function.__code__:
         frame = frame.f_back
     return frame is not None
@@ -50,10 +51,10 @@ def send_soon(number: int) -> None:
     raises for it."""
 
     def send() -> None:
-        time.sleep(SOON)
+        time.sleep(REPEAT_SECONDS)
         while number in dropped_signals:
             os.kill(lab, number)
-            time.sleep(SOON)
+            time.sleep(REPEAT_SECONDS)
 
     lab = os.getpid()
     if number not in dropped_signals:
@@ -61,15 +62,15 @@ def send_soon(number: int) -> None:
         threading.Thread(target=send, daemon=True).start()
 
 
-def come_again(dropped: Any) -> None:
+def come_again(reference: Any) -> None:
     """Has a signal come again if Python has dropped what was raised for it, as it does
     in what a weak reference, a fork or a finalizer calls. What is raised in here would
     be dropped, too, so `end` raises nothing then."""
-    number = {KeyboardInterrupt: signal.SIGINT, Terminated: signal.SIGTERM}.get(
-        dropped.exc_type
+    number = {KeyboardInterrupt: signal.SIGINT, TerminatedError: signal.SIGTERM}.get(
+        reference.exc_type
     )
     if number is None:
-        sys.__unraisablehook__(dropped)
+        sys.__unraisablehook__(reference)
         return
     signal.signal(number, functools.partial(end, os.getpid()))
     send_soon(number)

@@ -5,8 +5,8 @@ from typing import Any
 
 
 def is_ready(stream: Any, seconds: float) -> bool:
-    """Whether a stream or a descriptor can be read within this many seconds: it has
-    something, or has ended."""
+    """Returns whether a stream or a descriptor can be read within this many seconds: it
+    has something, or has ended."""
     with selectors.PollSelector() as selector:
         selector.register(stream, selectors.EVENT_READ)
         return bool(selector.select(seconds))

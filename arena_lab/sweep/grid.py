@@ -63,14 +63,14 @@ from arena_lab.play.teams import (
 )
 from arena_lab.rules import draws, networks
 from arena_lab.rules.draws import DRAWN, PORTS_ARE
-from arena_lab.rules.fixtures import Fixture, NoMatch, checked, fixture_of
-from arena_lab.rules.limits import MOST_AGENTS, MOST_BOARD, MOST_QUOTA
+from arena_lab.rules.fixtures import Fixture, MatchError, check_setup, fixture_of
+from arena_lab.rules.limits import MAX_AGENTS, MAX_BOARD, MAX_QUOTA
 from arena_lab.rules.model import Place, Setup
-from arena_lab.rules.networks import Network, NoNetwork
+from arena_lab.rules.networks import Network, NetworkError
 from arena_lab.support import fields
 from arena_lab.support.fields import (
     Field,
-    WrongFile,
+    FileFormatError,
     is_count,
     is_number,
     is_text,
@@ -95,45 +95,47 @@ def is_holes(value: Any) -> bool:
         or isinstance(value, list)
         and value != []
         and all(
-            is_number(it) or isinstance(it, list) and all(map(is_number, it))
-            for it in value
+            is_number(node) or isinstance(node, list) and all(map(is_number, node))
+            for node in value
         )
     )
 
 
 def is_dark(value: Any) -> bool:
     return isinstance(value, list) and all(
-        isinstance(it, list) and len(it) == 2 and all(map(is_number, it))
-        for it in value
+        isinstance(link_end, list)
+        and len(link_end) == 2
+        and all(map(is_number, link_end))
+        for link_end in value
     )
 
 
 FIELDS = {
     "title": fields.TEXT,
     "networks": Field(is_texts, 'a list of names, such as ["ring:8"]'),
-    "ports": Field(lambda it: it is None or is_text(it), PORTS_ARE, None),
+    "ports": Field(lambda value: value is None or is_text(value), PORTS_ARE, None),
     "home": Field(is_number, "a node", 0),
     "holes": Field(is_holes, HOLES_ARE, BY_SEED),
     "dark": Field(is_dark, "a list of nodes with ports, such as [[0, 1]]", []),
     "schedulers": Field(is_texts, 'a list of names, such as ["fair"]', ["fair"]),
     "seeds": fields.count(1),
-    "quota": fields.up_to(MOST_QUOTA, QUOTA),
-    "board": fields.up_to(MOST_BOARD, BOARD, 0),
+    "quota": fields.up_to(MAX_QUOTA, QUOTA),
+    "board": fields.up_to(MAX_BOARD, BOARD, 0),
     "bound": fields.one_of(list(BOUNDS), None),
     "team": fields.tables("team"),
 }
 AGENTS = Field(
-    lambda it: it == DEGREE or is_count(it) and it <= MOST_AGENTS,
-    f'1 to {MOST_AGENTS}, or "{DEGREE}"',
+    lambda value: value == DEGREE or is_count(value) and value <= MAX_AGENTS,
+    f'1 to {MAX_AGENTS}, or "{DEGREE}"',
     2,
 )
-OWN = {
+OWN_FIELDS = {
     "agents": fields.maybe(AGENTS),
-    "quota": fields.maybe(fields.up_to(MOST_QUOTA, QUOTA)),
-    "board": fields.maybe(fields.up_to(MOST_BOARD, BOARD, 0)),
+    "quota": fields.maybe(fields.up_to(MAX_QUOTA, QUOTA)),
+    "board": fields.maybe(fields.up_to(MAX_BOARD, BOARD, 0)),
     "ports": fields.one_of([draws.GIVEN, DRAWN], None),
 }
-MAY_BE_TEXT = Field(lambda it: it is None or is_text(it), "a text", None)
+MAY_BE_TEXT = Field(lambda value: value is None or is_text(value), "a text", None)
 TEAM = {
     "name": fields.TEXT,
     "agents": AGENTS,
@@ -170,7 +172,7 @@ class Case(NamedTuple):
 
 
 class NetworkTerms(NamedTuple):
-    """What the matches on one network have of their own, as far as it is said."""
+    """Overrides for one network; None keeps the value of the grid."""
 
     agents: Union[None, int, str] = None
     quota: Optional[int] = None
@@ -179,7 +181,7 @@ class NetworkTerms(NamedTuple):
 
 
 class Grid(NamedTuple):
-    """What a sweep's file says."""
+    """The contents of a sweep's file."""
 
     title: str
     names: List[str]
@@ -193,7 +195,7 @@ class Grid(NamedTuple):
     board: int
     bound: Optional[str]
     teams: List[TeamRow]
-    own: Dict[str, NetworkTerms] = {}
+    overrides: Dict[str, NetworkTerms] = {}
 
     def cases(self, secret: str = "") -> Iterator[Case]:
         """All runs, in the order of their numbers. Black holes are drawn from a secret,
@@ -217,46 +219,52 @@ class Grid(NamedTuple):
     def fixture(self, case: Case) -> Fixture:
         """The match of a run."""
         network = self.networks[case.network]
-        own = self.terms_on(case.network)
-        agents = own.agents or case.team.agents
+        terms = self.terms_on(case.network)
+        agents = terms.agents or case.team.agents
         count = max(network.degrees()) + 1 if isinstance(agents, str) else agents
         home = self.home if case.home is None else case.home
-        found = draws.Drawn(draws.numbered(network, case.ports), home, list(case.holes))
-        board = self.board if own.board is None else own.board
-        setup = found.setup(count, own.quota or self.quota, board, self.dark)
+        match = draws.DrawnMatch(
+            draws.renumber(network, case.ports), home, list(case.holes)
+        )
+        board = self.board if terms.board is None else terms.board
+        setup = match.setup(count, terms.quota or self.quota, board, self.dark)
         return fixture_of(setup, case.number)
 
     def terms_on(self, network: str) -> NetworkTerms:
-        return self.own.get(network, NetworkTerms())
+        return self.overrides.get(network, NetworkTerms())
 
     def files(self) -> Dict[str, str]:
         """The digest of each file that the runs depend on."""
-        others = digests([*self.schedulers, *self.names])
-        return {**others, **digests_of([team.words for team in self.teams])}
+        other_digests = digests([*self.schedulers, *self.names])
+        return {**other_digests, **digests_of([team.words for team in self.teams])}
 
     def _holes(self, name: str, secret: str) -> List[List[Tuple[int, ...]]]:
         """The black holes of a network: each seed takes the next of these lists."""
         if isinstance(self.holes, list):
             return [[holes] for holes in self.holes]
         network = self.networks[name]
-        others = draws.others_than(self.home, network)
-        chance = random.Random(f"{secret}{name} {self.holes}")
-        count = len(others)
+        other_nodes = draws.others_than(self.home, network)
+        rng = random.Random(f"{secret}{name} {self.holes}")
+        count = len(other_nodes)
         if isinstance(self.holes, int):
             count = min(self.holes, count)
-            others = sorted(draws.sampled(network, self.home, count, chance))
+            other_nodes = sorted(draws.sample_nodes(network, self.home, count, rng))
         elif self.holes == DRAWN or self.holes == BY_SEED and secret:
-            others = draws.sampled(network, self.home, count, chance)
-        taken: List[Tuple[int, ...]] = [(hole,) for hole in others]
-        return [taken] if self.holes in (BY_SEED, DRAWN) else [[it] for it in taken]
+            other_nodes = draws.sample_nodes(network, self.home, count, rng)
+        hole_lists: List[Tuple[int, ...]] = [(hole,) for hole in other_nodes]
+        return (
+            [hole_lists]
+            if self.holes in (BY_SEED, DRAWN)
+            else [[hole_list] for hole_list in hole_lists]
+        )
 
 
-def read(path: pathlib.Path) -> Grid:
+def read_grid(path: pathlib.Path) -> Grid:
     """The grid of a sweep's file."""
     try:
         return grid_of(text_in(path))
-    except WrongFile as fault:
-        raise WrongFile(f"{path}: {fault}") from None
+    except FileFormatError as fault:
+        raise FileFormatError(f"{path}: {fault}") from None
 
 
 def text_in(path: pathlib.Path) -> str:
@@ -264,38 +272,39 @@ def text_in(path: pathlib.Path) -> str:
     try:
         return path.read_text(encoding="utf-8")
     except FileNotFoundError:
-        raise WrongFile("there is no such file") from None
+        raise FileFormatError("there is no such file") from None
     except UnicodeDecodeError:
-        raise WrongFile("it is no text in UTF-8") from None
+        raise FileFormatError("it is no text in UTF-8") from None
 
 
 @functools.lru_cache(maxsize=4)
 def grid_of(text: str) -> Grid:
     """The grid that a sweep's text says."""
-    said = fields.values_of(fields.table_of(text), FIELDS, "it")
+    values = fields.values_of(fields.table_of(text), FIELDS, "it")
     rows = fields.unlike(
-        [fields.values_of(row, TEAM, "a team") for row in said["team"]], "team"
+        [fields.values_of(row, TEAM, "a team") for row in values["team"]], "team"
     )
-    return grid_in(said, list(map(team_of, rows)))
+    return grid_in(values, list(map(team_of, rows)))
 
 
 def grid_in(
-    said: Dict[str, Any], teams: List[TeamRow], folder: pathlib.Path = pathlib.Path()
+    values: Dict[str, Any], teams: List[TeamRow], folder: pathlib.Path = pathlib.Path()
 ) -> Grid:
     """The grid of these values and teams. Files of networks are looked for in the
     folder."""
     grid = Grid(
-        names=said["networks"],
+        names=values["networks"],
         networks={
-            name: numbered(name, ports_in(said), folder) for name in said["networks"]
+            name: load_network(name, ports_in(values), folder)
+            for name in values["networks"]
         },
-        holes=holes_of(said["holes"]),
-        dark=[(v, p) for v, p in said["dark"]],
-        bound=said.get("bound"),
+        holes=holes_of(values["holes"]),
+        dark=[(v, p) for v, p in values["dark"]],
+        bound=values.get("bound"),
         teams=teams,
-        own=own_in(said.get("conditions", {}), said["networks"]),
+        overrides=own_in(values.get("conditions", {}), values["networks"]),
         **{
-            name: said[name]
+            name: values[name]
             for name in ("title", "home", "schedulers", "seeds", "quota", "board")
         },
     )
@@ -303,57 +312,59 @@ def grid_in(
     return grid
 
 
-def own_in(said: Mapping[str, Any], names: List[str]) -> Dict[str, NetworkTerms]:
-    """What a file says of each of some networks."""
-    for name, row in said.items():
+def own_in(values: Mapping[str, Any], names: List[str]) -> Dict[str, NetworkTerms]:
+    """Parses the overrides of each network."""
+    for name, row in values.items():
         if name not in names or not isinstance(row, dict):
-            raise WrongFile(
+            raise FileFormatError(
                 f'conditions has {name}: write [conditions."NAME"] with a network'
             )
     return {
-        name: NetworkTerms(**fields.values_of(row, OWN, f"conditions of {name}"))
-        for name, row in said.items()
+        name: NetworkTerms(**fields.values_of(row, OWN_FIELDS, f"conditions of {name}"))
+        for name, row in values.items()
     }
 
 
-def ports_in(said: Mapping[str, Any]) -> Optional[int]:
-    """The seed by which ports are numbered alike in all matches, if there is one."""
+def ports_in(values: Mapping[str, Any]) -> Optional[int]:
+    """Returns the seed of the numbering of ports in all matches, or None."""
     try:
-        found = draws.ports_of(said["ports"] or draws.GIVEN)
-    except NoNetwork:
-        raise WrongFile(f"ports must be {PORTS_ARE}, and not {said['ports']}") from None
-    if isinstance(found, str):
-        raise WrongFile("a sweep draws no ports: name shuffled:SEED")
-    return found
+        ports = draws.ports_of(values["ports"] or draws.GIVEN)
+    except NetworkError:
+        raise FileFormatError(
+            f"ports must be {PORTS_ARE}, and not {values['ports']}"
+        ) from None
+    if isinstance(ports, str):
+        raise FileFormatError("a sweep draws no ports: name shuffled:SEED")
+    return ports
 
 
-def numbered(name: str, ports: Optional[int], folder: pathlib.Path) -> Network:
+def load_network(name: str, ports: Optional[int], folder: pathlib.Path) -> Network:
     """The network of a name or a file, with its ports numbered anew if there is a
     seed."""
     try:
-        network = networks.named(name if ":" in name else str(folder / name))
+        network = networks.network_named(name if ":" in name else str(folder / name))
     except (KeyError, TypeError, ValueError):
-        raise WrongFile(
+        raise FileFormatError(
             f"networks has {name}, which is no network file: `arena check` says what is wrong"
         ) from None
-    return draws.numbered(network, ports)
+    return draws.renumber(network, ports)
 
 
 def check_nodes(grid: Grid) -> None:
     """Refuses a home base or a black hole that is not in the network."""
-    listed = (
+    hole_nodes = (
         [hole for holes in grid.holes for hole in holes]
         if isinstance(grid.holes, list)
         else []
     )
     for name, network in grid.networks.items():
         if grid.home >= network.nodes:
-            raise WrongFile(
+            raise FileFormatError(
                 f"home is {grid.home}, and {name} has the nodes 0 to {network.nodes - 1}"
             )
-        for hole in listed:
+        for hole in hole_nodes:
             if hole >= network.nodes or hole == grid.home:
-                raise WrongFile(
+                raise FileFormatError(
                     f"holes has {hole}, and a black hole of {name} is a node up to {network.nodes - 1} "
                     "other than the home base"
                 )
@@ -364,7 +375,7 @@ def check_setups(grid: Grid, name: str, network: Network) -> None:
     """Refuses dark links that the network does not have, and what is named twice."""
     for holes in grid.holes if isinstance(grid.holes, list) else [()]:
         try:
-            checked(
+            check_setup(
                 Setup(
                     network.nodes,
                     network.links,
@@ -376,24 +387,27 @@ def check_setups(grid: Grid, name: str, network: Network) -> None:
                     grid.dark,
                 )
             )
-        except NoMatch as fault:
-            raise WrongFile(f"{name}: {fault}") from None
+        except MatchError as fault:
+            raise FileFormatError(f"{name}: {fault}") from None
 
 
 def team_of(row: Dict[str, Any]) -> TeamRow:
     """The team of a [[team]] table."""
     kinds = [kind for kind in (INSIDE, OUTSIDE) if row[kind] is not None]
     if len(kinds) != 1:
-        raise WrongFile(
+        raise FileFormatError(
             f"each team needs either {INSIDE} or {OUTSIDE}, the words that play an agent"
         )
     return TeamRow(row["name"], row["agents"], agent_named(kinds[0], row[kinds[0]]))
 
 
 def holes_of(value: Any) -> Any:
-    """Black holes as the grid has them: for each match all of them."""
+    """Normalises black holes: a tuple per match."""
     return (
-        [tuple(sorted(it)) if isinstance(it, list) else (it,) for it in value]
+        [
+            tuple(sorted(holes)) if isinstance(holes, list) else (holes,)
+            for holes in value
+        ]
         if isinstance(value, list)
         else value
     )

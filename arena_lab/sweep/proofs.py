@@ -19,20 +19,20 @@ from arena_lab.sweep.report import (
     svg_of,
 )
 from arena_lab.sweep.tables import (
-    NoTable,
+    TableError,
     cells_in,
     check_asked,
-    checked,
+    with_check,
     line_of,
     made_by,
     note_read,
-    prepared,
+    prepare_table,
 )
 
 MATCHES = "matches.csv"
 PLOT = "moves.svg"
-# of a match: where it stands, what was found of it, and how many memories sleep and
-# were never woken once more
+# columns of a match: its identity, finding, and number of sleeping memories without a
+# further wake-up
 COLUMNS = (
     "match",
     "network",
@@ -49,7 +49,7 @@ COLUMNS = (
     "asleep",
     "check",
 )
-FOUND = COLUMNS[COLUMNS.index("states") : -1]
+FOUND_COLUMNS = COLUMNS[COLUMNS.index("states") : -1]
 
 
 class MostMoves(NamedTuple):
@@ -62,7 +62,7 @@ class MostMoves(NamedTuple):
     lost: int
 
 
-def asked_of(number: int, game: Game, fixture: Fixture) -> List[str]:
+def match_cells(number: int, game: Game, fixture: Fixture) -> List[str]:
     """The columns that say which match a row is of."""
     setup = fixture.setup
     return list(
@@ -83,14 +83,16 @@ def asked_of(number: int, game: Game, fixture: Fixture) -> List[str]:
 
 
 class Folder:
-    """The rows of matches of some games, in order. What is there already is not tried
+    """The rows of matches of some games, in order. Matches with rows are not explored
     again."""
 
     def __init__(self, path: pathlib.Path, games: Sequence[Game], program: str) -> None:
         self._path = path
         matches = ((game, fixture) for game in games for fixture in game.fixtures())
-        self._asked = [asked_of(number, *match) for number, match in enumerate(matches)]
-        self._count = prepared(path, made_of(games, program), MATCHES, COLUMNS)
+        self._asked = [
+            match_cells(number, *match) for number, match in enumerate(matches)
+        ]
+        self._count = prepare_table(path, made_of(games, program), MATCHES, COLUMNS)
         check_asked(
             path / MATCHES,
             cells_in(path / MATCHES, COLUMNS),
@@ -98,38 +100,38 @@ class Folder:
             "match than these: name another folder by --out",
         )
 
-    def of(self, games: Sequence[Game], place: int) -> List[MatchResult]:
+    def of(self, games: Sequence[Game], index: int) -> List[MatchResult]:
         """The matches of a game that have rows."""
-        first = sum(len(game.fixtures()) for game in games[:place])
+        first = sum(len(game.fixtures()) for game in games[:index])
         rows = cells_in(self._path / MATCHES, COLUMNS)[first:]
         return [
-            tried_of(fixture, row)
-            for fixture, row in zip(games[place].fixtures(), rows)
+            result_of(fixture, row)
+            for fixture, row in zip(games[index].fixtures(), rows)
         ]
 
-    def add(self, tried: MatchResult) -> None:
+    def add(self, result: MatchResult) -> None:
         """Writes the row of the next match."""
-        if tried.beside is not None:
-            raise NoTable(
+        if result.beside is not None:
+            raise TableError(
                 "an agent may use more commands than its quota, of which the program finds nothing, and "
                 "--out writes what it finds alone: give a larger --quota"
             )
-        answered = tried.answered
-        found = tried.answered.found
+        answer = result.answer
+        finding = result.answer.finding
         assert isinstance(
-            found, Solves
+            finding, Solves
         ), "a row is written of a match that every schedule solves"
         came_to = (
-            answered.states,
-            found.moves,
-            found.lost,
-            found.turns,
-            answered.unwoken,
+            answer.states,
+            finding.moves,
+            finding.lost,
+            finding.turns,
+            answer.unwoken,
         )
         cells = [*self._asked[self._count], *map(str, came_to)]
-        note_read(self._path, tried.read)
+        note_read(self._path, result.read_hashes)
         with (self._path / MATCHES).open("a", encoding="utf-8", newline="") as file:
-            file.write(line_of(checked(cells, COLUMNS)))
+            file.write(line_of(with_check(cells, COLUMNS)))
         self._count += 1
 
     def draw(self, bounds: Sequence[str]) -> str:
@@ -142,10 +144,10 @@ class Folder:
         return str(self._path / PLOT)
 
 
-def tried_of(fixture: Fixture, row: Sequence[str]) -> MatchResult:
-    """A match as its row has it. What it took is not in it."""
+def result_of(fixture: Fixture, row: Sequence[str]) -> MatchResult:
+    """Restores an explored match from its row; the time taken is not stored."""
     states, moves, lost, turns, asleep = (
-        int(dict(zip(COLUMNS, row))[name]) for name in FOUND
+        int(dict(zip(COLUMNS, row))[name]) for name in FOUND_COLUMNS
     )
     return MatchResult(
         fixture, ExploreAnswer(Solves(moves, lost, turns), 0.0, states, unwoken=asleep)
@@ -153,42 +155,42 @@ def tried_of(fixture: Fixture, row: Sequence[str]) -> MatchResult:
 
 
 def made_of(games: Sequence[Game], program: str) -> Dict[str, Any]:
-    """What the rows depend on. How many states may be visited is no part of it: more
-    may be allowed to go on."""
+    """Returns the dependencies of the rows. The limit of states is left
+    out: later runs may raise it."""
     files = {
         **digests([game.name for game in games]),
-        **digests_of([it for game in games for it in game.agents]),
+        **digests_of([agent for game in games for agent in game.agents]),
     }
-    asked = repr([(game.agents, game.fixtures()) for game in games])
+    text = repr([(game.agents, game.fixtures()) for game in games])
     return {
         **made_by(program),
         "files": files,
-        "matches": hashlib.sha256(asked.encode()).hexdigest(),
+        "matches": hashlib.sha256(text.encode()).hexdigest(),
     }
 
 
 def most_in(rows: Iterable[Dict[str, str]]) -> List[MostMoves]:
-    """What was found of each network, in order."""
-    found: Dict[Tuple[str, int], List[Dict[str, str]]] = {}
+    """Returns the most moves of each network, in order."""
+    groups: Dict[Tuple[str, int], List[Dict[str, str]]] = {}
     for row in rows:
-        found.setdefault((row["network"], int(row["nodes"])), []).append(row)
+        groups.setdefault((row["network"], int(row["nodes"])), []).append(row)
     return [
         MostMoves(
             *name, *(max(int(row[what]) for row in of) for what in ("moves", "lost"))
         )
-        for name, of in found.items()
+        for name, of in groups.items()
     ]
 
 
-def plot(found: Sequence[MostMoves], bounds: Sequence[str]) -> str:
+def plot(rows: Sequence[MostMoves], bounds: Sequence[str]) -> str:
     """The plot of the most moves over the nodes, as an SVG element, with the bounds
     that are named."""
     figure = new_figure()
     axes = figure.add_subplot()
-    nodes = [one.nodes for one in found]
+    nodes = [row.nodes for row in rows]
     axes.plot(
         nodes,
-        [one.moves for one in found],
+        [row.moves for row in rows],
         color=COLOURS[0],
         linestyle="",
         marker="o",

@@ -12,8 +12,8 @@ from typing import (
     Tuple,
 )
 
-from arena_lab.pages.parts import as_is, filled
-from arena_lab.support.missing import needed
+from arena_lab.pages.parts import as_is, fill_page
+from arena_lab.support.missing import require
 from arena_lab.sweep.grid import BOUNDS, Grid
 from arena_lab.sweep.statistic import Confidence, spread_of
 
@@ -50,8 +50,8 @@ MATCHES = (
     "most lost",
     "most lost in runs",
 )
-# what is said of a match under every schedule; of any other word that one fails
-SAID = {
+# finding -> text in the report; any other finding is a failure
+RESULT_TEXTS = {
     "solves": "solves",
     "limit": "too many states",
     "exceeds": "may use more than its quota",
@@ -63,9 +63,9 @@ POINTS = 100
 SIZE = (7.6, 4.8)
 COLOURS = ("#0b6e99", "#c2410c", "#4d7c0f", "#7e22ce", "#a16207", "#be123c")
 
-# of a row: its faults, and those behind the first
+# keys of a row: its faults, and the further ones
 FAULTS = "faults"
-MORE = "more"
+MORE_STATES = "more"
 Row = Dict[str, Any]
 Name = Tuple[str, str, str]
 Match = Tuple[str, str, str]
@@ -78,11 +78,12 @@ class KeptRun(NamedTuple):
     link: str
 
     def about(self) -> str:
-        """What it was and what it came to."""
+        """One line: network, team, scheduler, seed and hole, then outcome, moves and
+        losses."""
         row = self.row
-        said = f"{row['network']}, {row['team']}, {row['scheduler']} {row['seed']}, black hole {row['hole']}"
-        came = f"{row['outcome']}, {row['moves']} moves, {row['lost']} lost"
-        return "; ".join([f"{said}: {came}", *row[FAULTS]])
+        subject = f"{row['network']}, {row['team']}, {row['scheduler']} {row['seed']}, black hole {row['hole']}"
+        outcome = f"{row['outcome']}, {row['moves']} moves, {row['lost']} lost"
+        return "; ".join([f"{subject}: {outcome}", *row[FAULTS]])
 
 
 class RunGroup(NamedTuple):
@@ -99,7 +100,7 @@ class RunGroup(NamedTuple):
     worst: Row
     lost: int
     bound: Optional[float]
-    # of its matches, what was found of every schedule
+    # rows of its matches under every schedule
     every: Sequence[Row] = ()
 
     def cells(self) -> List[str]:
@@ -128,36 +129,41 @@ class RunGroup(NamedTuple):
         ]
 
     def every_cells(self) -> List[str]:
-        """What is known of every schedule of its matches: nothing if none was tried."""
+        """Returns the cells about every schedule of its matches; empty if none was
+        explored."""
         if not self.every:
             return []
-        said = {said_of(row.get("found", "")) for row in self.every}
-        if said == {SAID["solves"]}:
+        texts = {finding_text(row.get("found", "")) for row in self.every}
+        if texts == {RESULT_TEXTS["solves"]}:
             return [
-                SAID["solves"],
+                RESULT_TEXTS["solves"],
                 *(
-                    str(max(int(row[it]) for row in self.every))
-                    for it in ("moves", "lost")
+                    str(max(int(row[column]) for row in self.every))
+                    for column in ("moves", "lost")
                 ),
             ]
         return [
-            next(it for it in (FAILS, *list(SAID.values())[::-1]) if it in said),
+            next(
+                text
+                for text in (FAILS, *list(RESULT_TEXTS.values())[::-1])
+                if text in texts
+            ),
             "",
             "",
         ]
 
     def has_failed(self) -> bool:
-        """Whether a run failed, or some schedule of a match fails."""
+        """Returns whether a run failed, or some schedule of a match fails."""
         return self.solved != self.runs or FAILS in self.every_cells()
 
     def named_cells(self) -> List[Tuple[str, str]]:
-        """The cells, each with the name of its column."""
+        """Returns (column name, cell) pairs."""
         return list(zip(HEAD + EVERY, self.cells()))
 
 
-def said_of(found: str) -> str:
-    """What is said of a match of which the program found this."""
-    return SAID.get(found, FAILS)
+def finding_text(kind: str) -> str:
+    """Returns the text for a finding of `arena explore`."""
+    return RESULT_TEXTS.get(kind, FAILS)
 
 
 def head_of(groups: Sequence[RunGroup]) -> Sequence[str]:
@@ -172,11 +178,11 @@ def is_solved(row: Row) -> bool:
 def groups_of(
     rows: Sequence[Row], spec: Grid, every: Sequence[Row] = ()
 ) -> List[RunGroup]:
-    """The groups of a sweep, in the order of its file, with what was found of every
-    schedule of their matches."""
-    found: Dict[Name, List[Row]] = {}
+    """Returns the groups of a sweep in the order of its file, with the findings for
+    every schedule of their matches."""
+    groups: Dict[Name, List[Row]] = {}
     for row in rows:
-        found.setdefault((row["network"], row["team"], row["scheduler"]), []).append(
+        groups.setdefault((row["network"], row["team"], row["scheduler"]), []).append(
             row
         )
     by_match = {match_of(row): row for row in every}
@@ -184,7 +190,7 @@ def groups_of(
         group_of(name, members, spec)._replace(
             every=every_of(members, by_match) if every else ()
         )
-        for name, members in found.items()
+        for name, members in groups.items()
     ]
 
 
@@ -194,32 +200,33 @@ def match_of(row: Row) -> Match:
 
 
 def every_of(rows: Sequence[Row], every: Dict[Match, Row]) -> List[Row]:
-    """What was found of every schedule of the matches of these rows, each once; nothing
-    of one that was not tried."""
+    """Returns each match's row under every schedule once; {} for unexplored matches."""
     return [every.get(match, {}) for match in dict.fromkeys(map(match_of, rows))]
 
 
 def matches(rows: Sequence[Row], every: Sequence[Row]) -> List[Sequence[str]]:
-    """What was found of each match, beside the most moves and lost agents of its
+    """Returns a row per match: its finding beside the most moves and lost agents of its
     runs."""
-    found: Dict[Match, List[Row]] = {}
+    groups: Dict[Match, List[Row]] = {}
     for row in rows:
-        found.setdefault(match_of(row), []).append(row)
-    most = {
-        match: [str(max(int(row[it]) for row in of)) for it in ("moves", "lost")]
-        for match, of in found.items()
+        groups.setdefault(match_of(row), []).append(row)
+    bounds = {
+        match: [
+            str(max(int(row[column]) for row in of)) for column in ("moves", "lost")
+        ]
+        for match, of in groups.items()
     }
     return [
         (
             row["network"],
             row["team"],
             row["hole"],
-            said_of(row["found"]),
+            finding_text(row["found"]),
             row["states"],
             row["moves"],
-            most[match_of(row)][0],
+            bounds[match_of(row)][0],
             row["lost"],
-            most[match_of(row)][1],
+            bounds[match_of(row)][1],
         )
         for row in every
     ]
@@ -248,8 +255,8 @@ def summary(groups: Sequence[RunGroup]) -> List[Sequence[str]]:
 
 
 def worst_runs(rows: Sequence[Row]) -> List[Row]:
-    """The runs that are kept: of each team on each network the one that failed first,
-    or else the one with the most moves."""
+    """Returns the runs to keep: for each team and network the first failure, else the
+    run with the most moves."""
     best: Dict[Tuple[str, str], Row] = {}
     for row in rows:
         key = row["network"], row["team"]
@@ -264,8 +271,8 @@ def rank(row: Row) -> Tuple[bool, int]:
 
 
 def is_one_family(spec: Grid) -> bool:
-    """Whether the networks are of one kind and differ in size, so that moves can be
-    drawn over nodes."""
+    """Returns whether the networks are of one kind and differ in size, so that moves
+    can be drawn over nodes."""
     kinds = {name.partition(":")[0] for name in spec.names}
     return (
         len(kinds) == 1
@@ -276,7 +283,7 @@ def is_one_family(spec: Grid) -> bool:
 
 
 def places(spec: Grid) -> Dict[str, float]:
-    """Where each network stands on the axis."""
+    """Returns the position of each network on the axis."""
     if is_one_family(spec):
         return {name: spec.networks[name].nodes for name in spec.names}
     return {name: number for number, name in enumerate(spec.names)}
@@ -306,12 +313,12 @@ def plot(spec: Grid, groups: Sequence[RunGroup]) -> str:
 
 def new_figure() -> Any:
     """A figure that is the same each time it is drawn."""
-    matplotlib = needed("matplotlib")
+    matplotlib = require("matplotlib")
     matplotlib.use("svg")
     matplotlib.rcParams.update(
         {"svg.hashsalt": "lab", "font.size": 9, "font.family": "DejaVu Sans"}
     )
-    return needed("matplotlib.figure").Figure(figsize=SIZE, layout="constrained")
+    return require("matplotlib.figure").Figure(figsize=SIZE, layout="constrained")
 
 
 def svg_of(figure: Any) -> str:
@@ -334,14 +341,14 @@ def draw_line(
     apart = 0 if is_one_family(spec) else (number - (count - 1) / 2) * 0.5 / count
     across = [spots[group.name[0]] + apart for group in groups]
     colour = COLOURS[number % len(COLOURS)]
-    joined = "-" if is_one_family(spec) else ""
+    line_style = "-" if is_one_family(spec) else ""
     name = scheduler if len(spec.teams) == 1 else f"{team}, {scheduler}"
     axes.errorbar(
         across,
         [group.moves.mean for group in groups],
         color=colour,
         yerr=[group.moves.confidence for group in groups],
-        linestyle=joined,
+        linestyle=line_style,
         marker="o",
         markersize=4,
         capsize=2,
@@ -388,9 +395,7 @@ def draw_curve(
     first = min(nodes)
     last = max(nodes)
     across = [first + (last - first) * point / POINTS for point in range(POINTS + 1)]
-    axes.plot(
-        across, [bound(it) for it in across], linestyle="--", linewidth=1, **style
-    )
+    axes.plot(across, [bound(x) for x in across], linestyle="--", linewidth=1, **style)
 
 
 def label_axes(axes: Any, spec: Grid, spots: Dict[str, float]) -> None:
@@ -404,14 +409,14 @@ def label_axes(axes: Any, spec: Grid, spots: Dict[str, float]) -> None:
 def over_nodes(axes: Any) -> None:
     """Draws over the numbers of nodes."""
     axes.set_xlabel("nodes")
-    axes.xaxis.set_major_locator(needed("matplotlib.ticker").MaxNLocator(integer=True))
+    axes.xaxis.set_major_locator(require("matplotlib.ticker").MaxNLocator(integer=True))
 
 
 def moves_up(axes: Any) -> None:
     """Draws moves, with a legend above."""
     axes.set_ylabel("moves")
     axes.set_ylim(bottom=0)
-    axes.yaxis.set_major_locator(needed("matplotlib.ticker").MaxNLocator(integer=True))
+    axes.yaxis.set_major_locator(require("matplotlib.ticker").MaxNLocator(integer=True))
     for side in ("top", "right"):
         axes.spines[side].set_visible(False)
     axes.grid(axis="y", color="#dddddd", linewidth=0.6)
@@ -424,25 +429,25 @@ def moves_up(axes: Any) -> None:
 def page(
     spec: Grid,
     groups: Sequence[RunGroup],
-    kept: Sequence[KeptRun],
+    kept_runs: Sequence[KeptRun],
     engine: str,
     every: Sequence[Sequence[str]] = (),
 ) -> str:
-    """The report as one HTML file. Runs that were kept are linked. It has what was
-    found of every schedule of matches, if they were tried."""
-    runs, solved = (
+    """Returns the report as an HTML page, with links to the kept runs, and with the
+    findings for every schedule, if any."""
+    runs, solved_count = (
         sum(getattr(group, name) for group in groups) for name in ("runs", "solved")
     )
-    about = f"{runs} runs, played and judged by {engine}: solved {solved}, failed {runs - solved}."
-    return filled(
+    about = f"{runs} runs, played and judged by {engine}: solved {solved_count}, failed {runs - solved_count}."
+    return fill_page(
         "report.html",
         title=spec.title,
         about=about,
         plot=as_is(plot(spec, groups)),
         head=head_of(groups),
         groups=groups,
-        links={run.row["run"]: run.link for run in kept},
-        kept=kept,
+        links={run.row["run"]: run.link for run in kept_runs},
+        kept=kept_runs,
         every_head=MATCHES,
         every=every,
         fails=FAILS,

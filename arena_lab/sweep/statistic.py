@@ -1,18 +1,17 @@
-"""What is said of numbers that were drawn: their mean with its confidence, and their
-quartiles."""
+"""Statistics of random samples: mean with confidence interval, and quartiles."""
 import math
 import statistics
 from typing import NamedTuple, Sequence
 
-from arena_lab.support.missing import needed
+from arena_lab.support.missing import require
 
-# how sure one is that the mean of all runs that could be drawn is within the confidence
+# confidence level of the interval around the mean
 SURE = 0.95
 
 
 class Confidence(NamedTuple):
-    """The mean of some numbers, how far from it that of all may be, their median, and
-    the quartiles around it."""
+    """Mean, half-width of its confidence interval, median and quartiles of some
+    numbers."""
 
     mean: float
     confidence: float
@@ -22,14 +21,14 @@ class Confidence(NamedTuple):
 
 
 def student(freedom: int, sure: float = SURE) -> float:
-    """How many standard errors to either side of a mean one goes to be so sure, by
-    Student's distribution."""
-    return float(needed("scipy.special").stdtrit(freedom, (1 + sure) / 2))
+    """Returns how many standard errors to either side of a mean one goes to be so sure,
+    by Student's distribution."""
+    return float(require("scipy.special").stdtrit(freedom, (1 + sure) / 2))
 
 
 def spread_of(numbers: Sequence[int]) -> Confidence:
-    """What is said of numbers. Of one alone nothing is known of how far the mean may be
-    off, which is said as 0."""
+    """Summarises numbers. The half-width is 0 for a single number, for which it is
+    unknown."""
     count = len(numbers)
     if count == 1:
         return Confidence(float(numbers[0]), 0.0, *[float(numbers[0])] * 3)

@@ -22,20 +22,20 @@ from arena_lab.play.foreign_files import watch
 from arena_lab.play.schedules import Schedule, schedule_of
 from arena_lab.play.parallel import Parallelism, Result
 from arena_lab.play.summaries import Summary, summary_of
-from arena_lab.rules.engines import NAMES, Differs, name_of
+from arena_lab.rules.engines import NAMES, EnginesDifferError, name_of
 from arena_lab.rules.fixtures import Fixture
-from arena_lab.support.fields import WrongFile
+from arena_lab.support.fields import FileFormatError
 from arena_lab.support.progress import along
 from arena_lab.sweep import every, grid, report, verify
 from arena_lab.sweep.grid import Case, Grid
 from arena_lab.sweep.tables import (
     COLUMNS,
     RUNS,
-    NoTable,
+    TableError,
     cells_in,
     changed_in,
     check_asked,
-    checked,
+    with_check,
     done_in,
     line_of,
     made_by,
@@ -46,8 +46,8 @@ from arena_lab.sweep.tables import (
 SUMMARY = "summary.csv"
 REPORT = "report.html"
 WORST = "worst"
-# an agent may wait for a processor that has much other work: a row is not to depend on
-# that
+# a generous limit in seconds: on a busy machine agents wait for a processor, and rows
+# must not depend on that
 LIMIT = 60
 
 
@@ -56,12 +56,12 @@ class SweepRow(NamedTuple):
     their names."""
 
     row: List[str]
-    read: Dict[str, str]
+    read_hashes: Dict[str, str]
 
 
 class SweepJob(NamedTuple):
-    """What a worker needs: the sweep's text and the program, or None for the Python
-    model."""
+    """The data that a worker needs to play runs: the sweep's text and the program (None
+    for the Python model)."""
 
     text: str
     program: Optional[str]
@@ -69,8 +69,8 @@ class SweepJob(NamedTuple):
     def play(self, case: Case) -> SweepRow:
         """Plays a run. What its agents read is noted."""
         watch()
-        schedule, played = played_case(self, grid.grid_of(self.text), case)
-        return SweepRow(row_for(case, schedule, played, self.program), played.read)
+        schedule, match = played_case(self, grid.grid_of(self.text), case)
+        return SweepRow(row_for(case, schedule, match, self.program), match.read_hashes)
 
     def digests(self) -> Dict[str, str]:
         """The SHA-256 of each file that rows depend on."""
@@ -91,25 +91,25 @@ def played_case(work: SweepJob, spec: Grid, case: Case) -> Tuple[Schedule, Playe
 
 
 def row_for(
-    case: Case, schedule: Schedule, played: PlayedMatch, program: Optional[str]
+    case: Case, schedule: Schedule, match: PlayedMatch, program: Optional[str]
 ) -> List[str]:
-    """The row of a run that was played. The program judges it, if there is one."""
-    return cells_for(case, schedule.fixture, summary_of(played, program))
+    """Returns the row of a played run, judged by the program if there is one."""
+    return cells_for(case, schedule.fixture, summary_of(match, program))
 
 
 def cells_for(case: Case, fixture: Fixture, summary: Summary) -> List[str]:
-    """The row of a run, of which this came."""
+    """Returns the row of a run with this summary."""
     row = {
-        **asked_of(case, fixture),
+        **case_columns(case, fixture),
         **summary.columns(),
         "replay": summary.replay,
         "check": "",
     }
     faults = [" ".join(fault.split()) for fault in summary.faults]
-    return checked([*(str(row[name]) for name in COLUMNS[:-1]), *(faults or [""])])
+    return with_check([*(str(row[name]) for name in COLUMNS[:-1]), *(faults or [""])])
 
 
-def asked_of(case: Case, fixture: Fixture) -> Dict[str, Any]:
+def case_columns(case: Case, fixture: Fixture) -> Dict[str, Any]:
     """The first columns of a row, which say which run it is."""
     setup = fixture.setup
     return {
@@ -131,20 +131,23 @@ def check_rows(spec: Grid, cases: Sequence[Case], folder: pathlib.Path) -> None:
     path = folder / RUNS
     rows = cells_in(path)
     if len(rows) > len(cases):
-        raise NoTable(
+        raise TableError(
             f"{path}: it has {len(rows)} rows, and the sweep has {len(cases)} runs: name another folder"
         )
     check_asked(
         path,
         rows,
-        (list(map(str, asked_of(case, spec.fixture(case)).values())) for case in cases),
+        (
+            list(map(str, case_columns(case, spec.fixture(case)).values()))
+            for case in cases
+        ),
         "run than the sweep has there: name another folder, or remove this line and all below it, and start "
         "the same command again",
     )
 
 
 def made_of(spec: Grid, text: str, program: Optional[str]) -> Dict[str, Any]:
-    """What the rows of a folder depend on."""
+    """Returns the dependencies of a folder's rows."""
     return {
         **made_by(program),
         "files": spec.files(),
@@ -153,42 +156,48 @@ def made_of(spec: Grid, text: str, program: Optional[str]) -> Dict[str, Any]:
 
 
 class SweepRequest(NamedTuple):
-    """Where a sweep is written, who plays it, and up to how many states of each match
-    every schedule is tried, if it is."""
+    """A request to run a sweep: folder, workers, and the limit of states for exploring
+    every schedule (None to skip that)."""
 
     out: pathlib.Path
-    way: Parallelism
+    parallelism: Parallelism
     states: Optional[int] = None
 
 
 def swept(
-    work: SweepJob, keeper: SweepJob, cases: List[Case], done: int, wanted: SweepRequest
+    work: SweepJob,
+    keeper: SweepJob,
+    cases: List[Case],
+    done_count: int,
+    request: SweepRequest,
 ) -> int:
     """Plays the runs that are not done yet, and writes everything. The keeper plays
     what is kept once more."""
     spec = grid.grid_of(work.text)
-    out = wanted.out
-    is_explored = wanted.states is not None
+    out = request.out
+    is_explored = request.states is not None
     check_rows(spec, cases, out)
     rows = every.SweepRows(out, spec)
     try:
         write_rows(
-            noted(wanted.way.results(work, cases[done:]), out), len(cases) - done, out
+            note_reads(request.parallelism.results(work, cases[done_count:]), out),
+            len(cases) - done_count,
+            out,
         )
-        if wanted.states is not None and work.program is not None:
+        if request.states is not None and work.program is not None:
             every.try_all(
-                every.SweepExploreJob(work.text, work.program, wanted.states, LIMIT),
+                every.SweepExploreJob(work.text, work.program, request.states, LIMIT),
                 rows,
-                wanted.way,
+                request.parallelism,
             )
     except KeyboardInterrupt:
-        more = (
+        suffix = (
             f", and {len(rows.rows())} of {len(rows.matches)} matches were tried"
             if is_explored
             else ""
         )
         print(
-            f"interrupted; {done_in(out / RUNS)} of {len(cases)} runs are done{more}: the same command goes on there"
+            f"interrupted; {done_in(out / RUNS)} of {len(cases)} runs are done{suffix}: the same command goes on there"
         )
         return 130
     status = write_summary(work, keeper, cases, rows, out)
@@ -199,41 +208,48 @@ def swept(
     )
 
 
-def verified(
+def verify_rows(
     work: SweepJob,
     cases: List[Case],
-    made: Dict[str, Any],
-    wanted: SweepRequest,
+    record: Dict[str, Any],
+    request: SweepRequest,
     count: int,
 ) -> int:
     """Plays `count` rows of the folder again, whoever made them, and compares them."""
-    out = wanted.out
-    for name in changed_in(out, made):
+    out = request.out
+    for name in changed_in(out, record):
         print(
             f"arena-lab: {name} is other than when the rows were made", file=sys.stderr
         )
     check_rows(grid.grid_of(work.text), cases, out)
     rows = cells_in(out / RUNS)
     numbers = verify.chosen(len(rows), count)
-    again = wanted.way.results(work, [cases[number] for number in numbers])
-    found = verify.compared(
-        numbers, rows, (it._replace(found=it.found and it.found.row) for it in again)
+    again = request.parallelism.results(work, [cases[number] for number in numbers])
+    differences = verify.differing_rows(
+        numbers,
+        rows,
+        (
+            result._replace(result=result.result and result.result.row)
+            for result in again
+        ),
     )
-    others = (
+    other_paths = (
         other_texts(grid.grid_of(work.text), out) if len(rows) == len(cases) else []
     )
-    for name in others:
+    for name in other_paths:
         print(f"{name} is not what is made of the rows", file=sys.stderr)
     print(f"by {name_of(work.program)}: ", end="")
-    return verify.report_differences(numbers, len(rows), found) or int(bool(others))
+    return verify.report_differences(numbers, len(rows), differences) or int(
+        bool(other_paths)
+    )
 
 
-def noted(results: Iterable[Result], folder: pathlib.Path) -> Iterator[Result]:
+def note_reads(results: Iterable[Result], folder: pathlib.Path) -> Iterator[Result]:
     """The results, once the files that their agents have read are written down."""
     for result in results:
         if not result.fault:
-            note_read(folder, result.found.read)
-        yield result._replace(found=result.found and result.found.row)
+            note_read(folder, result.result.read_hashes)
+        yield result._replace(result=result.result and result.result.row)
 
 
 def write_rows(results: Iterable[Result], total: int, folder: pathlib.Path) -> None:
@@ -241,8 +257,8 @@ def write_rows(results: Iterable[Result], total: int, folder: pathlib.Path) -> N
     with (folder / RUNS).open("a", encoding="utf-8", newline="") as file:
         for result in along(results, total, "run"):
             if result.fault:
-                raise WrongFile(result.fault)
-            file.write(line_of(result.found))
+                raise FileFormatError(result.fault)
+            file.write(line_of(result.result))
             file.flush()
 
 
@@ -250,18 +266,18 @@ def write_summary(
     work: SweepJob,
     keeper: SweepJob,
     cases: List[Case],
-    tried: every.SweepRows,
+    sweep_rows: every.SweepRows,
     folder: pathlib.Path,
 ) -> int:
     """Writes the summary, the worst runs and the report."""
     spec = grid.grid_of(work.text)
     rows = rows_in(folder / RUNS)
-    matches = tried.rows()
+    matches = sweep_rows.rows()
     every.check_runs(matches, rows)
     groups = report.groups_of(rows, spec, matches)
     (folder / SUMMARY).write_text(summary_text(groups), encoding="utf-8")
     pages = [
-        report.KeptRun(row, kept(keeper, spec, cases[int(row["run"])], row, folder))
+        report.KeptRun(row, keep_run(keeper, spec, cases[int(row["run"])], row, folder))
         for row in along(
             report.worst_runs(rows), len(spec.names) * len(spec.teams), "page"
         )
@@ -271,35 +287,37 @@ def write_summary(
         report.page(spec, groups, pages, engine, report.matches(rows, matches)),
         encoding="utf-8",
     )
-    failed = sum(not report.is_solved(row) for row in rows)
-    print(f"{len(rows)} runs on {engine}: solved {len(rows) - failed}; failed {failed}")
+    failed_count = sum(not report.is_solved(row) for row in rows)
+    print(
+        f"{len(rows)} runs on {engine}: solved {len(rows) - failed_count}; failed {failed_count}"
+    )
     print(
         f"read {folder / REPORT}; the rows are in {folder / RUNS} and {folder / SUMMARY}"
     )
-    return 1 if failed else 0
+    return 1 if failed_count else 0
 
 
-def kept(
+def keep_run(
     work: SweepJob, spec: Grid, case: Case, row: report.Row, folder: pathlib.Path
 ) -> str:
     """Writes a run with its schedule, its replay and its page; gives the page, or else
     the schedule, from the folder of the report."""
-    schedule, played = played_case(work, spec, case)
-    if hashlib.sha256(played.replay).hexdigest() != row["replay"]:
-        raise Differs(
+    schedule, match = played_case(work, spec, case)
+    if hashlib.sha256(match.replay).hexdigest() != row["replay"]:
+        raise EnginesDifferError(
             f"run {case.number} has another replay when it is played again: its agents or its scheduler do "
             "something else although they are given the same"
         )
-    place = folder / WORST / str(case.number)
-    write_find(place, schedule, played, work.program)
+    run_folder = folder / WORST / str(case.number)
+    write_find(run_folder, schedule, match, work.program)
     return link_to(case.number, folder)
 
 
 def link_to(run: int, folder: pathlib.Path) -> str:
-    """What shows a run that was kept, from the folder of the report."""
-    place = folder / WORST / str(run)
+    """Returns the path of a kept run's page or schedule, relative to the report."""
+    run_folder = folder / WORST / str(run)
     names = [
-        name for name in ("match0.html", "schedule.txt") if (place / name).exists()
+        name for name in ("match0.html", "schedule.txt") if (run_folder / name).exists()
     ]
     return f"{WORST}/{run}/{names[0] if names else ''}"
 
@@ -309,19 +327,19 @@ def summary_text(groups: List[report.RunGroup]) -> str:
 
 
 def other_texts(spec: Grid, folder: pathlib.Path) -> List[str]:
-    """Which of the summary and the report are not what is made of the rows. The report
-    may name any engine."""
+    """Returns which of summary and report differ from those computed from the rows. The
+    report may name any engine."""
     rows = rows_in(folder / RUNS)
     matches = every.SweepRows(folder, spec).rows()
     groups = report.groups_of(rows, spec, matches)
-    tried = report.matches(rows, matches)
+    rows_tried = report.matches(rows, matches)
     pages = [
         report.KeptRun(row, link_to(int(row["run"]), folder))
         for row in report.worst_runs(rows)
     ]
     may_be = {
         SUMMARY: [summary_text(groups)],
-        REPORT: [report.page(spec, groups, pages, it, tried) for it in NAMES],
+        REPORT: [report.page(spec, groups, pages, name, rows_tried) for name in NAMES],
     }
     return [
         name for name, texts in may_be.items() if text_in(folder / name) not in texts
@@ -329,5 +347,5 @@ def other_texts(spec: Grid, folder: pathlib.Path) -> List[str]:
 
 
 def text_in(path: pathlib.Path) -> str:
-    """The text of a file, or nothing if there is none."""
+    """Returns the text of a file, or "" if it does not exist."""
     return path.read_text(encoding="utf-8", errors="replace") if path.is_file() else ""

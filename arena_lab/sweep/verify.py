@@ -17,12 +17,12 @@ class Differing(NamedTuple):
     columns: List[str]
 
 
-def chosen(count: int, wanted: int) -> List[int]:
+def chosen(count: int, limit: int) -> List[int]:
     """The numbers of rows to play again: all, or the wanted number of them, drawn anew
     each time."""
-    if wanted == ALL or wanted >= count:
+    if limit == ALL or limit >= count:
         return list(range(count))
-    return sorted(random.SystemRandom().sample(range(count), wanted))
+    return sorted(random.SystemRandom().sample(range(count), limit))
 
 
 def differing(
@@ -39,25 +39,27 @@ def differing(
     return Differing(run, names) if names else None
 
 
-def compared(
+def differing_rows(
     numbers: Sequence[int], rows: Sequence[Sequence[str]], results: Iterable[Result]
 ) -> List[Differing]:
     """The rows of these numbers that come out otherwise."""
-    found = []
+    differences_found = []
     for number, result in zip(numbers, along(results, len(numbers), "run")):
-        now = result.found if not result.fault else [*rows[number][:-1], result.fault]
-        found.append(differing(number, rows[number], now))
-    return [it for it in found if it]
+        now = result.result if not result.fault else [*rows[number][:-1], result.fault]
+        differences_found.append(differing(number, rows[number], now))
+    return [difference for difference in differences_found if difference]
 
 
 def report_differences(
-    numbers: Sequence[int], total: int, found: Sequence[Differing]
+    numbers: Sequence[int], total: int, differences: Sequence[Differing]
 ) -> int:
     """Says what came of it; gives the exit status."""
-    for one in found:
+    for difference in differences:
         print(
-            f"run {one.run} comes out otherwise: {', '.join(one.columns)}",
+            f"run {difference.run} comes out otherwise: {', '.join(difference.columns)}",
             file=sys.stderr,
         )
-    print(f"{len(numbers)} of {total} rows were played again: {len(found)} differ")
-    return 1 if found else 0
+    print(
+        f"{len(numbers)} of {total} rows were played again: {len(differences)} differ"
+    )
+    return 1 if differences else 0

@@ -58,8 +58,8 @@ Place = Tuple[int, int]
 
 
 class Row(NamedTuple):
-    """A node of the chart: the row and the port by which it was found, and the states
-    of its ports."""
+    """A node of the chart: the row and the port from which it was reached, and the
+    states of its ports."""
 
     father: int
     port: int
@@ -108,7 +108,7 @@ class Chart:
         rest = text or new_row(name_of(0, 0), ports)
         while rest:
             end = HEAD + number_in(rest[NAME:])
-            states = tuple(ord(it) - ord(" ") for it in rest[HEAD:end])
+            states = tuple(ord(character) - ord(" ") for character in rest[HEAD:end])
             rows.append(Row(number_in(rest), number_in(rest[2:]), states))
             rest = rest[end:]
         return cls(rows)
@@ -117,7 +117,7 @@ class Chart:
         return "".join(row.text() for row in self.rows)
 
     def ports(self, *states: int) -> List[Place]:
-        """The ports in one of these states."""
+        """Returns the ports in one of these states."""
         return [
             (row, port)
             for row, node in enumerate(self.rows)
@@ -141,9 +141,11 @@ class Chart:
 
     def joined(self, found: str) -> "Chart":
         """The chart with the row of a node that was found, unless the chart has it."""
-        named = any(row.text()[:NAME] == found[:NAME] for row in self.rows[1:])
+        has_row = any(row.text()[:NAME] == found[:NAME] for row in self.rows[1:])
         return (
-            self if named or not found else Chart([*self.rows, *Chart.read(found).rows])
+            self
+            if has_row or not found
+            else Chart([*self.rows, *Chart.read(found).rows])
         )
 
 
@@ -155,11 +157,11 @@ class Known(NamedTuple):
     links: int
 
     def is_decided(self, chart: Chart) -> bool:
-        """Whether each port that is not done leads to the black hole."""
+        """Returns whether each port that is not done leads to the black hole."""
         ends = len(chart.ports(FREE, CLAIMED, DONE))
         links_of_hole = 2 * self.links - ends if self.links else 2 + ends % 2
-        left = len(chart.ports(FREE, CLAIMED))
-        return len(chart.rows) == self.nodes - 1 and left == links_of_hole
+        ports_left = len(chart.ports(FREE, CLAIMED))
+        return len(chart.rows) == self.nodes - 1 and ports_left == links_of_hole
 
 
 class Memory(NamedTuple):
@@ -168,7 +170,7 @@ class Memory(NamedTuple):
     doing: str = "enters"
     # what the whiteboard shows, at a node where the agent writes
     board: str = ""
-    # the port that it has claimed, or is about to accuse
+    # the port that the agent has claimed, or is about to accuse
     row: int = 0
     port: int = 0
     # the ports of the way that is left, and of the way back
@@ -188,14 +190,14 @@ def step(
 ) -> Tuple[Tuple[Any, ...], Command]:
     """What the agent holds and does next."""
     if "no" in reply:
-        return memory or (), refused(reply["no"])
+        return memory or (), leave_refused(reply["no"])
     at = Memory() if memory is None else Memory(*memory)
     at = at._replace(board=reply.get("board", at.board))
     now, command = NEXT[at.doing](at, reply, Known(nodes, links))
     return tuple(now), command
 
 
-def refused(why: str) -> Command:
+def leave_refused(why: str) -> Command:
     """Leaves, as a command was refused."""
     if why == "long":
         print(
@@ -227,8 +229,8 @@ def claims(at: Memory, reply: Dict[str, Any], known: Known) -> Next:
     """Goes to the port that it has claimed, or decides again."""
     if reply["ok"] == "changed":
         return decides(at, reply, known)
-    way = Chart.read(at.board).way(at.row)
-    return walk(at._replace(doing="goes", ahead=way + (at.port,)))
+    route = Chart.read(at.board).way(at.row)
+    return walk(at._replace(doing="goes", ahead=route + (at.port,)))
 
 
 def walk(at: Memory) -> Next:
@@ -254,8 +256,8 @@ def goes(at: Memory, reply: Dict[str, Any], known: Known) -> Next:
 def learns(at: Memory, _reply: Dict[str, Any], _known: Known) -> Next:
     """Takes the name of the node, which is what its whiteboard shows, and turns back.
     The home base shows the chart, which is longer than a name."""
-    found = new_row(at.board, at.ports) if len(at.board) == NAME else ""
-    return back(at._replace(doing="returns", ports=0, found=found))
+    name = new_row(at.board, at.ports) if len(at.board) == NAME else ""
+    return back(at._replace(doing="returns", ports=0, found=name))
 
 
 def back(at: Memory) -> Next:

@@ -52,7 +52,7 @@ def text_by(side: int, own: int, other: int) -> str:
 
 
 def marks_in(side: int, board: str) -> Tuple[int, int]:
-    digits = [ord(it) - 32 for it in board] or [0, 0, 0, 0]
+    digits = [ord(character) - 32 for character in board] or [0, 0, 0, 0]
     right = digits[0] * 64 + digits[1]
     left = digits[2] * 64 + digits[3]
     return (right, left) if side == 0 else (left, right)
@@ -88,20 +88,20 @@ def does(n: int, m: Memory) -> tuple:
     return ("depart", m.port)
 
 
-def read(m: Memory, board: str) -> Memory:
+def read_board(m: Memory, board: str) -> Memory:
     own, other = marks_in(m.side, board)
     return m._replace(own=own, other=other)
 
 
-def learned(n: int, m: Memory, port: int, board: str) -> Memory:
-    m = read(m, board).to("Writes", 0, port)
+def learn(n: int, m: Memory, port: int, board: str) -> Memory:
+    m = read_board(m, board).to("Writes", 0, port)
     if m.own < 2:
         return m
     return m._replace(theirs=m.own - 2, target=m.mine + (n - m.mine - (m.own - 2)) // 2)
 
 
 def follows(m: Memory, steps: int, port: int, board: str) -> Memory:
-    m = read(m, board)
+    m = read_board(m, board)
     return m.to("Follows" if m.other == 1 else "Tells", steps, port)
 
 
@@ -123,7 +123,7 @@ def after_here(n: int, m: Memory, label: int, board: str) -> Memory:
     if m.phase == "Tries":
         return m.to("Turns", 0, label)
     if m.phase == "Returns":
-        return learned(n, m, label, board)
+        return learn(n, m, label, board)
     if m.phase == "NearsHome":
         if m.steps == 1:
             return follows(m, 0, 1 - label, board)
@@ -144,7 +144,7 @@ def after_written(n: int, m: Memory) -> Memory:
 
 def after_changed(n: int, m: Memory, board: str) -> Memory:
     return (
-        learned(n, m, m.port, board)
+        learn(n, m, m.port, board)
         if m.phase == "Writes"
         else follows(m, m.steps, m.port, board)
     )

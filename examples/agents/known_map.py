@@ -57,19 +57,19 @@ class Crossing(NamedTuple):
 
 
 class Plan(NamedTuple):
-    """A division: what was explored before, and the crossings of the agent that is told
-    and of the one that tells."""
+    """A division of the network: the nodes explored before, and the crossings of the
+    informed agent and of the informing agent."""
 
     explored: Nodes
     crossings: Tuple[Tuple[Crossing, ...], Tuple[Crossing, ...]]
 
 
-class NotBiconnected(Exception):
+class NotBiconnectedError(Exception):
     """Two agents cannot search the network, as without one node it is not connected."""
 
 
 class Map:
-    """A network as its file has it."""
+    """The network of a file."""
 
     def __init__(self, links: Sequence[Link]) -> None:
         nodes = 1 + max(max(v, w) for v, _, w, _ in links)
@@ -90,35 +90,40 @@ class Map:
                 if far in safe and far not in before:
                     before[far] = node
                     queue.append(far)
-        way = []
+        route = []
         while end != start:
-            way.append(end)
+            route.append(end)
             end = before[end]
-        return way[::-1]
+        return route[::-1]
 
     def order_of(self, explored: Nodes, first: int) -> List[int]:
         """The nodes that are left, in an order such that each front and each rest hangs
         together with what is explored. The first is a neighbour of an explored node. A
         part that only explored nodes join to the others stands in one piece."""
         order: List[int] = []
-        left = self.nodes - explored
-        while left:
-            part = self._part_order(explored, left, first)
+        nodes_left = self.nodes - explored
+        while nodes_left:
+            part = self._part_order(explored, nodes_left, first)
             order += part
-            left -= set(part)
+            nodes_left -= set(part)
             first = next(
-                (node for node in sorted(left) if explored & set(self.ports[node])), -1
+                (
+                    node
+                    for node in sorted(nodes_left)
+                    if explored & set(self.ports[node])
+                ),
+                -1,
             )
         return order
 
-    def _part_order(self, explored: Nodes, left: Nodes, first: int) -> List[int]:
+    def _part_order(self, explored: Nodes, nodes_left: Nodes, first: int) -> List[int]:
         """The order of the part of the first node. It grows by paths between two that
         stand in it already, which are put between them; what is explored counts as one
         node, and stands last."""
         last = -1
         order = [first, last]
         while True:
-            path = self._path(explored, left, order)
+            path = self._path(explored, nodes_left, order)
             if path is None:
                 return order[:-1]
             start, *inner, end = path
@@ -129,23 +134,23 @@ class Map:
             order[spot:spot] = inner
 
     def _path(
-        self, explored: Nodes, left: Nodes, order: List[int]
+        self, nodes_explored: Nodes, nodes_left: Nodes, order: List[int]
     ) -> Optional[List[int]]:
-        """A path from a node of the order over new ones to another node of it; None if
-        no new one is a neighbour."""
+        """Returns a path that leaves the ordered nodes, crosses new ones and comes
+        back; None if no new node is adjacent."""
 
         def near(node: int) -> List[int]:
             return sorted(
                 {
-                    -1 if far in explored else far
+                    -1 if far in nodes_explored else far
                     for far in self.ports[node]
-                    if far in left | explored
+                    if far in nodes_left | nodes_explored
                 }
             )
 
-        placed = set(order)
+        nodes_placed = set(order)
         for start in order[:-1]:
-            new = next((node for node in near(start) if node not in placed), None)
+            new = next((node for node in near(start) if node not in nodes_placed), None)
             if new is None:
                 continue
             before = {new: start}
@@ -153,12 +158,14 @@ class Map:
             while queue:
                 node = queue.popleft()
                 for far in near(node):
-                    if far in placed and far != start:
+                    if far in nodes_placed and far != start:
                         return path_to(before, node, start) + [far]
-                    if far not in placed and far not in before:
+                    if far not in nodes_placed and far not in before:
                         before[far] = node
                         queue.append(far)
-            raise NotBiconnected(f"without node {start} the network is not connected")
+            raise NotBiconnectedError(
+                f"without node {start} the network is not connected"
+            )
         return None
 
     def crossings(
@@ -169,20 +176,20 @@ class Map:
         order."""
         rank = {node: number for number, node in enumerate(part)}
         inside = explored | set(part)
-        seen = {start}
-        found = []
+        nodes_seen = {start}
+        walk = []
         stack = [(start, iter(self._ahead(start, inside, rank)))]
         while stack:
             node, ahead = stack[-1]
-            far = next((it for it in ahead if it not in seen), None)
+            far = next((node for node in ahead if node not in nodes_seen), None)
             if far is None:
                 stack.pop()
                 continue
-            seen.add(far)
+            nodes_seen.add(far)
             if far in rank:
-                found.append(Crossing(node, self.ports[node][far], far))
+                walk.append(Crossing(node, self.ports[node][far], far))
             stack.append((far, iter(self._ahead(far, inside, rank))))
-        return found
+        return walk
 
     def _ahead(self, node: int, inside: Nodes, rank: Dict[int, int]) -> List[int]:
         """The neighbours of a node inside: first those with a rank."""
@@ -191,9 +198,8 @@ class Map:
 
     @functools.lru_cache(maxsize=1024)
     def plan(self, explored: Nodes, start: int, first: int) -> Plan:
-        """The division of what is left. The agent that is told enters `first` from
-        `start`, and then more of its part; the one that tells begins at the start
-        too."""
+        """Divides the unexplored nodes. The informed agent enters `first` from `start`
+        and continues in its part; the informing agent also begins at `start`."""
         order = self.order_of(explored, first)
         half = (len(order) + 1) // 2
         told, teller = (
@@ -223,8 +229,8 @@ def fields(board: str) -> Dict[str, str]:
     return dict(part.split(" ", 1) for part in board.split(", ")) if board else {}
 
 
-def text_of(said: Dict[str, str]) -> str:
-    return ", ".join(f"{key} {value}" for key, value in said.items())
+def text_of(values: Dict[str, str]) -> str:
+    return ", ".join(f"{key} {value}" for key, value in values.items())
 
 
 def mask_of(nodes: Nodes) -> str:
@@ -238,8 +244,7 @@ def nodes_of(mask: str) -> Nodes:
 
 
 class Searcher:
-    """One agent: where it is, the plan that it follows and as whom, and which nodes it
-    knows to be safe."""
+    """One agent: position, current plan and role, and the nodes known to be safe."""
 
     def __init__(self, agent: Agent, here: Here, network: Map, home: int) -> None:
         self.agent = agent
@@ -291,7 +296,8 @@ class Searcher:
         return has_heard
 
     def hear(self, crossing: Crossing) -> bool:
-        """Takes what the other told at the port of a crossing, if it is news."""
+        """Reads the other agent's message at the port of a crossing; returns whether it
+        is new."""
         kind, _, mask = fields(self.board).get(str(crossing.port), "").partition(" ")
         if kind != "told" or nodes_of(mask) == self.plan.explored:
             return False
@@ -329,8 +335,8 @@ class Searcher:
         return self.map.nodes - self.safe
 
     def say(self, key: str, value: str) -> bool:
-        """Writes this on the whiteboard, unless the other wrote there since it was
-        read; then reads it again."""
+        """Writes a field on the whiteboard unless the other agent has changed the
+        board, and reads the board again."""
         swap = self.agent.write(self.board, text_of({**fields(self.board), key: value}))
         self.board = swap.board
         return swap.written

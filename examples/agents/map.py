@@ -60,7 +60,7 @@ class Node:
 
 
 class Map:
-    """What is known of the network. Node 0 is the home base."""
+    """The known part of the network; node 0 is the home base."""
 
     def __init__(self, text: str, ports_of_home: int) -> None:
         if not text:
@@ -73,7 +73,7 @@ class Map:
         return ";".join(f"{node.name}:{','.join(node.ports)}" for node in self.nodes)
 
     def ports(self, *states: str) -> List[Place]:
-        """The ports in one of these states."""
+        """Returns the ports in one of these states."""
         return [
             (v, p)
             for v, node in enumerate(self.nodes)
@@ -82,11 +82,11 @@ class Map:
         ]
 
     def is_decided(self, nodes: int, links: int) -> bool:
-        """Whether each port that is not on the map leads to the black hole."""
+        """Returns whether each port that is not on the map leads to the black hole."""
         ends = sum(len(node.ports) for node in self.nodes)
         loose = len(self.ports(UNTRIED, CLAIMED, ACCUSED))
-        known = (ends - loose) // 2
-        return len(self.nodes) == nodes - 1 and loose == links - known
+        known_links = (ends - loose) // 2
+        return len(self.nodes) == nodes - 1 and loose == links - known_links
 
     def way(self, start: int, end: int) -> List[int]:
         """The ports of a shortest way over links that are known."""
@@ -107,13 +107,16 @@ class Map:
 
     def nearest(self, places: List[Place]) -> Optional[Place]:
         """The place with the shortest way from the home base."""
-        return min(places, key=lambda place: len(self.way(0, place[0])), default=None)
+        return min(
+            places, key=lambda link_end: len(self.way(0, link_end[0])), default=None
+        )
 
     def mark(self, place: Place, state: str) -> None:
         self.nodes[place[0]].ports[place[1]] = state
 
     def number(self, name: str) -> Optional[int]:
-        """The number of the node with this name, if it is on the map."""
+        """Returns the number of the node with this name, or None if the map lacks
+        it."""
         return next((v for v, node in enumerate(self.nodes) if node.name == name), None)
 
     def join(self, place: Place, name: str, here: Here) -> None:
@@ -149,9 +152,9 @@ class Searcher:
     def map(self) -> Map:
         return Map(self.text, self.degree)
 
-    def put(self, changed: Map) -> bool:
+    def put(self, map: Map) -> bool:
         """Writes the map, unless another agent has changed it; then reads it again."""
-        swap = self.agent.write(self.text, changed.text())
+        swap = self.agent.write(self.text, map.text())
         self.text = swap.board
         return swap.written
 
@@ -169,8 +172,8 @@ class Searcher:
             self.text = self.agent.look().board
 
     def name_of(self, here: Here, claim: Place) -> str:
-        """The name on the whiteboard of the node where the agent is. A node that has
-        none is named after the claim."""
+        """Returns the name on the whiteboard of the agent's node. A node without a name
+        is named after the claim."""
         if here.board.startswith(HOME):
             return HOME
         if here.board:
@@ -180,22 +183,22 @@ class Searcher:
     def try_port(self, claim: Place) -> None:
         """Crosses the port that the agent has claimed, and adds what it found to the
         map."""
-        known = self.map()
-        way_back = known.way(claim[0], 0)
-        self.walk(known.way(0, claim[0]))
+        chart_now = self.map()
+        way_back = chart_now.way(claim[0], 0)
+        self.walk(chart_now.way(0, claim[0]))
         here = self.agent.depart(claim[1])
         find = Find(self.name_of(here, claim), here)
-        number = known.number(find.name)
+        number = chart_now.number(find.name)
         if number is None:
             self.walk([here.came] + way_back)
         elif number == 0:
             self.text = here.board
         else:
-            self.walk(known.way(number, 0))
+            self.walk(chart_now.way(number, 0))
         while True:
-            changed = self.map()
-            changed.join(claim, find.name, find.here)
-            if changed.text() == self.text or self.put(changed):
+            new_map = self.map()
+            new_map.join(claim, find.name, find.here)
+            if new_map.text() == self.text or self.put(new_map):
                 return
 
     def accuse(self, place: Place) -> None:
@@ -207,20 +210,20 @@ class Searcher:
         to accuse."""
         while True:
             now = self.map()
-            decided = now.is_decided(nodes, links)
-            place = now.nearest(
-                now.ports(UNTRIED, CLAIMED) if decided else now.ports(UNTRIED)
+            is_decided = now.is_decided(nodes, links)
+            target = now.nearest(
+                now.ports(UNTRIED, CLAIMED) if is_decided else now.ports(UNTRIED)
             )
-            if place is None and decided:
+            if target is None and is_decided:
                 return self.agent.leave()
-            if place is None:
+            if target is None:
                 self.wait()
                 continue
-            now.mark(place, ACCUSED if decided else CLAIMED)
+            now.mark(target, ACCUSED if is_decided else CLAIMED)
             if self.put(now):
-                if decided:
-                    return self.accuse(place)
-                self.try_port(place)
+                if is_decided:
+                    return self.accuse(target)
+                self.try_port(target)
 
 
 def search(

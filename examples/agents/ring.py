@@ -36,11 +36,11 @@ def field(board: str, side: int) -> str:
 
 
 def with_field(board: str, side: int, value: str) -> str:
-    """The text of a whiteboard that says this of the link on this side, and of the
-    other what it said."""
+    """Returns the text of a whiteboard with a new field for this side; the field of the
+    other side stays."""
     return ", ".join(
-        f"{SIDES[it]} {value if it == side else field(board, it)}"
-        for it in (RIGHT, LEFT)
+        f"{SIDES[direction]} {value if direction == side else field(board, direction)}"
+        for direction in (RIGHT, LEFT)
     )
 
 
@@ -80,9 +80,8 @@ class Walker:
 
 
 class Search:
-    """The search by one agent: how many nodes of its side and of the other it knows to
-    be safe, and how far it is to explore. Both halves are counted from the home
-    base."""
+    """The search by one agent: numbers of safe nodes on both sides, and of nodes to
+    explore. Both halves are counted from the home base."""
 
     def __init__(self, walker: Walker, nodes: int) -> None:
         self.walker = walker
@@ -111,21 +110,21 @@ class Search:
             self.side = LEFT
 
     def left(self) -> int:
-        """How many nodes are left, as far as the agent knows."""
+        """Returns how many nodes are left, as far as the agent knows."""
         return self.nodes - 1 - self.mine - self.theirs
 
     def mark(self, value: str) -> bool:
-        """Writes this of the link ahead, and takes what the other wrote there; answers
-        whether it is not the hole."""
+        """Writes a mark for the link ahead, and reads the other agent's mark; returns
+        whether the link is safe."""
         walker = self.walker
         while True:
-            found = field(walker.board, self.side)
-            if found == "hole":
+            value_there = field(walker.board, self.side)
+            if value_there == "hole":
                 return False
-            if found.startswith("told"):
-                self.theirs = int(found.split()[1])
+            if value_there.startswith("told"):
+                self.theirs = int(value_there.split()[1])
                 self.target = self.mine + (self.left() + 1) // 2
-            if found == value or walker.swap(
+            if value_there == value or walker.swap(
                 with_field(walker.board, self.side, value)
             ):
                 return True

@@ -40,14 +40,14 @@ BOX = "middle"
 def fields(board: str) -> Dict[str, str]:
     """What a whiteboard says: of a link `going`, `safe`, `told N` or `hole`; of the
     middle, how much was left."""
-    return dict(it.split(" ", 1) for it in board.split(", ")) if board else {}
+    return dict(part.split(" ", 1) for part in board.split(", ")) if board else {}
 
 
 @lru_cache(None)
 def walks(left: int) -> int:
-    """How often the safe nodes are crossed in the worst case, from a division of what
-    is left until the end. A division into halves costs a way back and a way to the
-    other agent; one into thirds also costs a way to the box and back."""
+    """Returns how often the safe nodes are crossed in the worst case, from a division
+    of what is left until the end. A division into halves costs a way back and a way to
+    the other agent; one into thirds also costs a way to the box and back."""
     return (
         left - 1
         if left < 3
@@ -56,16 +56,15 @@ def walks(left: int) -> int:
 
 
 def parts(left: int) -> Tuple[int, int]:
-    """How much the right agent is to explore, and how large the middle is. The rest is
-    for the left agent."""
+    """Returns how much the right agent is to explore, and how large the middle is. The
+    rest is for the left agent."""
     if left < 3 or 2 + walks((left + 1) // 2) <= 3 + walks((left + 2) // 3):
         return (left + 1) // 2, 0
     return (left + 1) // 3, left - 2 * ((left + 1) // 3)
 
 
 class Walker:
-    """An agent on a ring that knows which of the two ports of its node is to the right,
-    and how far it is from home.
+    """An agent on a ring that knows its right port and its distance from home.
 
     It infers the ports from the way it came, so the labels need not agree around the
     ring.
@@ -91,9 +90,10 @@ class Walker:
     def write(self, field: str, value: str) -> bool:
         """Writes a field on the whiteboard, unless somebody wrote there since it was
         read; then reads it again."""
-        said = {**fields(self.board), field: value}
+        field_values = {**fields(self.board), field: value}
         swap = self._agent.write(
-            self.board, ", ".join(f"{it} {said[it]}" for it in sorted(said))
+            self.board,
+            ", ".join(f"{name} {field_values[name]}" for name in sorted(field_values)),
         )
         self.board = swap.board
         return swap.written
@@ -139,7 +139,7 @@ class Search:
             self.side = LEFT
 
     def left(self) -> int:
-        """How many nodes are left, as far as the agent knows."""
+        """Returns how many nodes are left, as far as the agent knows."""
         return self.nodes - 1 - self.mine - self.theirs
 
     def go(self, steps: int) -> None:
@@ -159,18 +159,18 @@ class Search:
         self.label = str(left)
 
     def mark(self, value: str) -> bool:
-        """Writes this of the link ahead, and takes what the other wrote there; answers
-        whether it is not the hole."""
+        """Writes a mark for the link ahead, and reads the other agent's mark; returns
+        whether the link is safe."""
         walker = self.walker
         ahead = SIDES[self.side]
         while True:
-            found = fields(walker.board).get(ahead, "")
-            if found == "hole":
+            value_there = fields(walker.board).get(ahead, "")
+            if value_there == "hole":
                 return False
-            if found.startswith("told"):
-                self.theirs = int(found.split()[1])
+            if value_there.startswith("told"):
+                self.theirs = int(value_there.split()[1])
                 self.divide()
-            if found == value or walker.write(ahead, value):
+            if value_there == value or walker.write(ahead, value):
                 return True
 
     def explore(self) -> bool:

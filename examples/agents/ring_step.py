@@ -29,7 +29,7 @@ class Memory(NamedTuple):
     theirs: int = 0
     # how many nodes of its own side it is to explore
     target: int = 0
-    # the port to the right, at the node where it is
+    # port to the right at the current node
     right: int = 0
     # what the whiteboard says
     board: str = ""
@@ -37,7 +37,7 @@ class Memory(NamedTuple):
     steps: int = 0
 
     def left(self, nodes: int) -> int:
-        """How many nodes are left, as far as the agent knows."""
+        """Returns how many nodes are left, as far as the agent knows."""
         return nodes - 1 - self.mine - self.theirs
 
 
@@ -49,16 +49,16 @@ def step(
 ) -> Tuple[Tuple[Any, ...], Command]:
     """What the agent knows and does next."""
     if "no" in reply:
-        # it has used all its commands
+        # all commands are used up
         return memory or (), {"do": "leave"}
-    known = Memory() if memory is None else seen(Memory(*memory), reply)
-    now, command = NEXT[known.doing](
-        known._replace(board=reply.get("board", known.board)), reply, nodes
+    memory_now = Memory() if memory is None else first_memory(Memory(*memory), reply)
+    now, command = NEXT[memory_now.doing](
+        memory_now._replace(board=reply.get("board", memory_now.board)), reply, nodes
     )
     return tuple(now), command
 
 
-def seen(at: Memory, reply: Dict[str, Any]) -> Memory:
+def first_memory(at: Memory, reply: Dict[str, Any]) -> Memory:
     """The memory of an agent that knows, once it has arrived, by which port it goes to
     the right."""
     if reply["ok"] != "here":
@@ -119,29 +119,29 @@ def explores(at: Memory, nodes: int) -> Next:
 
 def marks(at: Memory, value: str, nodes: int) -> Next:
     """Writes this of the link ahead, and takes what the other wrote there."""
-    found = field(at.board, at.side)
-    if found == "hole":
+    value_there = field(at.board, at.side)
+    if value_there == "hole":
         return accuse(at, at.side)
-    if found.startswith("told"):
-        at = at._replace(theirs=int(found.split()[1]))
+    if value_there.startswith("told"):
+        at = at._replace(theirs=int(value_there.split()[1]))
         at = at._replace(target=at.mine + (at.left(nodes) + 1) // 2)
     return (
-        marked(at, value)
-        if found == value
+        write_mark(at, value)
+        if value_there == value
         else swap(at, with_field(at.board, at.side, value), value)
     )
 
 
-def marked(at: Memory, value: str) -> Next:
+def write_mark(at: Memory, value: str) -> Next:
     if value == "going":
         return walk(at, at.side, "goes out")
     return walk(at._replace(mine=at.mine + 1), at.side, "goes on")
 
 
 def marks_if(value: str) -> Callable[[Memory, Dict[str, Any], int], Next]:
-    """Goes on if this was written, and else tries again."""
+    """Continues if the write succeeded, else tries again."""
     return (
-        lambda at, reply, nodes: marked(at, value)
+        lambda at, reply, nodes: write_mark(at, value)
         if reply["ok"] == "written"
         else marks(at, value, nodes)
     )

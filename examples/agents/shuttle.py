@@ -22,7 +22,7 @@ def text_of(right: int, left: int) -> str:
 def numbers_in(board: str) -> "tuple[int, int]":
     if not board:
         return 0, 0
-    digits = [ord(it) - 32 for it in board]
+    digits = [ord(character) - 32 for character in board]
     return digits[0] * 64 + digits[1], digits[2] * 64 + digits[3]
 
 

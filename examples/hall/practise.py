@@ -29,8 +29,7 @@ import urllib.error
 import urllib.request
 from typing import Any, Dict, List
 
-# seconds between two requests, and for which a hall that has answered may be silent, as
-# when it is started again
+# seconds between two requests, and seconds to wait for a hall that restarts
 EVERY = 1.5
 PATIENCE = 300.0
 GOES_ON = ("waiting", "held", "running")
@@ -50,15 +49,15 @@ class Hall:
             "Authorization": f"Bearer {self._token}",
             "Content-Type": "application/json",
         }
-        sent = None if body is None else json.dumps(body).encode()
+        data = None if body is None else json.dumps(body).encode()
         while True:
             try:
-                asked = urllib.request.Request(
-                    f"{self._address}/api{path}", sent, headers
+                request = urllib.request.Request(
+                    f"{self._address}/api{path}", data, headers
                 )
-                with urllib.request.urlopen(asked, timeout=60) as told:
+                with urllib.request.urlopen(request, timeout=60) as response:
                     self._answered = time.monotonic()
-                    return json.load(told)
+                    return json.load(response)
             except urllib.error.HTTPError as fault:
                 wait = fault.headers.get("Retry-After")
                 if wait is None:
@@ -81,7 +80,7 @@ def words_of(
     folder: pathlib.Path,
 ) -> List[List[str]]:
     """The commands of all agents of a match."""
-    known = {
+    values = {
         "host": match["host"],
         "port": match["port"],
         "nodes": facts["nodes"],
@@ -92,17 +91,17 @@ def words_of(
         path.write_text(
             f"version = 1\nnodes = {match['map']['nodes']}\nlinks = {match['map']['links']}\n"
         )
-        known.update(network=str(path), home=match["map"]["home"])
+        values.update(network=str(path), home=match["map"]["home"])
     return [
-        [word.format(key=key, agent=agent, **known) for word in command]
+        [word.format(key=key, agent=agent, **values) for word in command]
         for agent, key in enumerate(match["keys"])
     ]
 
 
-def played(hall: Hall, words: argparse.Namespace) -> Dict[str, Any]:
+def play_match(hall: Hall, args: argparse.Namespace) -> Dict[str, Any]:
     """Plays a match to its end. If the hall begins it anew, it has other keys, and the
     agents are started anew."""
-    attempt = hall.ask("/matches", {"network": words.network})
+    attempt = hall.ask("/matches", {"network": args.network})
     keys = None
     agents: "List[subprocess.Popen[bytes]]" = []
     with tempfile.TemporaryDirectory() as name:
@@ -116,7 +115,7 @@ def played(hall: Hall, words: argparse.Namespace) -> Dict[str, Any]:
                         subprocess.Popen(line)
                         for match in attempt["matches"]
                         for line in words_of(
-                            words.command, match, attempt["facts"], pathlib.Path(name)
+                            args.command, match, attempt["facts"], pathlib.Path(name)
                         )
                     ]
                 time.sleep(EVERY)
@@ -160,18 +159,18 @@ def main() -> int:
     # who is ended ends the agents too
     signal.signal(signal.SIGTERM, lambda *_: sys.exit(143))
     hall = Hall(words.hall, token)
-    solved = 0
+    solved_count = 0
     for _ in range(words.times):
-        attempt = played(hall, words)
-        came = ", ".join(map(said_of, attempt["verdicts"]))
+        attempt = play_match(hall, words)
+        outcome = ", ".join(map(said_of, attempt["verdicts"]))
         print(
-            f"attempt {attempt['id']} on {attempt['network']}: {came or attempt['state']}",
+            f"attempt {attempt['id']} on {attempt['network']}: {outcome or attempt['state']}",
             flush=True,
         )
-        solved += attempt["state"] == "over" and attempt["solved"] == len(
+        solved_count += attempt["state"] == "over" and attempt["solved"] == len(
             attempt["verdicts"]
         )
-    return 0 if solved == words.times else 1
+    return 0 if solved_count == words.times else 1
 
 
 if __name__ == "__main__":

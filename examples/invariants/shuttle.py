@@ -23,9 +23,8 @@ BEGINS, GOES_OUT, LEAVES, COMES_BACK, RETURNS, WRITES, ENDS = range(7)
 
 
 class Memory(NamedTuple):
-    """What an agent holds: how many nodes of its side it knows to be safe, and of the
-    other, what it is about, and how many steps it is from the home base, or was when it
-    left the node."""
+    """An agent's memory: numbers of safe nodes on its own side and on the other, phase,
+    and distance from the home base (at a departure: that of the node left)."""
 
     side: int
     mine: int = 0
@@ -67,25 +66,25 @@ def after(memory: Memory, item: Item) -> Memory:
 
 def memories(picture: Configuration) -> Tuple[Memory, Memory]:
     """What both agents hold."""
-    one, other = (
+    first, second = (
         held_after(Memory(side), after, picture.history[side]) for side in (0, 1)
     )
-    return one, other
+    return first, second
 
 
 def end_of(world: World, side: int, steps: int) -> Tuple[int, int]:
-    """The node at this number of steps from the home base on a side, and the port by
-    which one goes on there."""
+    """Returns the node at this number of steps on one side, and its port away from the
+    home base."""
     node = world.home
     port = side
     for _ in range(steps):
-        node, came = world.far(node, port)
-        port = 1 - came
+        node, port_back = world.far(node, port)
+        port = 1 - port_back
     return node, port
 
 
 def distance(world: World, side: int) -> int:
-    """How many steps from the home base the black hole is on a side."""
+    """Returns how many steps from the home base the black hole is on a side."""
     return next(
         steps
         for steps in range(world.nodes)
@@ -94,21 +93,23 @@ def distance(world: World, side: int) -> int:
 
 
 def is_placed(world: World, picture: Configuration, memory: Memory) -> bool:
-    """Where an agent is and what it has accused, by what it is about."""
+    """Returns whether position and accusation of an agent fit its phase."""
     side = memory.side
     mine = memory.mine
     phase = memory.phase
     steps = memory.steps
     position = picture.position[side]
-    accused = picture.accused[side]
+    accusation = picture.accused[side]
     node, ahead = end_of(world, side, steps)
     if phase == ENDS:
         is_last = (
             mine + 1 == distance(world, side)
             and mine + memory.theirs + 2 == world.nodes
         )
-        return position == After() and is_last and accused == end_of(world, side, mine)
-    if accused is not None:
+        return (
+            position == After() and is_last and accusation == end_of(world, side, mine)
+        )
+    if accusation is not None:
         return False
     if phase == BEGINS:
         return position == Before()
@@ -123,28 +124,28 @@ def is_placed(world: World, picture: Configuration, memory: Memory) -> bool:
 
 
 def comes_home(memory: Memory) -> bool:
-    """Whether an agent has come to a node more than it has written."""
+    """Returns whether an agent has come to a node more than it has written."""
     return memory.phase in (COMES_BACK, RETURNS, WRITES)
 
 
 def is_fit(world: World, picture: Configuration, memory: Memory) -> bool:
     """What holds of one agent."""
-    come = memory.mine + comes_home(memory)
+    reach = memory.mine + comes_home(memory)
     is_known = all(
         end_of(world, memory.side, steps)[0] in picture.reached
-        for steps in range(1, come + 1)
+        for steps in range(1, reach + 1)
     )
-    most = memory.mine + (memory.phase in (COMES_BACK, RETURNS))
+    limit = memory.mine + (memory.phase in (COMES_BACK, RETURNS))
     return (
         is_placed(world, picture, memory)
-        and come < distance(world, memory.side)
+        and reach < distance(world, memory.side)
         and is_known
-        and memory.steps <= most
+        and memory.steps <= limit
     )
 
 
 def trip(memory: Memory) -> int:
-    """How many moves an agent has made since it has written last."""
+    """Returns how many moves an agent has made since it has written last."""
     steps = memory.steps
     back = 2 * (memory.mine + 1) - memory.steps
     return {
@@ -158,28 +159,28 @@ def trip(memory: Memory) -> int:
     }[memory.phase]
 
 
-def spent(memory: Memory) -> int:
-    """How many moves an agent has made."""
+def moves_made(memory: Memory) -> int:
+    """Returns how many moves an agent has made."""
     return memory.mine * (memory.mine + 1) + trip(memory)
 
 
 def holds(world: World, picture: Configuration) -> bool:
-    one, other = memories(picture)
+    first, second = memories(picture)
     return (
-        is_fit(world, picture, one)
-        and is_fit(world, picture, other)
-        and one.theirs <= other.mine
-        and other.theirs <= one.mine
-        and (one.theirs == other.mine or other.theirs == one.mine)
-        and picture.shown[world.home] == text_of(one.mine, other.mine)
-        and picture.moves == spent(one) + spent(other)
+        is_fit(world, picture, first)
+        and is_fit(world, picture, second)
+        and first.theirs <= second.mine
+        and second.theirs <= first.mine
+        and (first.theirs == second.mine or second.theirs == first.mine)
+        and picture.shown[world.home] == text_of(first.mine, second.mine)
+        and picture.moves == moves_made(first) + moves_made(second)
     )
 
 
 def progress(memory: Memory) -> int:
-    """How many turns an agent has had that moved: two a move but for the one that it is
-    about, what it has written and learned, its entering and its accusing."""
-    paces = 2 * spent(memory) - (memory.phase in (LEAVES, RETURNS))
+    """Returns the number of turns of an agent in which it moved: two per move (less if
+    a move is in progress), its writes, its entry and its accusation."""
+    paces = 2 * moves_made(memory) - (memory.phase in (LEAVES, RETURNS))
     return (
         paces
         + memory.mine
@@ -206,6 +207,6 @@ def bounds(world: World) -> Bounds:
 
 
 def left(world: World, picture: Configuration) -> int:
-    most = bounds(world).turns
-    assert most is not None
-    return most - sum(map(progress, memories(picture)))
+    limit = bounds(world).turns
+    assert limit is not None
+    return limit - sum(map(progress, memories(picture)))

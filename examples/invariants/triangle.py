@@ -18,8 +18,8 @@ from arena_lab.search.configurations import (
 TURNS = 6
 
 
-def place(world: World, side: int, turns: int) -> Position:
-    """Where the agent of a side is after this number of its turns."""
+def agent_position(world: World, side: int, turns: int) -> Position:
+    """Returns the agent's position after this number of its turns."""
     target, label = world.far(world.home, side)
     return [
         Before(),
@@ -38,7 +38,7 @@ def is_fit(world: World, picture: Configuration, side: int) -> bool:
     is_lost = world.doomed(world.home, side)
     return (
         turns <= (2 if is_lost else TURNS)
-        and picture.position[side] == place(world, side, turns)
+        and picture.position[side] == agent_position(world, side, turns)
         and picture.used[side] == commands(turns)
         and picture.accused[side]
         == ((world.home, 1 - side) if turns == TURNS else None)
@@ -47,13 +47,13 @@ def is_fit(world: World, picture: Configuration, side: int) -> bool:
 
 
 def commands(turns: int) -> int:
-    """How many commands an agent has used after this number of its turns: entering and
-    arriving cost none."""
+    """Returns how many commands an agent has used after this number of its turns:
+    entering and arriving cost none."""
     return [0, 0, 1, 1, 2, 2, 3][turns]
 
 
 def moves(turns: int) -> int:
-    """How many moves an agent has made after this number of its turns."""
+    """Returns how many moves an agent has made after this number of its turns."""
     return [0, 0, 1, 1, 2, 2, 2][turns]
 
 

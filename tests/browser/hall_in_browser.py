@@ -30,7 +30,7 @@ class Walk:
     """A walk through a hall."""
 
     def __init__(
-        self, hall: halls.Served, page: webdriver.Chrome, shots: pathlib.Path
+        self, hall: halls.ServedHall, page: webdriver.Chrome, shots: pathlib.Path
     ) -> None:
         self._hall = hall
         self._page = page
@@ -53,8 +53,8 @@ class Walk:
             lambda _: says in self.text()
         )
 
-    def wants(self, *said: str) -> None:
-        for it in said:
+    def wants(self, *texts: str) -> None:
+        for it in texts:
             if it not in self.text():
                 raise SystemExit(
                     f"{self._page.current_url} does not say {it!r}: {self.text()}"
@@ -101,7 +101,7 @@ class Walk:
         page = (
             self._hall.folder / "attempts" / str(number) / "run1" / "match0" / "m0.html"
         )
-        self._hall.wait(lambda: packing.place(page).exists(), "the page is made")
+        self._hall.wait(lambda: packing.packed_path(page).exists(), "the page is made")
         self.open(f"/matches/{number}/0/page")
         self._page.execute_script("document.getElementById('speed').value = '20'")
         self.find("#play").click()
@@ -174,46 +174,48 @@ class Walk:
             raise SystemExit(f"the console says {errors}")
 
 
-def walk(hall: halls.Served, page: webdriver.Chrome, shots: pathlib.Path) -> None:
-    """All of it, one after the other."""
-    it = Walk(hall, page, shots)
-    it.open("/")
-    it.shoot("login")
-    it.log_in("amber")
-    it.practise()
-    it.open("/matches")
-    it.shoot("attempts")
+def walk(hall: halls.ServedHall, page: webdriver.Chrome, shots: pathlib.Path) -> None:
+    """Walks through all parts in order."""
+    walk = Walk(hall, page, shots)
+    walk.open("/")
+    walk.shoot("login")
+    walk.log_in("amber")
+    walk.practise()
+    walk.open("/matches")
+    walk.shoot("attempts")
     with tempfile.TemporaryDirectory() as name:
-        it.hand_in(pathlib.Path(name))
-    it.open("/")
-    it.wants("1 of 1", "<script>alert(1)</script> Łódź", "absent")
-    it.shoot("standings")
-    it.languages()
+        walk.hand_in(pathlib.Path(name))
+    walk.open("/")
+    walk.wants("1 of 1", "<script>alert(1)</script> Łódź", "absent")
+    walk.shoot("standings")
+    walk.languages()
     # the teacher has changed the course's file, and starts the hall anew
     hall.stop()
     hall.write(f'freeze = "{datetime.datetime.now(datetime.timezone.utc).isoformat()}"')
     hall.start()
-    it.log_in("birch")
+    walk.log_in("birch")
     with tempfile.TemporaryDirectory() as name:
-        it.hand_in(pathlib.Path(name))
-    it.open("/")
-    it.wants("Frozen since", "amber")
-    if it.text().count("1/1") != 1:
-        raise SystemExit(f"the freeze hides nothing: {it.text()}")
-    it.open("/screen")
-    it.wants("Frozen since")
-    it.shoot("screen")
-    it.teach()
-    it.open("/")
-    if it.text().count("1/1") != 2:
-        raise SystemExit(f"the teacher does not see what the freeze hides: {it.text()}")
-    it.check_console()
+        walk.hand_in(pathlib.Path(name))
+    walk.open("/")
+    walk.wants("Frozen since", "amber")
+    if walk.text().count("1/1") != 1:
+        raise SystemExit(f"the freeze hides nothing: {walk.text()}")
+    walk.open("/screen")
+    walk.wants("Frozen since")
+    walk.shoot("screen")
+    walk.teach()
+    walk.open("/")
+    if walk.text().count("1/1") != 2:
+        raise SystemExit(
+            f"the teacher does not see what the freeze hides: {walk.text()}"
+        )
+    walk.check_console()
 
 
 def main(program: str, shots: pathlib.Path) -> int:
     shots.mkdir(parents=True, exist_ok=True)
     os.environ["ARENA_PROGRAM"] = program
-    with halls.served() as hall:
+    with halls.serve_hall() as hall:
         page = browser()
         try:
             walk(hall, page, shots)

@@ -17,13 +17,13 @@ from typing import List
 
 from selenium.webdriver.common.keys import Keys
 
-from arena_lab.rules.engines import asked, program_at
+from arena_lab.rules.engines import program_output, program_at
 from arena_lab.rules.model import Match, Setup
 from arena_lab.rules.networks import hypercube
 from bench import replays
 from tests.browser.watch_in_browser import browser
-from tests.support.counts import concluded
-from tests.support.matches import MAP, RING, fixture, played, ring_fixture
+from tests.support.counts import report_counts
+from tests.support.matches import MAP, RING, fixture, play_fixture, ring_fixture
 
 TOP = pathlib.Path(__file__).resolve().parents[2]
 WIDE = (1200, 1000)
@@ -42,7 +42,7 @@ HOSTILE = [
 
 def cube_replay() -> str:
     """Five agents with a map on the hypercube."""
-    return played(fixture(hypercube(4), 11, 5), MAP, 3).replay.decode()
+    return play_fixture(fixture(hypercube(4), 11, 5), MAP, 3).replay.decode()
 
 
 def dark_replay() -> str:
@@ -51,22 +51,22 @@ def dark_replay() -> str:
     links = [(v, 0, (v + 1) % 6, 1) for v in range(6)] + [(0, 2, 3, 2)]
     match = Match(Setup(6, links, 0, [2, 5], 6, 20, 40, [(3, 2)]))
     for agent in range(5):
-        match.tell(agent, {"do": "enter"})
+        match.reply_to(agent, {"do": "enter"})
     for agent, port in ((0, 0), (1, 1), (2, 2), (3, 0)):
-        match.tell(
+        match.reply_to(
             agent,
             {"do": "write", "expect": "", "put": f"port {port} was tried by {agent}"},
         )
-        match.tell(agent, {"do": "depart", "port": port})
+        match.reply_to(agent, {"do": "depart", "port": port})
         match.deliver(agent)
-    match.tell(0, {"do": "depart", "port": 0})
+    match.reply_to(0, {"do": "depart", "port": 0})
     match.deliver(0)
-    match.tell(0, {"do": "look"})
-    match.tell(3, {"do": "write", "expect": "?", "put": "x" * 41})
-    match.tell(3, {"do": "bad"})
-    match.tell(3, {"do": "depart", "port": 7})
-    match.tell(3, {"do": "accuse", "port": 0})
-    match.tell(4, {"do": "leave"})
+    match.reply_to(0, {"do": "look"})
+    match.reply_to(3, {"do": "write", "expect": "?", "put": "x" * 41})
+    match.reply_to(3, {"do": "bad"})
+    match.reply_to(3, {"do": "depart", "port": 7})
+    match.reply_to(3, {"do": "accuse", "port": 0})
+    match.reply_to(4, {"do": "leave"})
     match.close()
     return match.replay()
 
@@ -76,17 +76,17 @@ def hostile_replay() -> str:
     match = Match(
         Setup(3, [(0, 0, 1, 0), (1, 1, 2, 0), (2, 1, 0, 1)], 0, [2], 2, 100, 400)
     )
-    match.tell(0, {"do": "enter"})
-    match.tell(1, {"do": "enter"})
+    match.reply_to(0, {"do": "enter"})
+    match.reply_to(1, {"do": "enter"})
     board = ""
     for text in HOSTILE:
-        match.tell(0, {"do": "write", "expect": board, "put": text})
-        match.tell(1, {"do": "look"})
-        match.tell(1, {"do": "write", "expect": text + "\u202e", "put": ""})
+        match.reply_to(0, {"do": "write", "expect": board, "put": text})
+        match.reply_to(1, {"do": "look"})
+        match.reply_to(1, {"do": "write", "expect": text + "\u202e", "put": ""})
         board = text
-    match.tell(0, {"do": "depart", "port": 0})
+    match.reply_to(0, {"do": "depart", "port": 0})
     match.deliver(0)
-    match.tell(0, {"do": "write", "expect": "", "put": HOSTILE[0]})
+    match.reply_to(0, {"do": "write", "expect": "", "put": HOSTILE[0]})
     match.close()
     return match.replay()
 
@@ -122,8 +122,8 @@ class Browser:
         self.driver.execute_script("look(arguments[0])", agent)
 
     def size(self, size: tuple, dark: bool = False) -> None:
-        """A window of this size; the width is also that of the page, which a window can
-        refuse to be."""
+        """Resizes the window. The page's width is set too, because a window may refuse
+        the size."""
         width, height = size
         values = {
             "width": width,
@@ -169,8 +169,8 @@ def page_of(browser: Browser, name: str, replay: str, *words: str) -> pathlib.Pa
     return page
 
 
-def judged(browser: Browser, name: str) -> str:
-    return asked(
+def judge_page(browser: Browser, name: str) -> str:
+    return program_output(
         program_at(None), "judge", str(browser.folder / f"{name}.jsonl")
     ).strip()
 
@@ -178,7 +178,7 @@ def judged(browser: Browser, name: str) -> str:
 def steps(browser: Browser, name: str, replay: str) -> None:
     """Each step shows the replay's line, and the page the verdict."""
     lines = replay.split("\n")[1:-2]
-    shown = browser.driver.execute_script(
+    view = browser.driver.execute_script(
         "return arguments[0].map((line) => shown(line))", lines
     )
     browser.check(
@@ -186,18 +186,18 @@ def steps(browser: Browser, name: str, replay: str) -> None:
         and "Play" in browser.text("says"),
         f"{name} opens at {browser.text('count')}: {browser.text('says')}",
     )
-    for place, line in enumerate(shown, 1):
+    for index, line in enumerate(view, 1):
         browser.press(Keys.ARROW_RIGHT)
         browser.check(
             browser.text("line") == line,
-            f"{name}: event {place} is shown as {browser.text('line')}",
+            f"{name}: event {index} is shown as {browser.text('line')}",
         )
     browser.check(
         browser.text("count") == f"event {len(lines)} of {len(lines)}",
         f"{name}: {browser.text('count')}",
     )
     browser.check(
-        browser.text("verdict") == f"Verdict: {judged(browser, name)}.",
+        browser.text("verdict") == f"Verdict: {judge_page(browser, name)}.",
         f"{name}: {browser.text('verdict')}",
     )
 
@@ -240,16 +240,16 @@ def twins(browser: Browser) -> None:
         Setup(8, [(v, 0, (v + 1) % 8, 1) for v in range(8)], 0, [5], 2, 100, 64)
     )
     for agent, port, count in ((0, 0, 3), (1, 1, 2)):
-        ring.tell(agent, {"do": "enter"})
+        ring.reply_to(agent, {"do": "enter"})
         for _ in range(count):
-            ring.tell(
+            ring.reply_to(
                 agent,
                 {"do": "write", "expect": "", "put": f"{agent} went on by {port}"},
             )
-            ring.tell(agent, {"do": "depart", "port": port})
+            ring.reply_to(agent, {"do": "depart", "port": port})
             ring.deliver(agent)
-    ring.tell(0, {"do": "depart", "port": 0})
-    ring.tell(1, {"do": "accuse", "port": 1})
+    ring.reply_to(0, {"do": "depart", "port": 0})
+    ring.reply_to(1, {"do": "accuse", "port": 1})
     ring.close()
     browser.size(WIDE)
     browser.open(page_of(browser, "twin", ring.replay(), "--twin", "4"))
@@ -257,11 +257,11 @@ def twins(browser: Browser) -> None:
     for agent in (0, 1):
         browser.look(agent)
         browser.press(Keys.HOME)
-        for place in range(1, last + 1):
+        for index in range(1, last + 1):
             browser.press(Keys.ARROW_RIGHT)
             browser.check(
                 browser.text("same") == "Both pictures are the same.",
-                f"twin: agent {agent} at {place}",
+                f"twin: agent {agent} at {index}",
             )
     browser.picture("twin-eyes")
     browser.look(-1)
@@ -278,14 +278,14 @@ def largest(browser: Browser) -> None:
     source = browser.folder / "source.jsonl"
     with open(source, "w", encoding="utf-8") as out:
         replays.write_replay(out, replays.hole_of_moves(1000), replays.moves(1000))
-    begun = time.monotonic()
+    start = time.monotonic()
     page = page_of(browser, "largest", source.read_text(encoding="utf-8"))
-    written = time.monotonic()
+    writing = time.monotonic()
     browser.size(WIDE)
     browser.open(page)
-    opened = time.monotonic()
-    chance = random.Random(1)
-    places = [chance.randrange(128_129) for _ in range(100)] + list(range(5000, 5100))
+    opened_value = time.monotonic()
+    rng = random.Random(1)
+    places = [rng.randrange(128_129) for _ in range(100)] + list(range(5000, 5100))
     times = sorted(
         browser.driver.execute_script(
             "return arguments[0].map((to) => { const at = performance.now(); go(to); return performance.now() - at; })",
@@ -293,11 +293,11 @@ def largest(browser: Browser) -> None:
         )
     )
     print(
-        f"largest: {page.stat().st_size} bytes, written in {written - begun:.1f} s, "
-        f"opened in {opened - written:.1f} s; 200 steps, half of them far: median {times[100]:.1f} ms, "
+        f"largest: {page.stat().st_size} bytes, written in {writing - start:.1f} s, "
+        f"opened in {opened_value - writing:.1f} s; 200 steps, half of them far: median {times[100]:.1f} ms, "
         f"at most {times[-1]:.1f} ms"
     )
-    browser.check(opened - written < SECONDS_TO_OPEN, "largest: it opens slowly")
+    browser.check(opened_value - writing < SECONDS_TO_OPEN, "largest: it opens slowly")
     browser.check(times[100] < MILLISECONDS_OF_A_STEP, "largest: it steps slowly")
     browser.picture("largest")
     browser.look(3)
@@ -338,7 +338,7 @@ def course(browser: Browser) -> None:
         browser.console(name)
 
 
-def refused(browser: Browser) -> None:
+def refuse_replay(browser: Browser) -> None:
     """A replay that is cut is refused with the line and the status of `arena judge`,
     and no page is written."""
     source = browser.folder / "cut.jsonl"
@@ -347,10 +347,12 @@ def refused(browser: Browser) -> None:
         encoding="utf-8",
     )
     tool = [sys.executable, "-m", "arena_lab", "page", str(source)]
-    ran = subprocess.run(tool, cwd=TOP, stderr=subprocess.PIPE, text=True)
-    is_said = ran.stderr.startswith(f"{source}: end: ")
-    right = ran.returncode == 3 and is_said and not source.with_suffix(".html").exists()
-    browser.check(right, f"cut: status {ran.returncode}, {ran.stderr}")
+    result = subprocess.run(tool, cwd=TOP, stderr=subprocess.PIPE, text=True)
+    is_said = result.stderr.startswith(f"{source}: end: ")
+    right = (
+        result.returncode == 3 and is_said and not source.with_suffix(".html").exists()
+    )
+    browser.check(right, f"cut: status {result.returncode}, {result.stderr}")
 
 
 def main() -> int:
@@ -362,7 +364,9 @@ def main() -> int:
             matches(
                 browser,
                 "ring",
-                played(ring_fixture(8, 5, random.Random(1)), RING, 5).replay.decode(),
+                play_fixture(
+                    ring_fixture(8, 5, random.Random(1)), RING, 5
+                ).replay.decode(),
             )
             matches(browser, "cube", cube_replay())
             matches(browser, "dark", dark_replay())
@@ -376,12 +380,12 @@ def main() -> int:
                 )
             twins(browser)
             largest(browser)
-            refused(browser)
+            refuse_replay(browser)
             course(browser)
         finally:
             browser.driver.quit()
     print(f"pictures are in {pictures}")
-    return concluded(browser.right, len(browser.faults))
+    return report_counts(browser.right, len(browser.faults))
 
 
 if __name__ == "__main__":

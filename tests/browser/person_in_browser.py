@@ -24,10 +24,10 @@ from selenium.webdriver.support.ui import WebDriverWait
 
 from examples.contest import free_port
 from tests.browser.watch_in_browser import SECONDS, browser, shoot
-from tests.support.counts import concluded
+from tests.support.counts import report_counts
 
 TOP = pathlib.Path(__file__).resolve().parents[2]
-# what a page may be told of an agent before the match is over
+# keys that a page may receive about an agent before the match ends
 KNOWN = {"standing", "ports", "came", "board", "lines"}
 
 
@@ -60,11 +60,11 @@ def check_secrets(url: str) -> None:
     """Before the end the server tells what agents have seen, and shows no page of the
     match."""
     with urllib.request.urlopen(f"{url}/seen") as answer:
-        seen = json.load(answer)
-    if set(seen) != {"over", "agents"} or any(
-        set(it) != KNOWN for it in seen["agents"]
+        observations = json.load(answer)
+    if set(observations) != {"over", "agents"} or any(
+        set(agent) != KNOWN for agent in observations["agents"]
     ):
-        sys.exit(f"the page is told more than agents see: {seen}")
+        sys.exit(f"the page is told more than agents see: {observations}")
     try:
         urllib.request.urlopen(f"{url}/match")
     except urllib.error.HTTPError as fault:
@@ -154,7 +154,7 @@ def main() -> int:
         server.terminate()
         server.wait()
     print(f"played by the keyboard alone; screenshots in {shots}")
-    return concluded(1, 0)
+    return report_counts(1, 0)
 
 
 if __name__ == "__main__":

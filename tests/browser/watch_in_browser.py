@@ -22,7 +22,7 @@ from selenium.common.exceptions import WebDriverException
 from selenium.webdriver.support.ui import WebDriverWait
 
 from examples import contest
-from tests.support.counts import concluded
+from tests.support.counts import report_counts
 from tests.support.servers import Server
 
 TOP = pathlib.Path(__file__).resolve().parents[2]
@@ -35,11 +35,13 @@ STARTS = 3
 PLAYED = ("--turns", "20000", "--pause", "2")
 
 
-def browser(*more: str) -> webdriver.Chrome:
+def browser(*extra: str) -> webdriver.Chrome:
     options = webdriver.ChromeOptions()
-    for word in ("--headless=new", "--no-sandbox", "--disable-gpu", *more):
+    for word in ("--headless=new", "--no-sandbox", "--disable-gpu", *extra):
         options.add_argument(word)
-    options.set_capability("goog:loggingPrefs", {"browser": "ALL"})
+    options.set_capability(
+        "goog:loggingPrefs", {"browser": "ALL", "performance": "ALL"}
+    )
     for _ in range(STARTS - 1):
         # on a busy machine Chromium may not answer within the driver's minute
         with contextlib.suppress(WebDriverException):
@@ -137,13 +139,14 @@ def main() -> int:
             )
             shoot(page, shots, "over")
             table = [
-                line.split() for line in server.ended().texts()[1].splitlines()[1:]
+                line.split()
+                for line in server.wait_for_end().texts()[1].splitlines()[1:]
             ]
-            found = sorted(
+            results = sorted(
                 [row[1], *row[3].split(), row[5], row[6]] for row in rows(page)
             )
-            if found != sorted(row[1:] for row in table):
-                sys.exit(f"the page shows {found}, and the table is {table}")
+            if results != sorted(row[1:] for row in table):
+                sys.exit(f"the page shows {results}, and the table is {table}")
             time.sleep(1)
             page.find_element("css selector", "#rows a").click()
             page.execute_script("document.getElementById('speed').value = '20'")
@@ -167,7 +170,7 @@ def main() -> int:
                 child.kill()
                 child.wait()
     print(f"the standings are those of the table; screenshots are in {shots}")
-    return concluded(1, 0)
+    return report_counts(1, 0)
 
 
 if __name__ == "__main__":

@@ -42,18 +42,20 @@ class Writing(Walk):
         self.open("/write")
         self.waits("return editor.current", "agent.py")
 
-    def waits(self, script: str, wanted: Any) -> None:
+    def waits(self, script: str, expectation: Any) -> None:
         """Waits until a script gives what is wanted."""
-        found = []
+        results = []
 
         def holds(_: Any) -> bool:
-            found[:] = [self._page.execute_script(script)]
-            return bool(found[0] == wanted)
+            results[:] = [self._page.execute_script(script)]
+            return bool(results[0] == expectation)
 
         try:
             WebDriverWait(self._page, SECONDS).until(holds)
         except Exception:
-            raise SystemExit(f"{script}: {found} and not {wanted!r}: {self.text()}")
+            raise SystemExit(
+                f"{script}: {results} and not {expectation!r}: {self.text()}"
+            )
 
     def state(self, word: str) -> None:
         """Waits until a trial has ended so."""
@@ -82,10 +84,10 @@ class Writing(Walk):
         chain = ActionChains(self._page).key_down(Keys.CONTROL).send_keys(Keys.ENTER)
         chain.key_up(Keys.CONTROL).perform()
 
-    def saved(self) -> None:
+    def save(self) -> None:
         self.waits("return document.getElementById('saved').textContent", "saved")
 
-    def marked(self) -> Any:
+    def marks(self) -> Any:
         """The lines with a mark."""
         return self._page.execute_script(
             "return editor.marks.map(([, , line]) => line.lineNo() + 1)"
@@ -106,11 +108,11 @@ class Writing(Walk):
     def mistake(self) -> None:
         """A mistake stands at its line, and its event is shown."""
         line = self.change(RIGHT, WRONG)
-        self.saved()
+        self.save()
         self.run_by_keys()
         self.state("\u2717")
-        if line not in self.marked():
-            raise SystemExit(f"line {line} is not marked, but {self.marked()}")
+        if line not in self.marks():
+            raise SystemExit(f"line {line} is not marked, but {self.marks()}")
         self.wants("leads to a safe node")
         self.shoot("mistake")
         self.find("#explore").click()
@@ -132,7 +134,7 @@ class Writing(Walk):
         )
         self.state("\u2713 solved")
         self.waits(f"return editor.mirror.getValue().includes('{RIGHT}')", True)
-        self.saved()
+        self.save()
 
     def stop(self) -> None:
         self.find("#check").click()
@@ -164,14 +166,14 @@ class Writing(Walk):
         )
 
     def lost_network(self) -> None:
-        """What is written without a network is there after a reload, and saved."""
+        """Text written without a network survives a reload and is saved."""
         self.offline(True)
         self.change("import os", "import os  # offline")
         self.until("not saved yet")
         self.offline(False)
         self._page.refresh()
         self.waits("return editor.mirror.getValue().includes('# offline')", True)
-        self.saved()
+        self.save()
 
     def looks(self) -> None:
         """Languages, a dark page, and the way out of the editor by keys."""
@@ -188,7 +190,7 @@ class Writing(Walk):
         self.waits("return document.activeElement.id", "play")
 
     def begin_as_guest(self) -> None:
-        """Without a token, at an exercise."""
+        """Opens an exercise without a token."""
         self._page.delete_all_cookies()
         self.open("/write")
         self.shoot("guest")
@@ -225,54 +227,54 @@ class Writing(Walk):
         self._page.switch_to.default_content()
 
     def quiet(self, but: str = "") -> None:
-        """The console has no error, but for those that are named."""
+        """Checks that the console has no error except the expected ones."""
         for entry in self._page.get_log("browser"):
             is_error = entry["level"] == "SEVERE"
             if is_error and (not but or but not in entry["message"]):
                 raise SystemExit(f"the console says {entry['message']}")
 
 
-def conflict(one: Writing, other: Writing) -> None:
+def conflict(first: Writing, other: Writing) -> None:
     """Of two members who write at the same time nobody loses a line."""
     other.begin("amber")
-    one.change("import sys", "import sys  # mine")
-    one.saved()
+    first.change("import sys", "import sys  # mine")
+    first.save()
     other.change("import sys", "import sys  # theirs")
     other.until("somebody of your team has changed it meanwhile")
     other.shoot("conflict")
     other.find("#saved button:last-of-type").click()
-    other.saved()
-    one.open("/write")
-    one.waits("return editor.mirror.getValue().includes('# theirs')", True)
+    other.save()
+    first.open("/write")
+    first.waits("return editor.mirror.getValue().includes('# theirs')", True)
 
 
 def main(program: str, folder: pathlib.Path) -> int:
     os.environ["ARENA_PROGRAM"] = program
     folder.mkdir(parents=True, exist_ok=True)
-    with halls.served(EDITOR) as hall:
+    with halls.serve_hall(EDITOR) as hall:
         page = browser()
         second: webdriver.Chrome = browser()
         try:
-            one = Writing(hall, page, folder)
+            first = Writing(hall, page, folder)
             other = Writing(hall, second, folder)
-            one.begin("amber")
-            one.shoot("write")
-            one.first_match()
-            one.mistake()
-            one.earlier()
-            one.stop()
-            one.hand_in(folder)
-            one.quiet()
-            one.lost_network()
-            one.quiet("ERR_INTERNET_DISCONNECTED")
-            conflict(one, other)
+            first.begin("amber")
+            first.shoot("write")
+            first.first_match()
+            first.mistake()
+            first.earlier()
+            first.stop()
+            first.hand_in(folder)
+            first.quiet()
+            first.lost_network()
+            first.quiet("ERR_INTERNET_DISCONNECTED")
+            conflict(first, other)
             other.quiet("409")
-            other.waits_for(one)
+            other.waits_for(first)
             other.quiet("429")
-            one.looks()
-            one.begin_as_guest()
-            one.hostile()
-            one.quiet()
+            first.looks()
+            first.begin_as_guest()
+            first.hostile()
+            first.quiet()
         finally:
             page.quit()
             second.quit()

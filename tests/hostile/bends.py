@@ -3,7 +3,7 @@ import random
 import re
 from typing import Callable, List, Sequence
 
-from arena_lab.rules.limits import MOST_LINE
+from arena_lab.rules.limits import MAX_LINE
 from tests.hostile.drawn_inputs import write_line
 
 # bytes that mean something in JSON, and some that are no UTF-8
@@ -111,174 +111,172 @@ CONN = re.compile(rb"(\d+) (.*)", re.DOTALL)
 Bend = Callable[[bytes, random.Random], bytes]
 
 
-def place_in(text: bytes, chance: random.Random) -> int:
-    return chance.randrange(len(text) + 1)
+def place_in(text: bytes, rng: random.Random) -> int:
+    return rng.randrange(len(text) + 1)
 
 
-def change(text: bytes, chance: random.Random) -> bytes:
-    at = place_in(text, chance)
-    return text[:at] + bytes([chance.choice(BYTES)]) + text[at + 1 :]
+def change(text: bytes, rng: random.Random) -> bytes:
+    at = place_in(text, rng)
+    return text[:at] + bytes([rng.choice(BYTES)]) + text[at + 1 :]
 
 
-def insert(text: bytes, chance: random.Random) -> bytes:
-    at = place_in(text, chance)
-    return text[:at] + bytes([chance.choice(BYTES)]) + text[at:]
+def insert(text: bytes, rng: random.Random) -> bytes:
+    at = place_in(text, rng)
+    return text[:at] + bytes([rng.choice(BYTES)]) + text[at:]
 
 
-def delete(text: bytes, chance: random.Random) -> bytes:
-    at = place_in(text, chance)
-    return text[:at] + text[at + chance.choice((1, 1, 2, 10)) :]
+def delete(text: bytes, rng: random.Random) -> bytes:
+    at = place_in(text, rng)
+    return text[:at] + text[at + rng.choice((1, 1, 2, 10)) :]
 
 
-def double(text: bytes, chance: random.Random) -> bytes:
-    at = place_in(text, chance)
-    size = chance.choice((1, 2, 20))
+def double(text: bytes, rng: random.Random) -> bytes:
+    at = place_in(text, rng)
+    size = rng.choice((1, 2, 20))
     return text[: at + size] + text[at:]
 
 
-def cut(text: bytes, chance: random.Random) -> bytes:
-    return text[: place_in(text, chance)]
+def cut(text: bytes, rng: random.Random) -> bytes:
+    return text[: place_in(text, rng)]
 
 
-def replaced(
-    text: bytes, pattern: bytes, chance: random.Random, put: Callable[[bytes], bytes]
+def replace_one(
+    text: bytes, pattern: bytes, rng: random.Random, new_text: Callable[[bytes], bytes]
 ) -> bytes:
     """The text with one of the places that match the pattern changed."""
-    found = list(re.finditer(pattern, text))
-    if not found:
+    matches = list(re.finditer(pattern, text))
+    if not matches:
         return text
-    one = chance.choice(found)
-    return text[: one.start()] + put(one[0]) + text[one.end() :]
+    first = rng.choice(matches)
+    return text[: first.start()] + new_text(first[0]) + text[first.end() :]
 
 
-def zero_in_front(text: bytes, chance: random.Random) -> bytes:
-    return replaced(text, rb"\d+", chance, lambda digits: b"0" + digits)
+def zero_in_front(text: bytes, rng: random.Random) -> bytes:
+    return replace_one(text, rb"\d+", rng, lambda digits: b"0" + digits)
 
 
-def other_number(text: bytes, chance: random.Random) -> bytes:
-    number = chance.choice((*NUMBERS, str(chance.randrange(12)).encode()))
-    return replaced(text, rb"\d+", chance, lambda _: number)
+def other_number(text: bytes, rng: random.Random) -> bytes:
+    number = rng.choice((*NUMBERS, str(rng.randrange(12)).encode()))
+    return replace_one(text, rb"\d+", rng, lambda _: number)
 
 
-def space(text: bytes, chance: random.Random) -> bytes:
-    blank = chance.choice((b" ", b"\t", b"\r", b"  ", b"\n", b"\x0b", b"\xc2\xa0"))
-    return replaced(
+def space(text: bytes, rng: random.Random) -> bytes:
+    blank = rng.choice((b" ", b"\t", b"\r", b"  ", b"\n", b"\x0b", b"\xc2\xa0"))
+    return replace_one(
         text,
         rb"[:,{}\[\]]",
-        chance,
-        lambda mark: chance.choice((mark + blank, blank + mark)),
+        rng,
+        lambda mark: rng.choice((mark + blank, blank + mark)),
     )
 
 
-def escape(text: bytes, chance: random.Random) -> bytes:
-    def escaped(byte: bytes) -> bytes:
+def escape(text: bytes, rng: random.Random) -> bytes:
+    def escape_byte(byte: bytes) -> bytes:
         code = ord(byte)
-        return chance.choice(
+        return rng.choice(
             (b"\\u%04x" % code, b"\\u%04X" % code, b"\\" + byte, b"\\/", b"\\\\")
         )
 
-    return replaced(text, rb"[a-zA-Z/]", chance, escaped)
+    return replace_one(text, rb"[a-zA-Z/]", rng, escape_byte)
 
 
-def no_utf8(text: bytes, chance: random.Random) -> bytes:
-    at = place_in(text, chance)
-    return text[:at] + chance.choice(NO_UTF8) + text[at:]
+def no_utf8(text: bytes, rng: random.Random) -> bytes:
+    at = place_in(text, rng)
+    return text[:at] + rng.choice(NO_UTF8) + text[at:]
 
 
-def long_text(text: bytes, chance: random.Random) -> bytes:
-    size = chance.choice((31, 32, 33, 255, 4096, 4097, 70_000))
-    return replaced(
-        text, rb'"(put|expect|board)":"', chance, lambda key: key + b"a" * size
+def long_text(text: bytes, rng: random.Random) -> bytes:
+    size = rng.choice((31, 32, 33, 255, 4096, 4097, 70_000))
+    return replace_one(
+        text, rb'"(put|expect|board)":"', rng, lambda key: key + b"a" * size
     )
 
 
 def on_lines(bend: Callable[[List[bytes], int, random.Random], None]) -> Bend:
-    """A bend of a text by one of its lines, which is not its last, empty one."""
+    """Makes a bend of a text from a bend of one line other than the last, empty one."""
 
-    def bent(text: bytes, chance: random.Random) -> bytes:
+    def bent(text: bytes, rng: random.Random) -> bytes:
         lines = text.split(b"\n")
-        bend(lines, chance.randrange(max(1, len(lines) - 1)), chance)
+        bend(lines, rng.randrange(max(1, len(lines) - 1)), rng)
         return b"\n".join(lines)
 
     return bent
 
 
-def swap(lines: List[bytes], at: int, chance: random.Random) -> None:
-    other = chance.randrange(len(lines))
-    lines[at], lines[other] = lines[other], lines[at]
+def swap(lines: List[bytes], at: int, rng: random.Random) -> None:
+    second = rng.randrange(len(lines))
+    lines[at], lines[second] = lines[second], lines[at]
 
 
-def drop(lines: List[bytes], at: int, chance: random.Random) -> None:
+def drop(lines: List[bytes], at: int, rng: random.Random) -> None:
     del lines[at]
 
 
-def again(lines: List[bytes], at: int, chance: random.Random) -> None:
-    lines.insert(chance.randrange(len(lines)), lines[at])
+def again(lines: List[bytes], at: int, rng: random.Random) -> None:
+    lines.insert(rng.randrange(len(lines)), lines[at])
 
 
-def carriage_return(lines: List[bytes], at: int, chance: random.Random) -> None:
-    last = len(lines) if chance.random() < 0.5 else at + 1
+def carriage_return(lines: List[bytes], at: int, rng: random.Random) -> None:
+    last = len(lines) if rng.random() < 0.5 else at + 1
     lines[at:last] = [line + b"\r" for line in lines[at:last]]
 
 
-def other_reply(lines: List[bytes], at: int, chance: random.Random) -> None:
+def other_reply(lines: List[bytes], at: int, rng: random.Random) -> None:
     event, mark, _ = lines[at].partition(REPLY)
-    _, _, another = chance.choice(lines).partition(REPLY)
-    lines[at] = event + mark + chance.choice((another, chance.choice(REPLIES) + b"}"))
+    _, _, another = rng.choice(lines).partition(REPLY)
+    lines[at] = event + mark + rng.choice((another, rng.choice(REPLIES) + b"}"))
 
 
-def other_event(lines: List[bytes], at: int, chance: random.Random) -> None:
+def other_event(lines: List[bytes], at: int, rng: random.Random) -> None:
     _, mark, reply = lines[at].partition(REPLY)
-    another, _, _ = chance.choice(lines).partition(REPLY)
-    lines[at] = chance.choice((another, chance.choice(EVENTS))) + mark + reply
+    another, _, _ = rng.choice(lines).partition(REPLY)
+    lines[at] = rng.choice((another, rng.choice(EVENTS))) + mark + reply
 
 
-def new_event(lines: List[bytes], at: int, chance: random.Random) -> None:
-    lines.insert(at, chance.choice(EVENTS) + REPLY + chance.choice(REPLIES) + b"}")
+def new_event(lines: List[bytes], at: int, rng: random.Random) -> None:
+    lines.insert(at, rng.choice(EVENTS) + REPLY + rng.choice(REPLIES) + b"}")
 
 
-def head(lines: List[bytes], at: int, chance: random.Random) -> None:
-    lines[0] = chance.choice(
+def head(lines: List[bytes], at: int, rng: random.Random) -> None:
+    lines[0] = rng.choice(
         (change, delete, zero_in_front, other_number, space, escape, double)
-    )(lines[0], chance)
+    )(lines[0], rng)
 
 
-def end(lines: List[bytes], at: int, chance: random.Random) -> None:
+def end(lines: List[bytes], at: int, rng: random.Random) -> None:
     ends = (
-        b'{"end":%d}' % chance.randrange(100),
+        b'{"end":%d}' % rng.randrange(100),
         b'{"end":007}',
         b'{"end": 7}',
         b'{"end":%d}' % 10**30,
         b"",
         b"{}",
     )
-    lines[-2:] = [chance.choice(ends), chance.choice((b"", b"x", lines[-1]))]
+    lines[-2:] = [rng.choice(ends), rng.choice((b"", b"x", lines[-1]))]
 
 
-def new_line(lines: List[bytes], at: int, chance: random.Random) -> None:
+def new_line(lines: List[bytes], at: int, rng: random.Random) -> None:
     lines.insert(
         at,
-        chance.choice(
-            (chance.choice(INSTRUCTIONS), write_line(chance.randrange(9), chance))
-        ),
+        rng.choice((rng.choice(INSTRUCTIONS), write_line(rng.randrange(9), rng))),
     )
 
 
-def long_line(lines: List[bytes], at: int, chance: random.Random) -> None:
-    """A line of a client that is as long as it may be, or about so."""
+def long_line(lines: List[bytes], at: int, rng: random.Random) -> None:
+    """Replaces a line by a client's line of about the maximal length."""
     front = b'{"do":"write","expect":"","put":"'
-    room = MOST_LINE - len(front) - 2 + chance.choice((-1, 0, 1))
-    lines.insert(at, b"%d %s%s" % (chance.randrange(4), front, b"a" * room + b'"}'))
+    room = MAX_LINE - len(front) - 2 + rng.choice((-1, 0, 1))
+    lines.insert(at, b"%d %s%s" % (rng.randrange(4), front, b"a" * room + b'"}'))
 
 
-def in_hexadecimal(lines: List[bytes], at: int, chance: random.Random) -> None:
+def in_hexadecimal(lines: List[bytes], at: int, rng: random.Random) -> None:
     """What a connection is fed comes as bytes, in two pieces."""
-    found = CONN.fullmatch(lines[at])
-    if found:
-        text = found[2] + chance.choice((b"\n", b"\r\n", b""))
-        cut = place_in(text, chance)
+    match = CONN.fullmatch(lines[at])
+    if match:
+        text = match[2] + rng.choice((b"\n", b"\r\n", b""))
+        cut = place_in(text, rng)
         lines[at : at + 1] = [
-            b"hex %s %s" % (found[1], piece.hex().encode())
+            b"hex %s %s" % (match[1], piece.hex().encode())
             for piece in (text[:cut], text[cut:])
         ]
 

@@ -38,7 +38,7 @@ import tempfile
 from typing import Counter, Dict, Iterator, List, NamedTuple, Optional, Sequence
 
 from tests.hostile.bends import REPLAY_BENDS, SCRIPT_BENDS, Bend
-from tests.hostile.drawn_inputs import Rehearsed, drawn_replay, drawn_script
+from tests.hostile.drawn_inputs import RehearsalInput, drawn_replay, drawn_script
 
 TOP = pathlib.Path(__file__).resolve().parents[2]
 REPLAYS = 10_000
@@ -48,48 +48,46 @@ WORKERS = 2
 CUP = "cup.toml"
 
 
-def bent(
-    text: bytes, bends: Sequence[Bend], number: int, chance: random.Random
-) -> bytes:
+def bent(text: bytes, bends: Sequence[Bend], number: int, rng: random.Random) -> bytes:
     """A text of this number, bent: one in forty is not bent at all."""
-    for _ in range(0 if number % 40 == 0 else chance.choice((1, 1, 1, 2, 3))):
-        text = chance.choice(bends)(text, chance)
+    for _ in range(0 if number % 40 == 0 else rng.choice((1, 1, 1, 2, 3))):
+        text = rng.choice(bends)(text, rng)
     return text
 
 
 def replay_of(number: int, seed: int, examples: Sequence[bytes]) -> bytes:
     """A bent replay by its number."""
-    chance = random.Random(f"{seed} {number}")
-    text = chance.choice(examples) if chance.random() < 0.2 else drawn_replay(chance)
-    return bent(text, REPLAY_BENDS, number, chance)
+    rng = random.Random(f"{seed} {number}")
+    text = rng.choice(examples) if rng.random() < 0.2 else drawn_replay(rng)
+    return bent(text, REPLAY_BENDS, number, rng)
 
 
-def script_of(number: int, seed: int) -> Rehearsed:
+def script_of(number: int, seed: int) -> RehearsalInput:
     """A bent script by its number, with the files of its tournament."""
-    chance = random.Random(f"script {seed} {number}")
-    drawn = drawn_script(chance)
-    return drawn._replace(script=bent(drawn.script, SCRIPT_BENDS, number, chance))
+    rng = random.Random(f"script {seed} {number}")
+    draw = drawn_script(rng)
+    return draw._replace(script=bent(draw.script, SCRIPT_BENDS, number, rng))
 
 
-# What the programs say of them.
+# Results of the programs.
 
 
-class Said(NamedTuple):
+class RunResult(NamedTuple):
     """What came of a run."""
 
     status: int
-    printed: bytes
-    told: bytes
+    stdout: bytes
+    stderr: bytes
 
 
-def said(program: str, words: Sequence[str], given: bytes = b"") -> Said:
-    ran = subprocess.run(
-        [program, *words], input=given, capture_output=True, check=False
+def run(program: str, words: Sequence[str], data: bytes = b"") -> RunResult:
+    result = subprocess.run(
+        [program, *words], input=data, capture_output=True, check=False
     )
-    return Said(ran.returncode, ran.stdout, ran.stderr)
+    return RunResult(result.returncode, result.stdout, result.stderr)
 
 
-class Compared(NamedTuple):
+class Comparison(NamedTuple):
     """An input, by kind and number, with the fault that the first program printed, and
     the commands whose results differ."""
 
@@ -99,89 +97,89 @@ class Compared(NamedTuple):
     differing: List[str]
 
 
-def fault_of(one: Said) -> str:
+def fault_of(result: RunResult) -> str:
     """The last line that was told, without the file's name and numbers."""
     last = (
-        one.told.decode(errors="replace")
+        result.stderr.decode(errors="replace")
         .strip()
         .rpartition("\n")[2]
         .rpartition(": ")[2]
     )
-    return re.sub(r"\d+", "N", last) if one.status else "none"
+    return re.sub(r"\d+", "N", last) if result.status else "none"
 
 
-def compared(
+def compare(
     kind: str,
     number: int,
     programs: Sequence[str],
     runs: Dict[str, List[str]],
-    given: bytes,
-) -> Compared:
+    data: bytes,
+) -> Comparison:
     """Runs all commands on an input by both programs."""
     differing = []
     fault = ""
     for name, line in runs.items():
-        one, other = (said(program, line, given) for program in programs)
-        fault = fault or fault_of(one)
-        if one != other:
+        first, second = (run(program, line, data) for program in programs)
+        fault = fault or fault_of(first)
+        if first != second:
             differing.append(name)
-    return Compared(kind, number, fault, differing)
+    return Comparison(kind, number, fault, differing)
 
 
 class Comparing:
     """Two programs that are compared, and where their inputs are written."""
 
-    def __init__(self, given: argparse.Namespace, folder: pathlib.Path) -> None:
-        self.given = given
+    def __init__(self, args: argparse.Namespace, folder: pathlib.Path) -> None:
+        self.given = args
         self.folder = folder
         self.programs = [
-            str(pathlib.Path(name).resolve()) for name in (given.program, given.other)
+            str(pathlib.Path(name).resolve()) for name in (args.program, args.other)
         ]
         self.examples = [
             path.read_bytes() for path in sorted((TOP / "examples").glob("*.jsonl"))
         ]
 
-    def settled(self, place: pathlib.Path, found: Compared) -> Compared:
+    def settle(self, path: pathlib.Path, comparison: Comparison) -> Comparison:
         """Keeps a folder of inputs if it makes a difference, and removes it."""
-        if found.differing and self.given.keep:
-            shutil.copytree(place, self.given.keep / place.name, dirs_exist_ok=True)
-        shutil.rmtree(place)
-        return found
+        if comparison.differing and self.given.keep:
+            shutil.copytree(path, self.given.keep / path.name, dirs_exist_ok=True)
+        shutil.rmtree(path)
+        return comparison
 
-    def replay(self, number: int) -> Compared:
-        place = self.folder / f"replay-{number}"
-        chance = random.Random(number)
-        place.mkdir()
-        path = place / "replay.jsonl"
+    def replay(self, number: int) -> Comparison:
+        folder = self.folder / f"replay-{number}"
+        rng = random.Random(number)
+        folder.mkdir()
+        path = folder / "replay.jsonl"
         path.write_bytes(replay_of(number, self.given.seed, self.examples))
         runs = {
             "judge": ["judge", str(path)],
-            "explain": ["explain", str(path), str(chance.randrange(3))],
-            "twin": ["twin", str(path), str(chance.randrange(6))],
+            "explain": ["explain", str(path), str(rng.randrange(3))],
+            "twin": ["twin", str(path), str(rng.randrange(6))],
         }
-        return self.settled(place, compared("replay", number, self.programs, runs, b""))
+        return self.settle(folder, compare("replay", number, self.programs, runs, b""))
 
-    def script(self, number: int) -> Compared:
-        place = self.folder / f"script-{number}"
+    def script(self, number: int) -> Comparison:
+        folder = self.folder / f"script-{number}"
         (files, script) = script_of(number, self.given.seed)
-        place.mkdir()
+        folder.mkdir()
         for name, text in files.items():
-            (place / name).write_text(text)
-        (place / "script").write_bytes(script)
-        line = ["rehearse", str(place / CUP)]
+            (folder / name).write_text(text)
+        (folder / "script").write_bytes(script)
+        line = ["rehearse", str(folder / CUP)]
         runs = {"rehearse": line, "rehearse --interactive": [*line, "--interactive"]}
-        return self.settled(
-            place, compared("script", number, self.programs, runs, script)
+        return self.settle(
+            folder, compare("script", number, self.programs, runs, script)
         )
 
-    def all(self) -> Iterator[Compared]:
+    def all(self) -> Iterator[Comparison]:
         """Makes the inputs and compares the programs on each."""
         with concurrent.futures.ThreadPoolExecutor(self.given.workers) as pool:
             yield from pool.map(self.replay, range(self.given.replays))
             yield from pool.map(self.script, range(self.given.scripts))
 
 
-def words(given: Optional[Sequence[str]] = None) -> argparse.Namespace:
+def words(argv: Optional[Sequence[str]] = None) -> argparse.Namespace:
     parser = argparse.ArgumentParser(
         description=__doc__, formatter_class=argparse.RawDescriptionHelpFormatter
     )
@@ -217,28 +215,28 @@ def words(given: Optional[Sequence[str]] = None) -> argparse.Namespace:
         metavar="FOLDER",
         help="where inputs go that make a difference",
     )
-    return parser.parse_args(given)
+    return parser.parse_args(argv)
 
 
 def main() -> int:
-    given = words()
+    conditions = words()
     faults: Counter[str] = collections.Counter()
     differences = 0
-    if given.keep:
-        given.keep.mkdir(parents=True, exist_ok=True)
+    if conditions.keep:
+        conditions.keep.mkdir(parents=True, exist_ok=True)
     with tempfile.TemporaryDirectory() as name:
-        for found in Comparing(given, pathlib.Path(name)).all():
-            faults[found.fault] += 1
-            if found.differing:
+        for result in Comparing(conditions, pathlib.Path(name)).all():
+            faults[result.fault] += 1
+            if result.differing:
                 differences += 1
                 print(
-                    f"{found.kind} {found.number}: the programs differ in {', '.join(found.differing)}",
+                    f"{result.kind} {result.number}: the programs differ in {', '.join(result.differing)}",
                     flush=True,
                 )
     for fault, count in faults.most_common():
         print(f"{fault}: {count}")
     print(
-        f"{given.replays} replays, {given.scripts} scripts, {differences} differences"
+        f"{conditions.replays} replays, {conditions.scripts} scripts, {differences} differences"
     )
     return 1 if differences else 0
 

@@ -25,11 +25,11 @@ __all__ = [
     "PATIENCE",
     "REFUSED_TEXT",
     "Run",
-    "SERVED",
+    "SERVE",
     "TOP",
     "WHOLE_OF_PART",
     "command_named",
-    "ended",
+    "end_of",
 ]
 
 NO_MEMORY = 5
@@ -46,7 +46,7 @@ class Command(NamedTuple):
     words: Sequence[str]
     script: str
     reads: Optional[str]
-    given: str = "script"
+    stdin: str = "script"
     beside: Sequence[str] = ()
 
 
@@ -174,7 +174,7 @@ COMMANDS = [
         beside=[MODULE],
     ),
 ]
-SERVED = "serve"
+SERVE = "serve"
 
 
 def command_named(name: str) -> Command:
@@ -185,32 +185,32 @@ class Run(NamedTuple):
     """What came of a run."""
 
     status: int
-    printed: bytes
-    told: str
+    stdout: bytes
+    stderr: str
 
 
-def ended(child: subprocess.Popen) -> Run:
+def end_of(child: subprocess.Popen) -> Run:
     """What came of a child that must end by itself."""
     try:
-        printed, told = child.communicate(timeout=PATIENCE)
+        output, errors = child.communicate(timeout=PATIENCE)
     except subprocess.TimeoutExpired:
         child.kill()
         child.communicate()
         return Run(-1, b"", "it did not end")
     return Run(
         child.returncode,
-        printed or b"",
-        without_help(without_notes(told or b"", child.args).decode(errors="replace")),
+        output or b"",
+        without_help(without_notes(errors or b"", child.args).decode(errors="replace")),
     )
 
 
-def without_help(told: str) -> str:
+def without_help(text: str) -> str:
     """What is told without the lines of what helps, which begin with two spaces."""
-    return re.sub(r"(?m)^  .*\n?", "", told)
+    return re.sub(r"(?m)^  .*\n?", "", text)
 
 
 class Lab:
-    """The program in a folder of its own, with the examples, and what was found."""
+    """The program in its own folder with the examples, and the findings."""
 
     def __init__(self, program: str, folder: pathlib.Path) -> None:
         self.program = str(pathlib.Path(program).resolve())
@@ -232,9 +232,9 @@ class Lab:
         if some are given."""
         self.runs += 1
         script = self.folder / command.script if command.script else os.devnull
-        with open(script, "rb") as given:
+        with open(script, "rb") as source:
             plain = {
-                "stdin": given,
+                "stdin": source,
                 "stdout": subprocess.PIPE,
                 "stderr": subprocess.PIPE,
             }
@@ -244,36 +244,36 @@ class Lab:
                 preexec_fn=limit,
                 **{**plain, **streams},
             )
-            return ended(child)
+            return end_of(child)
 
     def expect(
         self,
         what: str,
         command: Command,
-        found: Run,
-        allowed: Set[str],
+        run: Run,
+        outcomes: Set[str],
         status: int,
-        seen: Counter,
+        counts: Counter,
     ) -> None:
-        """Counts a run that ended as it should: as with nothing missing, or by one of
-        these faults with this status."""
+        """Counts a run that must end like an undisturbed one, or with one of these
+        faults and this status."""
         whole = self.whole[command.name]
-        if found == whole:
-            seen["as ever"] += 1
-        elif found.told in {f"{line}\n" for line in allowed} and found.status == status:
-            seen[found.told.strip().rpartition(": ")[2]] += 1
-            if not whole.printed.startswith(found.printed):
+        if run == whole:
+            counts["as ever"] += 1
+        elif run.stderr in {f"{line}\n" for line in outcomes} and run.status == status:
+            counts[run.stderr.strip().rpartition(": ")[2]] += 1
+            if not whole.stdout.startswith(run.stdout):
                 self.faults.append(f"{what}, {command.name}: another text was printed")
         else:
             self.faults.append(
-                f"{what}, {command.name}: status {found.status}, `{found.told.strip()[:100]}`"
+                f"{what}, {command.name}: status {run.status}, `{run.stderr.strip()[:100]}`"
             )
 
-    def part(self, trial: Callable[..., None], *given: Any) -> None:
-        """Carries out a part. One that dies is a fault with its name, and the others
-        are carried out."""
+    def part(self, trial: Callable[..., None], *args: Any) -> None:
+        """Runs a part. An exception is counted as a fault of that part, and the other
+        parts run."""
         try:
-            trial(*given)
+            trial(*args)
         except Exception as fault:
             self.faults.append(
                 f"{trial.__name__.replace('_', ' ')}: {type(fault).__name__}: {fault}"
@@ -286,9 +286,9 @@ class Lab:
         print(f"{self.runs} runs, {len(self.faults)} ended otherwise")
         return 1 if self.faults else 0
 
-    def report(self, what: str, seen: Counter) -> None:
+    def report(self, what: str, counts: Counter) -> None:
         print(
             f"{what}: "
-            + ", ".join(f"{count} {name}" for name, count in sorted(seen.items())),
+            + ", ".join(f"{count} {name}" for name, count in sorted(counts.items())),
             flush=True,
         )

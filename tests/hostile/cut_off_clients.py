@@ -7,8 +7,15 @@ import time
 from typing import List
 
 from bench.inputs import peak_so_far
-from tests.hostile.operated_servers import LONG, case, found, heard, on_ring, played
-from tests.hostile.two_teams import WAITING, answer, entered, looks, serving
+from tests.hostile.operated_servers import (
+    LONG,
+    case,
+    match_groups,
+    heard,
+    on_ring,
+    start_server,
+)
+from tests.hostile.two_teams import WAITING, answer, entered_agent, looks, serving
 from tests.support.counts import require, wants
 from tests.support.servers import Server, enter
 from tests.support.session_lines import (
@@ -27,7 +34,7 @@ from tests.support.session_lines import (
 # grow meanwhile
 LOOKS = 3000
 BOARD = 60_000
-MOST_GROWN = 20_000
+MAX_GROWTH = 20_000
 
 
 # ---- who is cut off
@@ -35,7 +42,7 @@ MOST_GROWN = 20_000
 
 @case("an agent that entered is not cut off when ten seconds have passed")
 def plays_on(program: str, folder: pathlib.Path) -> None:
-    with serving(program, folder, turns=LONG) as server, entered(
+    with serving(program, folder, turns=LONG) as server, entered_agent(
         server, "red-0"
     ) as client:
         time.sleep(12)
@@ -44,7 +51,7 @@ def plays_on(program: str, folder: pathlib.Path) -> None:
 
 @case("a client that is denied ends no agent's time of grace")
 def denied_in_grace(program: str, folder: pathlib.Path) -> None:
-    with serving(program, folder, turns=200, grace=5000) as server, entered(
+    with serving(program, folder, turns=200, grace=5000) as server, entered_agent(
         server, "blue-0"
     ) as client:
         for number in range(5):
@@ -60,10 +67,10 @@ def denied_in_grace(program: str, folder: pathlib.Path) -> None:
 @case("more agents play than may wait to be let in")
 def many_agents(program: str, folder: pathlib.Path) -> None:
     matches = on_ring(*(f"t{number}" for number in range(5)), agents=60)
-    with played(
+    with start_server(
         program, folder, matches, sessions=1000
     ) as server, contextlib.ExitStack() as stack:
-        for key in [key for one in matches for key in one.keys]:
+        for key in [key for match in matches for key in match.keys]:
             client = stack.enter_context(server.connect(enter(key)))
             wants(f"agent {key}", answer(client, 7), HERE[:7])
 
@@ -71,13 +78,13 @@ def many_agents(program: str, folder: pathlib.Path) -> None:
 @case("a client whose first line never ends is cut off for its bytes")
 def dripping(program: str, folder: pathlib.Path) -> None:
     with serving(program, folder, turns=LONG) as server, server.connect() as client:
-        begun = time.monotonic()
-        sent = 0
+        start = time.monotonic()
+        sent_count = 0
         client.settimeout(9)
         with contextlib.suppress(OSError):
-            while time.monotonic() - begun < 6:
-                sent += client.send(b"\n" * 4096)
-        require(time.monotonic() - begun <= 5.5, f"it was let send {sent} bytes")
+            while time.monotonic() - start < 6:
+                sent_count += client.send(b"\n" * 4096)
+        require(time.monotonic() - start <= 5.5, f"it was let send {sent_count} bytes")
 
 
 @case(
@@ -106,12 +113,14 @@ def told_strays(program: str, folder: pathlib.Path) -> None:
     with heard(program, folder, "--log", sessions=2) as server:
         strays = b'debug: \x1b[31mhere\r\n{"do":"jump"}\n' + b"x" * 70_000 + b"\n"
         with server.connect(enter("red-0") + b"\n" + LOOK + strays + LEAVE) as client:
-            said = HERE + HERE + NO_LINE * 3 + BYE
-            wants("what the agent is told", answer(client, len(said)), said)
-        told = server.tells("no commands")
+            output = HERE + HERE + NO_LINE * 3 + BYE
+            wants("what the agent is told", answer(client, len(output)), output)
+        log = server.tells("no commands")
         wants(
             "what the operator is told",
-            found(r"(serve: session 0 played .*)\n.*(serve: session 0: .*)", told),
+            match_groups(
+                r"(serve: session 0 played .*)\n.*(serve: session 0: .*)", log
+            ),
             (
                 "serve: session 0 played match 0 (red) agent 0: its agent left",
                 r'serve: session 0: 3 lines were no commands, the first: "debug: \u001b[31mhere\u000d"',
@@ -124,12 +133,12 @@ def told_strays(program: str, folder: pathlib.Path) -> None:
 )
 def told_cut(program: str, folder: pathlib.Path) -> None:
     with heard(program, folder, "--log", sessions=2) as server:
-        told = ""
+        text = ""
         for key, line in (("red-0", "ä".encode() * 1000), ("red-1", b"x" * 70_000)):
             with server.connect(enter(key) + line + b"\n" + LEAVE) as client:
-                said = HERE + NO_LINE + BYE
-                wants("what the agent is told", answer(client, len(said)), said)
-            told += server.tells("was no command")
+                output = HERE + NO_LINE + BYE
+                wants("what the agent is told", answer(client, len(output)), output)
+            text += server.tells("was no command")
         with server.connect(enter("blue-0") + LOOK + LEAVE) as client:
             wants(
                 "an agent without such lines",
@@ -137,10 +146,10 @@ def told_cut(program: str, folder: pathlib.Path) -> None:
                 HERE + HERE + BYE,
             )
         server.says(b"close\n")
-        told += server.ended().texts()[2]
+        text += server.wait_for_end().texts()[2]
     wants(
         "what the operator is told",
-        re.findall(r"serve: session (\d+: .*)", told),
+        re.findall(r"serve: session (\d+: .*)", text),
         [
             f'0: 1 line was no command: "{"ä" * 80}.."',
             "1: 1 line was no command: more than 65536 bytes",
@@ -150,35 +159,35 @@ def told_cut(program: str, folder: pathlib.Path) -> None:
 
 @case("thousands of looks at a whiteboard of 60,000 bytes keep its text once")
 def looks_keep_one_text(program: str, folder: pathlib.Path) -> None:
-    with played(
+    with start_server(
         program, folder, on_ring("red", agents=1, quota=65_535, board=65_535)
-    ) as server, entered(server, "red-0") as client:
+    ) as server, entered_agent(server, "red-0") as client:
         client.sendall(b'{"do":"write","expect":"","put":"%b"}\n' % (b"x" * BOARD))
         wants("write", answer(client, len(WRITTEN)), WRITTEN)
         before = peak_so_far(server.child)
-        shown = len(HERE) + BOARD
+        view = len(HERE) + BOARD
         for _ in range(LOOKS // 10):
             client.sendall(LOOK * 10)
             require(
-                len(answer(client, 10 * shown)) == 10 * shown,
+                len(answer(client, 10 * view)) == 10 * view,
                 "the looks are not answered",
             )
         grown = peak_so_far(server.child) - before
-    require(grown <= MOST_GROWN, f"{LOOKS} looks took {grown} KB")
+    require(grown <= MAX_GROWTH, f"{LOOKS} looks took {grown} KB")
 
 
 @case("each client has a number of its own in the log")
 def own_numbers(program: str, folder: pathlib.Path) -> None:
     with heard(program, folder, "--log", sessions=1) as server:
-        with entered(server, "red-0"):
+        with entered_agent(server, "red-0"):
             for _ in range(3):
-                with server.connect(b"x\n") as other:
-                    wants("a client more", answer(other, len(NO_FULL)), NO_FULL)
+                with server.connect(b"x\n") as second:
+                    wants("a client more", answer(second, len(NO_FULL)), NO_FULL)
         server.says(b"close\n")
-        told = server.ended().texts()[2]
+        errors = server.wait_for_end().texts()[2]
     wants(
         "the numbers of those who came",
-        re.findall(r"serve: session (\d+) from", told),
+        re.findall(r"serve: session (\d+) from", errors),
         ["0", "1", "2", "3"],
     )
 
@@ -211,7 +220,9 @@ def slow_beside_flood(program: str, folder: pathlib.Path) -> None:
         slow.sendall(enter("red-0"))
         wants("the slow agent", answer(slow, len(HERE)), HERE)
         stack.enter_context(
-            entered(server, "red-1", "an agent that comes later", source=HOMES % 2)
+            entered_agent(
+                server, "red-1", "an agent that comes later", source=HOMES % 2
+            )
         )
 
 
@@ -234,7 +245,7 @@ def apart(program: str, folder: pathlib.Path) -> None:
         slow = stack.enter_context(server.connect())
         flood(stack, server, 100)
         for key in ("red-1", "blue-0", "blue-1"):
-            stack.enter_context(entered(server, key))
+            stack.enter_context(entered_agent(server, key))
         slow.sendall(enter("red-0"))
         wants("the agent that came first", answer(slow, len(HERE)), HERE)
 
@@ -246,11 +257,11 @@ def no_room_to_play(program: str, folder: pathlib.Path) -> None:
     with serving(
         program, folder, turns=LONG, sessions=1
     ) as server, server.connect() as waits:
-        with entered(server, "red-0", "the agent that plays"):
+        with entered_agent(server, "red-0", "the agent that plays"):
             waits.sendall(enter("red-1"))
             wants("the agent that waited", answer(waits, len(NO_FULL)), NO_FULL)
         time.sleep(0.5)
-        entered(server, "red-1", "its next try").close()
+        entered_agent(server, "red-1", "its next try").close()
 
 
 @case(
@@ -260,7 +271,7 @@ def kept_room(program: str, folder: pathlib.Path) -> None:
     with serving(
         program, folder, turns=LONG
     ) as server, contextlib.ExitStack() as stack:
-        entered(server, "red-0", source=STRANGERS % 1).close()
+        entered_agent(server, "red-0", source=STRANGERS % 1).close()
         slow = stack.enter_context(server.connect(source=STRANGERS % 1))
         strangers = flood(stack, server, WAITING - 1, places=1)
         time.sleep(1.6)

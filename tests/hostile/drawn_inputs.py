@@ -2,7 +2,7 @@
 import random
 from typing import Dict, List, NamedTuple, Tuple
 
-from arena_lab.rules.model import PRESENT, Match, Object, spelled
+from arena_lab.rules.model import PRESENT, Match, Object, spell
 from tests.support.drawn_rehearsals import ScriptMaker, files_of, ready_by_chance
 
 LONG = 3000
@@ -29,7 +29,7 @@ TEXTS = (
 BOARDS = (0, 8, 64, 4096)
 
 
-class Rehearsed(NamedTuple):
+class RehearsalInput(NamedTuple):
     """A tournament's files by their names, and a script."""
 
     files: Dict[str, str]
@@ -39,43 +39,39 @@ class Rehearsed(NamedTuple):
 # Replays of matches.
 
 
-def command(match: Match, number: int, chance: random.Random) -> Object:
+def command(match: Match, number: int, rng: random.Random) -> Object:
     """A command by chance, mostly one that is taken where its agent is."""
     agent = match.agents[number]
     board = match.boards[agent.node] if agent.standing == PRESENT else ""
-    port = chance.randrange(4)
-    expect = board if chance.random() < 0.7 else chance.choice(TEXTS)
+    port = rng.randrange(4)
+    expect = board if rng.random() < 0.7 else rng.choice(TEXTS)
     kinds: List[Tuple[int, Object]] = [
         (6, {"do": "look"}),
-        (8, {"do": "write", "expect": expect, "put": chance.choice(TEXTS)}),
+        (8, {"do": "write", "expect": expect, "put": rng.choice(TEXTS)}),
         (14, {"do": "depart", "port": port}),
         (1, {"do": "accuse", "port": port}),
         (1, {"do": "leave"}),
         (2, {"do": "bad"}),
         (1, {"do": "enter"}),
     ]
-    return chance.choices([kind for _, kind in kinds], [weight for weight, _ in kinds])[
-        0
-    ]
+    return rng.choices([kind for _, kind in kinds], [weight for weight, _ in kinds])[0]
 
 
-def drawn_replay(chance: random.Random) -> bytes:
+def drawn_replay(rng: random.Random) -> bytes:
     """The replay of a match that is played by chance."""
-    ready = ready_by_chance(0, chance.randint(1, 5), chance)
+    ready = ready_by_chance(0, rng.randint(1, 5), rng)
     match = Match(
-        ready.match.setup._replace(
-            board=chance.choice(BOARDS), quota=chance.randint(1, 40)
-        )
+        ready.match.setup._replace(board=rng.choice(BOARDS), quota=rng.randint(1, 40))
     )
     agents = match.setup.agents
     for number in range(agents):
-        match.tell(number, {"do": "enter"})
-    for _ in range(chance.randrange(60)):
-        if match.pool and chance.random() < 0.5:
-            match.deliver(chance.choice(match.pool))
+        match.reply_to(number, {"do": "enter"})
+    for _ in range(rng.randrange(60)):
+        if match.pool and rng.random() < 0.5:
+            match.deliver(rng.choice(match.pool))
         else:
-            number = chance.randrange(agents)
-            match.tell(number, command(match, number, chance))
+            number = rng.randrange(agents)
+            match.reply_to(number, command(match, number, rng))
     match.close()
     return match.replay().encode()
 
@@ -83,30 +79,30 @@ def drawn_replay(chance: random.Random) -> bytes:
 # Scripts of rehearsals.
 
 
-def write_line(conn: int, chance: random.Random) -> bytes:
+def write_line(conn: int, rng: random.Random) -> bytes:
     """A line by which an agent writes."""
     write = {
         "do": "write",
-        "expect": chance.choice(("", chance.choice(TEXTS))),
-        "put": chance.choice(TEXTS),
+        "expect": rng.choice(("", rng.choice(TEXTS))),
+        "put": rng.choice(TEXTS),
     }
-    return b"%d %s" % (conn, spelled(write).encode())
+    return b"%d %s" % (conn, spell(write).encode())
 
 
-def drawn_script(chance: random.Random) -> Rehearsed:
+def drawn_script(rng: random.Random) -> RehearsalInput:
     """A rehearsal of two matches in which agents walk and write by chance."""
     ready = []
     for game in range(2):
-        one = ready_by_chance(game, chance.randint(1, 4), chance)
+        first = ready_by_chance(game, rng.randint(1, 4), rng)
         ready.append(
-            one._replace(
-                match=Match(one.match.setup._replace(board=chance.choice(BOARDS)))
+            first._replace(
+                match=Match(first.match.setup._replace(board=rng.choice(BOARDS)))
             )
         )
-    maker = ScriptMaker(ready, chance)
+    maker = ScriptMaker(ready, rng)
     maker.all_depart()
-    for _ in range(chance.randint(20, 100)):
+    for _ in range(rng.randint(20, 100)):
         maker.anything(9)
-    return Rehearsed(
+    return RehearsalInput(
         files_of(ready), "".join(f"{line}\n" for line in maker.script).encode()
     )

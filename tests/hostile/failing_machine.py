@@ -30,12 +30,12 @@ from tests.hostile.commands import (
     NO_MEMORY,
     NO_THREADS,
     REFUSED_TEXT,
-    SERVED,
+    SERVE,
     WHOLE_OF_PART,
     Lab,
     Run,
     command_named,
-    ended,
+    end_of,
 )
 from tests.support.servers import Server
 
@@ -43,20 +43,20 @@ from tests.support.servers import Server
 SESSIONS = 100
 
 
-def limited(kind: int, most: int) -> Callable[[], None]:
-    return lambda: resource.setrlimit(kind, (most, most))
+def limiter(kind: int, limit: int) -> Callable[[], None]:
+    return lambda: resource.setrlimit(kind, (limit, limit))
 
 
 def no_memory(lab: Lab) -> None:
     """The memory that a process may map: 8 to 64 MiB, by steps of one."""
-    seen: Counter = collections.Counter()
+    counts: Counter = collections.Counter()
     for command in COMMANDS:
-        for most in range(8, 65):
-            found = lab.run(command, limited(resource.RLIMIT_AS, most * MIB))
+        for limit in range(8, 65):
+            result = lab.run(command, limiter(resource.RLIMIT_AS, limit * MIB))
             places = {
                 "arena",
                 "output",
-                command.given,
+                command.stdin,
                 "twin",
                 "kept",
                 *(f"kept{number}.jsonl" for number in range(4)),
@@ -67,46 +67,46 @@ def no_memory(lab: Lab) -> None:
                 f"examples/{path.name}"
                 for path in (lab.folder / "examples").glob("*.toml")
             }
-            allowed = {f"{place}: memory" for place in places}
+            outcomes = {f"{position}: memory" for position in places}
             lab.expect(
-                f"{most} MiB of memory", command, found, allowed, NO_MEMORY, seen
+                f"{limit} MiB of memory", command, result, outcomes, NO_MEMORY, counts
             )
-    lab.report("8 to 64 MiB of memory", seen)
+    lab.report("8 to 64 MiB of memory", counts)
 
 
 def no_stack(lab: Lab) -> None:
-    seen: Counter = collections.Counter()
+    counts: Counter = collections.Counter()
     for command in COMMANDS:
         lab.expect(
             "a stack of 256 KiB",
             command,
-            lab.run(command, limited(resource.RLIMIT_STACK, 256 * 1024)),
+            lab.run(command, limiter(resource.RLIMIT_STACK, 256 * 1024)),
             set(),
             DONE,
-            seen,
+            counts,
         )
-    lab.report("a stack of 256 KiB", seen)
+    lab.report("a stack of 256 KiB", counts)
 
 
 def few_files(lab: Lab) -> None:
     """One file can be open beside the three streams: the fewest with which the system
     starts a program."""
-    seen: Counter = collections.Counter()
+    counts: Counter = collections.Counter()
     for command in COMMANDS:
         lab.expect(
             "one open file",
             command,
-            lab.run(command, limited(resource.RLIMIT_NOFILE, 4)),
+            lab.run(command, limiter(resource.RLIMIT_NOFILE, 4)),
             set(),
             DONE,
-            seen,
+            counts,
         )
-    lab.report("one descriptor for files", seen)
+    lab.report("one descriptor for files", counts)
 
 
 def full_disk(lab: Lab) -> None:
     """Standard output on a full disk; a replay on a full disk."""
-    seen: Counter = collections.Counter()
+    counts: Counter = collections.Counter()
     for command in COMMANDS:
         with open("/dev/full", "wb") as full:
             lab.expect(
@@ -115,99 +115,99 @@ def full_disk(lab: Lab) -> None:
                 lab.run(command, stdout=full),
                 {"output: write"},
                 FAILED_STREAM,
-                seen,
+                counts,
             )
     rehearse = command_named("rehearse")
-    kept = lab.folder / "kept0.jsonl"
-    kept.unlink()
-    kept.symlink_to("/dev/full")
+    kept_folder = lab.folder / "kept0.jsonl"
+    kept_folder.unlink()
+    kept_folder.symlink_to("/dev/full")
     lab.expect(
         "a replay on a full disk",
         rehearse,
         lab.run(rehearse),
         {"kept0.jsonl: write"},
         FAILED_STREAM,
-        seen,
+        counts,
     )
-    kept.unlink()
-    lab.report("a full disk", seen)
+    kept_folder.unlink()
+    lab.report("a full disk", counts)
 
 
 def closed_streams(lab: Lab) -> None:
     """A reader that is gone, and streams that were closed before the program began."""
-    seen: Counter = collections.Counter()
+    counts: Counter = collections.Counter()
     for command in COMMANDS:
         reader, writer = os.pipe()
         os.close(reader)
-        found = lab.run(command, stdout=writer)
+        result = lab.run(command, stdout=writer)
         os.close(writer)
         lab.expect(
             "a reader that is gone",
             command,
-            found,
+            result,
             {"output: write"},
             FAILED_STREAM,
-            seen,
+            counts,
         )
-        found = lab.run(command, lambda: os.close(1))
+        result = lab.run(command, lambda: os.close(1))
         lab.expect(
-            "a closed output", command, found, {"output: write"}, FAILED_STREAM, seen
+            "a closed output", command, result, {"output: write"}, FAILED_STREAM, counts
         )
-        found = lab.run(command, lambda: os.close(0))
+        result = lab.run(command, lambda: os.close(0))
         lab.expect(
             "a closed input",
             command,
-            found,
-            {f"{command.given}: read"},
+            result,
+            {f"{command.stdin}: read"},
             FAILED_STREAM,
-            seen,
+            counts,
         )
-    lab.report("readers that are gone, and streams that are closed", seen)
+    lab.report("readers that are gone, and streams that are closed", counts)
 
 
 def strange_files(lab: Lab) -> None:
     """A folder for a file, no file at all, and a replay that grows while it is read and
     never ends whole."""
-    seen: Counter = collections.Counter()
+    counts: Counter = collections.Counter()
     (lab.folder / "folder").mkdir()
     for command in COMMANDS:
         if not command.reads:
             continue
         for name in ("folder", "none"):
             words = [word.replace(command.reads, name) for word in command.words]
-            found = lab.run(command._replace(words=words))
+            result = lab.run(command._replace(words=words))
             lab.expect(
                 f"{name} for a file",
                 command,
-                found,
+                result,
                 {f"{name}: read"},
                 FAILED_STREAM,
-                seen,
+                counts,
             )
     judge = command_named("judge")
     whole = (lab.folder / WHOLE_OF_PART).read_bytes()
     for cut in range(0, len(whole), 997):
         fifo = lab.folder / "grows.jsonl"
         os.mkfifo(fifo)
-        feeder = threading.Thread(target=feed, args=(fifo, whole, cut))
+        feeder = threading.Thread(target=write_front, args=(fifo, whole, cut))
         feeder.start()
-        found = lab.run(judge._replace(words=["judge", "grows.jsonl"]))
+        result = lab.run(judge._replace(words=["judge", "grows.jsonl"]))
         feeder.join()
         fifo.unlink()
         lab.expect(
             "a replay that grows",
             judge,
-            found,
+            result,
             {"grows.jsonl: head", "grows.jsonl: end"},
             REFUSED_TEXT,
-            seen,
+            counts,
         )
     lab.report(
-        "folders, files that are not there, and replays that grow and stop", seen
+        "folders, files that are not there, and replays that grow and stop", counts
     )
 
 
-def feed(fifo: pathlib.Path, whole: bytes, cut: int) -> None:
+def write_front(fifo: pathlib.Path, whole: bytes, cut: int) -> None:
     """Writes a front of a text, in two pieces."""
     with contextlib.suppress(BrokenPipeError), open(fifo, "wb") as out:
         out.write(whole[: cut // 2])
@@ -215,13 +215,13 @@ def feed(fifo: pathlib.Path, whole: bytes, cut: int) -> None:
         out.write(whole[cut // 2 : cut])
 
 
-def served(lab: Lab, sessions: int, limit: Callable[[], None]) -> Run:
+def serve_limited(lab: Lab, sessions: int, limit: Callable[[], None]) -> Run:
     """Serves the first tournament with a limit, to clients that connect and close."""
     lab.runs += 1
     server = Server(
         [
             lab.program,
-            SERVED,
+            SERVE,
             "examples/first.toml",
             "--sessions",
             sessions,
@@ -238,8 +238,8 @@ def served(lab: Lab, sessions: int, limit: Callable[[], None]) -> Run:
     with contextlib.ExitStack() as clients, contextlib.suppress(OSError):
         for _ in range(sessions if server.first else 0):
             clients.enter_context(server.connect())
-    run = ended(server.child)
-    return run._replace(printed=server.first + run.printed)
+    run = end_of(server.child)
+    return run._replace(stdout=server.first + run.stdout)
 
 
 # each part takes a descriptor while a contest goes on; without one the replay is whole
@@ -252,37 +252,37 @@ NO_PART = re.compile(
 def servers(lab: Lab) -> None:
     """A contest of many sessions with little memory, so that threads cannot start, and
     with few descriptors."""
-    seen: Counter = collections.Counter()
+    counts: Counter = collections.Counter()
     limits = [
-        ("memory", resource.RLIMIT_AS, most * MIB)
-        for most in (*range(8, 65, 8), 128, 256, 512, 1024)
+        ("memory", resource.RLIMIT_AS, limit * MIB)
+        for limit in (*range(8, 65, 8), 128, 256, 512, 1024)
     ]
     limits += [
-        ("descriptors", resource.RLIMIT_NOFILE, most) for most in (4, 5, 6, 8, 16)
+        ("descriptors", resource.RLIMIT_NOFILE, limit) for limit in (4, 5, 6, 8, 16)
     ]
-    for what, kind, most in limits:
-        found = served(lab, SESSIONS, limited(kind, most))
-        lines = found.printed.decode(errors="replace").splitlines()
-        told = {line.rpartition(": ")[2] for line in found.told.splitlines()}
+    for what, kind, limit in limits:
+        run = serve_limited(lab, SESSIONS, limiter(kind, limit))
+        lines = run.stdout.decode(errors="replace").splitlines()
+        errors = {line.rpartition(": ")[2] for line in run.stderr.splitlines()}
         if (
-            found.status == DONE
+            run.status == DONE
             and len(lines) == 6
-            and all(map(NO_PART.fullmatch, found.told.splitlines()))
+            and all(map(NO_PART.fullmatch, run.stderr.splitlines()))
         ):
-            seen["served without all parts" if told else "served"] += 1
-        elif (found.status, told) in (
+            counts["served without all parts" if errors else "served"] += 1
+        elif (run.status, errors) in (
             (NO_MEMORY, {"memory"}),
             (FAILED_STREAM, {"read"}),
             (FAILED_STREAM, {"listen"}),
             (FAILED_STREAM, {"write"}),
             (NO_THREADS, {"threads"}),
         ):
-            seen["".join(told)] += 1
+            counts["".join(errors)] += 1
         else:
             lab.faults.append(
-                f"a server with {most} of {what}: status {found.status}, `{found.told.strip()[:100]}`"
+                f"a server with {limit} of {what}: status {run.status}, `{run.stderr.strip()[:100]}`"
             )
-    lab.report("a server with little memory or few descriptors", seen)
+    lab.report("a server with little memory or few descriptors", counts)
 
 
 def main() -> int:

@@ -26,7 +26,7 @@ from typing import Any, Deque, Dict, List
 
 from arena_lab.rules.networks import ring as ring_of
 from tests.support.cases import raise_descriptors
-from tests.support.counts import concluded
+from tests.support.counts import report_counts
 from tests.support.servers import Server
 from tests.support.tournaments import match, write_cup
 
@@ -50,7 +50,7 @@ PATIENCE = 60
 AT_ONCE = struct.pack("ii", 1, 0)
 
 
-class Timed(Agent):
+class TimedAgent(Agent):
     """An agent that notes how long each answer takes, and how often it asked to
     enter."""
 
@@ -58,37 +58,37 @@ class Timed(Agent):
     tries = 0
 
     def _ask(self, command: Dict[str, Any]) -> Dict[str, Any]:
-        begun = time.monotonic()
-        Timed.tries += command["do"] == "enter"
+        start = time.monotonic()
+        TimedAgent.tries += command["do"] == "enter"
         try:
             return super()._ask(command)
         finally:
-            Timed.slowest = max(Timed.slowest, time.monotonic() - begun)
+            TimedAgent.slowest = max(TimedAgent.slowest, time.monotonic() - start)
 
 
 def flood(port: int, rate: float, over: Any, count: Any) -> None:
     """Connects and says nothing, until it is over."""
-    held: Deque[socket.socket] = collections.deque()
-    begun = time.monotonic()
-    came = 0
+    held_links: Deque[socket.socket] = collections.deque()
+    start = time.monotonic()
+    arrivals = 0
     while not over.is_set():
-        if came > (time.monotonic() - begun) * rate:
+        if arrivals > (time.monotonic() - start) * rate:
             time.sleep(0.001)
             continue
         client = socket.socket()
         client.setsockopt(socket.SOL_SOCKET, socket.SO_LINGER, AT_ONCE)
-        client.bind((f"127.0.1.{came % ADDRESSES + 1}", 0))
+        client.bind((f"127.0.1.{arrivals % ADDRESSES + 1}", 0))
         client.setblocking(False)
         client.connect_ex(("127.0.0.1", port))
-        held.append(client)
-        came += 1
-        if len(held) > HELD:
-            held.popleft().close()
-    count.value = came
+        held_links.append(client)
+        arrivals += 1
+        if len(held_links) > HELD:
+            held_links.popleft().close()
+    count.value = arrivals
 
 
 def play(port: int, key: str) -> None:
-    agent = Timed.connect("127.0.0.1", port)
+    agent = TimedAgent.connect("127.0.0.1", port)
     time.sleep(SLOW)
     try:
         with contextlib.suppress(MatchOver):
@@ -129,7 +129,7 @@ def main(words: List[str]) -> int:
         stranger = multiprocessing.Process(
             target=flood, args=(server.port, rate, over, count)
         )
-        begun = time.monotonic()
+        start = time.monotonic()
         stranger.start()
         time.sleep(2)
         agents = [
@@ -146,15 +146,15 @@ def main(words: List[str]) -> int:
             agent.join(max(0.0, until - time.monotonic()))
         over.set()
         stranger.join()
-        took = time.monotonic() - begun
+        took = time.monotonic() - start
         server.child.terminate() if any(agent.is_alive() for agent in agents) else None
-        rows = server.ended().texts()[1].splitlines()[1:]
-    solved = sum(row.split()[2] in ("solved", "guess") for row in rows)
+        rows = server.wait_for_end().texts()[1].splitlines()[1:]
+    solved_count = sum(row.split()[2] in ("solved", "guess") for row in rows)
     print(
-        f"{count.value} connections in {took:.1f} s; {solved} of {TEAMS} teams solved; {Timed.tries} tries of "
-        f"{2 * TEAMS} agents to enter; the slowest answer took {Timed.slowest:.2f} s"
+        f"{count.value} connections in {took:.1f} s; {solved_count} of {TEAMS} teams solved; "
+        f"{TimedAgent.tries} tries of {2 * TEAMS} agents to enter; the slowest answer took {TimedAgent.slowest:.2f} s"
     )
-    return concluded(solved, TEAMS - solved + (stranger.exitcode != 0))
+    return report_counts(solved_count, TEAMS - solved_count + (stranger.exitcode != 0))
 
 
 if __name__ == "__main__":

@@ -14,11 +14,11 @@ import threading
 import time
 from typing import Callable, Dict, List, NamedTuple, Optional, Sequence
 
-from arena_lab.rules.limits import MOST_AGENTS
-from arena_lab.rules.model import spelled
+from arena_lab.rules.limits import MAX_AGENTS
+from arena_lab.rules.model import spell
 from bench.inputs import LONGEST_TEXT, MIB, key
 from bench.servers import MAX_SESSIONS
-from tests.support.counts import Wrong, require
+from tests.support.counts import FailedCheckError, require
 from tests.support.servers import Server, enter
 from tests.support.session_lines import (
     BYE,
@@ -39,7 +39,7 @@ TOP = pathlib.Path(__file__).resolve().parents[2]
 HOST = "127.0.0.1"
 POLITE = 0
 HOSTILE = 1
-STRANGER = MOST_AGENTS - 1
+STRANGER = MAX_AGENTS - 1
 # seconds: within which answers come, and for which a client waits at all
 PROMPT = 2.0
 PATIENCE = 10.0
@@ -48,10 +48,10 @@ RESETS = 8
 FLOODS = 20
 DEAF = 4
 BURST = 32
-# clients that may wait beside each other to be let in, with some to spare
+# clients that may wait for admission at once, with a margin
 WAITING = 200
 SMALL_BUFFER = 4096
-MOST_UNREAD = 32 * MIB
+MAX_UNREAD = 32 * MIB
 
 DEEP = 30_000
 # lines that are no commands
@@ -90,19 +90,23 @@ class Sizes(NamedTuple):
     flood: int = 10 * MIB
 
 
-def hear(client: socket.socket, expected: bytes, limit: float = PROMPT) -> None:
+def hear(client: socket.socket, expectation: bytes, limit: float = PROMPT) -> None:
     """Reads as much as is expected, which is to come within this many seconds."""
     heard = b""
     begin = time.monotonic()
     try:
-        while len(heard) < len(expected):
-            piece = client.recv(len(expected) - len(heard))
+        while len(heard) < len(expectation):
+            piece = client.recv(len(expectation) - len(heard))
             if not piece:
                 break
             heard += piece
     except OSError as fault:
-        raise Wrong(f"{fault}, where {expected[:60]!r} should come") from fault
-    require(heard == expected, f"{heard[:60]!r}, where {expected[:60]!r} should come")
+        raise FailedCheckError(
+            f"{fault}, where {expectation[:60]!r} should come"
+        ) from fault
+    require(
+        heard == expectation, f"{heard[:60]!r}, where {expectation[:60]!r} should come"
+    )
     took = time.monotonic() - begin
     require(took <= limit, f"an answer took {took:.1f} s")
 
@@ -114,7 +118,7 @@ def hear_end(client: socket.socket) -> None:
     except ConnectionError:
         return
     except OSError as fault:
-        raise Wrong(f"{fault}, where the connection should end") from fault
+        raise FailedCheckError(f"{fault}, where the connection should end") from fault
     require(not heard, "an answer came, where the connection should end")
 
 
@@ -127,7 +131,8 @@ def wait_for_lines(client: socket.socket, count: int) -> None:
 
 
 def has_heard(client: socket.socket) -> bool:
-    """Whether something has come that was not read, or the connection has ended."""
+    """Returns whether something has come that was not read, or the connection has
+    ended."""
     poll = select.poll()
     poll.register(client, select.POLLIN)
     return bool(poll.poll(0))
@@ -154,8 +159,8 @@ class Siege:
         self.kept: List[socket.socket] = []
         self.slow: Optional[Slow] = None
 
-    def left(self) -> int:
-        """How many sessions are left."""
+    def sessions_left(self) -> int:
+        """Returns how many sessions are left."""
         return self.sizes.sessions - self.sessions
 
     def connect(self, buffer: int = 0) -> socket.socket:
@@ -189,26 +194,28 @@ class Slow(threading.Thread):
     def __init__(self, siege: Siege) -> None:
         super().__init__(daemon=True)
         self.pause = siege.sizes.between_bytes
-        entered = siege.enter(vanishes=True)
-        hear(entered, HERE)
-        self.clients = [(entered, BYE), (siege.connect(), NO_ENTER)]
+        entered_value = siege.enter(vanishes=True)
+        hear(entered_value, HERE)
+        self.clients = [(entered_value, BYE), (siege.connect(), NO_ENTER)]
         self.fault: Optional[str] = None
 
     def run(self) -> None:
         try:
             self.send()
-        except (Wrong, OSError) as fault:
+        except (FailedCheckError, OSError) as fault:
             self.fault = str(fault)
         for client, _ in self.clients:
             client.close()
 
     def send(self) -> None:
-        for place in range(len(LEAVE)):
+        for index in range(len(LEAVE)):
             time.sleep(self.pause)
             if any(has_heard(client) for client, _ in self.clients):
-                raise Wrong("an answer or the end came before the line had ended")
+                raise FailedCheckError(
+                    "an answer or the end came before the line had ended"
+                )
             for client, _ in self.clients:
-                client.sendall(LEAVE[place : place + 1])
+                client.sendall(LEAVE[index : index + 1])
         for client, answer in self.clients:
             hear(client, answer)
 
@@ -221,7 +228,7 @@ def slow_begin(siege: Siege) -> str:
 
 def slow_end(siege: Siege) -> str:
     if siege.slow is None:
-        raise Wrong("they have not begun")
+        raise FailedCheckError("they have not begun")
     siege.slow.join()
     require(not siege.slow.fault, siege.slow.fault)
     return "both were answered when the line had ended, and not before"
@@ -261,19 +268,19 @@ def connect_silently(siege: Siege, count: int) -> str:
 
 def silent(siege: Siege) -> str:
     """Half of the sessions that are left, but no more than may wait to be let in."""
-    return connect_silently(siege, min(WAITING, (siege.left() - LATER) // 2))
+    return connect_silently(siege, min(WAITING, (siege.sessions_left() - LATER) // 2))
 
 
 def silent_all(siege: Siege) -> str:
     """All sessions that are left, while the polite clients go on for some time."""
-    told = connect_silently(siege, siege.left())
+    message = connect_silently(siege, siege.sessions_left())
     time.sleep(3 * siege.sizes.still)
-    return told
+    return message
 
 
 def garbage(siege: Siege) -> str:
-    """Each line comes as the first of a session, and all of them from one that has
-    entered, with blank lines between them."""
+    """Sends each line as the first of a session, and all of them from an admitted
+    session with blank lines in between."""
     for line in GARBAGE:
         with siege.connect() as client:
             client.sendall(line + b"\n")
@@ -324,23 +331,25 @@ def flood(siege: Siege) -> str:
 def taken_unread(clients: Sequence[socket.socket], still: float) -> List[int]:
     """Sends looks without an end; answers how many bytes were taken of each client
     until no more are taken."""
-    numbered = {client.fileno(): client for client in clients}
-    sent = [0] * len(clients)
+    numbered_value = {client.fileno(): client for client in clients}
+    payload = [0] * len(clients)
     poll = select.poll()
-    places = {number: place for place, number in enumerate(numbered)}
-    for number, client in numbered.items():
+    places = {number: index for index, number in enumerate(numbered_value)}
+    for number, client in numbered_value.items():
         client.setblocking(False)
         poll.register(number, select.POLLOUT)
     while ready := poll.poll(still * 1000):
         for number, _ in ready:
-            place = places[number]
+            position = places[number]
             with contextlib.suppress(BlockingIOError):
-                sent[place] += numbered[number].send(LOOKS[sent[place] % len(LOOK) :])
-            if sent[place] > MOST_UNREAD:
-                raise Wrong(
-                    f"{MOST_UNREAD // MIB} MiB of looks were taken of a client that reads no answer"
+                payload[position] += numbered_value[number].send(
+                    LOOKS[payload[position] % len(LOOK) :]
                 )
-    return sent
+            if payload[position] > MAX_UNREAD:
+                raise FailedCheckError(
+                    f"{MAX_UNREAD // MIB} MiB of looks were taken of a client that reads no answer"
+                )
+    return payload
 
 
 def deaf(siege: Siege) -> str:
@@ -350,20 +359,19 @@ def deaf(siege: Siege) -> str:
         siege.enter(SMALL_BUFFER, vanishes=number < DEAF // 2) for number in range(DEAF)
     ]
     clients[0].sendall(
-        spelled({"do": "write", "expect": "", "put": "x" * LONGEST_TEXT}).encode()
-        + b"\n"
+        spell({"do": "write", "expect": "", "put": "x" * LONGEST_TEXT}).encode() + b"\n"
     )
     hear(clients[0], HERE + WRITTEN)
-    taken = taken_unread(clients, siege.sizes.still)
+    duration = taken_unread(clients, siege.sizes.still)
     for client in clients[: DEAF // 2]:
         reset(client)
     siege.kept += clients[DEAF // 2 :]
-    return f"{DEAF} clients read nothing; of the looks of each, {min(taken)} to {max(taken)} bytes were taken"
+    return f"{DEAF} clients read nothing; of the looks of each, {min(duration)} to {max(duration)} bytes were taken"
 
 
 def wrong_keys(siege: Siege) -> str:
     """All sessions that are left; every tenth client has a key that is taken."""
-    count = siege.left()
+    count = siege.sessions_left()
     for number in range(count):
         is_taken = number % 10 == 0
         with siege.connect() as client:
@@ -386,7 +394,7 @@ def beyond(siege: Siege) -> str:
         with client.makefile("rb") as answers:
             heard = answers.readlines()
     if len(heard) != 2 or not heard[0].startswith(b'{"board":') or heard[1] != BYE:
-        raise Wrong(f"the client that came after them heard {heard!r}")
+        raise FailedCheckError(f"the client that came after them heard {heard!r}")
     return (
         f"{count} clients connected and closed, and one that came after them was let in"
     )

@@ -43,8 +43,8 @@ import time
 from typing import Callable, Iterator, List, NamedTuple, Optional, Sequence
 
 from arena_lab.rules.printed import table
-from arena_lab.rules.limits import MOST_AGENTS, MOST_BOARD, MOST_QUOTA
-from arena_lab.rules.model import ENDED, Match, judge, played, spelled
+from arena_lab.rules.limits import MAX_AGENTS, MAX_BOARD, MAX_QUOTA
+from arena_lab.rules.model import ENDED, Match, judge, replay_match, spell
 from arena_lab.rules.networks import ring, text_of
 from bench.inputs import MIB, key, peak_of_child, peak_so_far, tournament
 from bench.servers import MAX_SESSIONS, prepare, serving
@@ -63,7 +63,7 @@ from tests.hostile.hostile_attacks import (
     Sizes,
     hear,
 )
-from tests.support.counts import Wrong, concluded, require
+from tests.support.counts import FailedCheckError, report_counts, require
 from tests.support.session_lines import DEPART, GONE, HERE, OVER
 
 MATCHES = 4
@@ -128,27 +128,27 @@ class Polite(threading.Thread):
         commands for its last way."""
         ahead = self.number
         back = 1 - self.number
-        place = 0
+        position = 0
         is_outward = True
-        used = 0
+        commands_used = 0
         while not self.attacks_are_over.wait(self.between_steps):
-            if used + 3 > MOST_QUOTA - REACH - 1:
+            if commands_used + 3 > MAX_QUOTA - REACH - 1:
                 continue
             board = self.agent.look().board
             self.agent.write(
-                board, f"agent {self.number} was here after {used} commands"
+                board, f"agent {self.number} was here after {commands_used} commands"
             )
-            is_outward = place == 0 or (is_outward and place < REACH)
+            is_outward = position == 0 or (is_outward and position < REACH)
             self.agent.depart(ahead if is_outward else back)
-            place += 1 if is_outward else -1
-            used += 3
-        for _ in range(REACH - place):
+            position += 1 if is_outward else -1
+            commands_used += 3
+        for _ in range(REACH - position):
             self.agent.depart(ahead)
         self.agent.accuse(ahead)
 
 
 class Witness:
-    """A client whose agent is lost, and which so is told when its match is over."""
+    """A client whose agent is lost, so that it learns of the end of its match."""
 
     def __init__(self, siege: Siege) -> None:
         self.socket = siege.enter()
@@ -157,9 +157,9 @@ class Witness:
         self.longest = siege.sizes.turns * siege.sizes.pause / 1000 * 3 + PATIENCE
 
     def wait(self) -> bool:
-        """Whether the match ends, for which there is a limit."""
+        """Returns whether the match ends within a limit."""
         self.socket.settimeout(self.longest)
-        with self.socket, contextlib.suppress(Wrong):
+        with self.socket, contextlib.suppress(FailedCheckError):
             hear(self.socket, OVER, self.longest)
             return True
         return False
@@ -173,7 +173,7 @@ class Ending(NamedTuple):
     status: int
     seconds: float
     peak: int
-    printed: str
+    stdout: str
 
 
 def ending_of(siege: Siege, witness: Witness) -> Ending:
@@ -202,9 +202,11 @@ def match_of(folder: pathlib.Path, number: int) -> Match:
     require(replay.exists(), f"match {number} has no replay")
     text = replay.read_text(encoding="utf-8")
     try:
-        match = played(text)
+        match = replay_match(text)
     except (ValueError, LookupError, TypeError) as fault:
-        raise Wrong(f"the replay of match {number} is none: {fault!r}") from fault
+        raise FailedCheckError(
+            f"the replay of match {number} is none: {fault!r}"
+        ) from fault
     require(
         match.replay() == text,
         f"the replay of match {number} is another when it is played anew",
@@ -213,17 +215,17 @@ def match_of(folder: pathlib.Path, number: int) -> Match:
 
 
 def check_end(ending: Ending) -> str:
-    told = f"status {ending.status}, {ending.seconds:.1f} s after its matches and its clients"
+    reply = f"status {ending.status}, {ending.seconds:.1f} s after its matches and its clients"
     require(ending.is_over, "the matches did not end")
-    require(ending.status == 0, told)
-    return told
+    require(ending.status == 0, reply)
+    return reply
 
 
 def check_memory(ending: Ending, sizes: Sizes) -> str:
     bound = BASE_KIB + EACH_KIB * sizes.sessions
-    told = f"{ending.peak} KiB of {bound} KiB: {BASE_KIB} KiB, and {EACH_KIB} KiB for each of {sizes.sessions} sessions"
-    require(ending.peak <= bound, told)
-    return told
+    text = f"{ending.peak} KiB of {bound} KiB: {BASE_KIB} KiB, and {EACH_KIB} KiB for each of {sizes.sessions} sessions"
+    require(ending.peak <= bound, text)
+    return text
 
 
 def check_replays(matches: Sequence[Match]) -> str:
@@ -235,11 +237,11 @@ def check_polite(client: Polite, match: Match) -> None:
     name = f"client {client.number}"
     require(not client.fault, f"{name}: {client.fault}")
     if client.lines.answers != [
-        spelled(event["reply"])
+        spell(event["reply"])
         for event in match.log
         if event.get("agent") == client.number
     ]:
-        raise Wrong(f"{name} was answered other lines than its replay has")
+        raise FailedCheckError(f"{name} was answered other lines than its replay has")
     require(
         client.lines.slowest <= PROMPT,
         f"an answer to {name} took {client.lines.slowest:.1f} s",
@@ -251,9 +253,9 @@ def check_team(polite: Sequence[Polite], match: Match) -> str:
         check_polite(client, match)
     verdict = judge(match)
     if verdict.outcome != "solved" or verdict.lost:
-        raise Wrong(f"their team's verdict is {verdict}")
-    count = sum(len(one.lines.answers) for one in polite)
-    slowest = max(one.lines.slowest for one in polite)
+        raise FailedCheckError(f"their team's verdict is {verdict}")
+    count = sum(len(first.lines.answers) for first in polite)
+    slowest = max(first.lines.slowest for first in polite)
     return f"{count} answers, the slowest after {slowest * 1000:.0f} ms; solved with {verdict.moves} moves"
 
 
@@ -272,11 +274,11 @@ def check_stranger(folder: pathlib.Path) -> str:
     return "the client that came after all others entered and left"
 
 
-def check_table(printed: str, matches: Sequence[Match]) -> str:
-    expected = table(
+def check_table(output: str, matches: Sequence[Match]) -> str:
+    expectation = table(
         [(f"team-{number}", judge(match)) for number, match in enumerate(matches)]
     )
-    require(printed == expected, f"it should be\n{expected}and is\n{printed}")
+    require(output == expectation, f"it should be\n{expectation}and is\n{output}")
     return f"{len(matches)} rows, by the verdicts on the replays"
 
 
@@ -291,19 +293,19 @@ class Results:
         """Runs one, and prints its line."""
         self.count += 1
         try:
-            told = run()
+            result = run()
         except Exception as fault:
             self.failed += 1
-            told = f"WRONG: {type(fault).__name__}: {fault}"
-        print(f"{name}: {told}", flush=True)
+            result = f"WRONG: {type(fault).__name__}: {fault}"
+        print(f"{name}: {result}", flush=True)
 
 
 def attack(siege: Siege, attacks: Sequence[Attack], results: Results) -> None:
     """Runs the attacks in turn."""
-    for one in attacks:
+    for attack in attacks:
         results.add(
-            one.__name__.replace("_", " "),
-            lambda: f"{one(siege)}; peak {peak_so_far(siege.server.child) / 1024:.1f} MiB",
+            attack.__name__.replace("_", " "),
+            lambda: f"{attack(siege)}; peak {peak_so_far(siege.server.child) / 1024:.1f} MiB",
         )
 
 
@@ -314,7 +316,7 @@ def check(
     folder: pathlib.Path,
     results: Results,
 ) -> None:
-    """Looks at how it ended and what was written."""
+    """Checks the server's end and its files."""
 
     def all_matches() -> List[Match]:
         return [match_of(folder, number) for number in range(MATCHES)]
@@ -327,15 +329,15 @@ def check(
         "vanished clients", lambda: check_vanished(siege, match_of(folder, HOSTILE))
     )
     results.add("the client after all others", lambda: check_stranger(folder))
-    results.add("table", lambda: check_table(ending.printed, all_matches()))
+    results.add("table", lambda: check_table(ending.stdout, all_matches()))
 
 
 @contextlib.contextmanager
-def served(sizes: Sizes, folder: pathlib.Path) -> Iterator[Siege]:
+def serve(sizes: Sizes, folder: pathlib.Path) -> Iterator[Siege]:
     """A server on a tournament in this folder."""
     (folder / "ring.toml").write_text(text_of(ring(NODES)))
     matches = tournament(
-        str(folder / "ring.toml"), MATCHES, MOST_AGENTS, MOST_BOARD, 3, HOLES
+        str(folder / "ring.toml"), MATCHES, MAX_AGENTS, MAX_BOARD, 3, HOLES
     )
     (folder / "cup.toml").write_text(matches)
     with serving(
@@ -347,7 +349,7 @@ def served(sizes: Sizes, folder: pathlib.Path) -> Iterator[Siege]:
 def besiege(sizes: Sizes, attacks: Sequence[Attack], folder: pathlib.Path) -> Results:
     """Has the polite match played under these attacks, and looks at what came of it."""
     results = Results()
-    with served(sizes, folder) as siege:
+    with serve(sizes, folder) as siege:
         polite = [Polite(siege, number) for number in range(2)]
         witness = Witness(siege)
         for client in polite:
@@ -358,9 +360,9 @@ def besiege(sizes: Sizes, attacks: Sequence[Attack], folder: pathlib.Path) -> Re
         for client in polite:
             client.join()
         check(siege, polite, ending_of(siege, witness), folder, results)
-    told = (folder / "errors").read_text()
-    if told:
-        print(f"on standard error the server wrote: {told.strip()}")
+    text = (folder / "errors").read_text()
+    if text:
+        print(f"on standard error the server wrote: {text.strip()}")
     return results
 
 
@@ -379,21 +381,19 @@ def main() -> int:
     parser.add_argument(
         "--quick", action="store_true", help="shorter matches and attacks"
     )
-    given = parser.parse_args()
-    if not LEAST_SESSIONS <= given.sessions <= MAX_SESSIONS:
+    args = parser.parse_args()
+    if not LEAST_SESSIONS <= args.sessions <= MAX_SESSIONS:
         parser.error(f"--sessions takes {LEAST_SESSIONS} to {MAX_SESSIONS}")
     prepare(FILES)
     with tempfile.TemporaryDirectory() as name:
         try:
-            sizes = (QUICK if given.quick else Sizes())._replace(
-                sessions=given.sessions
-            )
-            results = besiege(sizes, ATTACKS[given.attack], pathlib.Path(name))
-        except (Refused, Wrong, OSError) as fault:
+            sizes = (QUICK if args.quick else Sizes())._replace(sessions=args.sessions)
+            results = besiege(sizes, ATTACKS[args.attack], pathlib.Path(name))
+        except (Refused, FailedCheckError, OSError) as fault:
             raise SystemExit(
                 f"hostile_clients: the attack could not begin: {fault}"
             ) from fault
-    return concluded(results.count - results.failed, results.failed)
+    return report_counts(results.count - results.failed, results.failed)
 
 
 if __name__ == "__main__":

@@ -34,7 +34,7 @@ import time
 from typing import Dict, List
 
 from arena_lab.sweep import tables
-from tests.support.counts import concluded
+from tests.support.counts import report_counts
 from tests.support.courses import rows_of_teams, team
 
 TOP = pathlib.Path(__file__).resolve().parents[2]
@@ -160,28 +160,28 @@ NAMES = [name for name in tables.COLUMNS if name not in ("run", "check", "fault"
 def honest(folder: pathlib.Path) -> List[str]:
     """The honest teams of a course's file. One hands in a program in C, which is
     compiled."""
-    made = folder / "cedar"
-    made.mkdir()
+    path = folder / "cedar"
+    path.mkdir()
     subprocess.run(
-        ["cc", "-O2", "-o", str(made / "ring"), str(AGENTS / "ring.c")], check=True
+        ["cc", "-O2", "-o", str(path / "ring"), str(AGENTS / "ring.c")], check=True
     )
     return [
-        team(name, [made] if name == "cedar" else files, command)
+        team(name, [path] if name == "cedar" else files, command)
         for name, (files, command) in HONEST.items()
     ]
 
 
 def hostile(folder: pathlib.Path) -> List[str]:
     """The hostile teams of a course's file."""
-    found = []
+    results = []
     for name, code in HOSTILE.items():
-        place = folder / name
-        place.mkdir()
-        (place / "evil.py").write_text(CONNECTS + code, encoding="utf-8")
+        path = folder / name
+        path.mkdir()
+        (path / "evil.py").write_text(CONNECTS + code, encoding="utf-8")
         for link, leads in (("log", "/proc/kmsg"), ("zero", "/dev/zero"), ("up", "..")):
-            (place / link).symlink_to(leads)
-        found.append(team(name, [place], "python3 evil.py {port} {key} {nodes}"))
-    return found
+            (path / link).symlink_to(leads)
+        results.append(team(name, [path], "python3 evil.py {port} {key} {nodes}"))
+    return results
 
 
 class Grading:
@@ -209,18 +209,18 @@ class Grading:
             *self.engine,
         ]
 
-    def graded(self, course: str, out: str, workers: int) -> float:
+    def grade(self, course: str, out: str, workers: int) -> float:
         """Grades a course; gives how many seconds it took."""
         began = time.monotonic()
-        ran = subprocess.run(
+        result = subprocess.run(
             self.words(course, out, workers), cwd=TOP, capture_output=True, text=True
         )
         took = time.monotonic() - began
-        print(ran.stdout.strip())
+        print(result.stdout.strip())
         self.check(
-            f"{out}: status {ran.returncode} in {took:.1f} s",
-            ran.returncode == 0,
-            ran.stderr,
+            f"{out}: status {result.returncode} in {took:.1f} s",
+            result.returncode == 0,
+            result.stderr,
         )
         return took
 
@@ -231,9 +231,9 @@ class Grading:
             for name, rows in rows_of_teams(self.folder / out).items()
         }
 
-    def check(self, said: str, is_right: bool, more: str = "") -> None:
+    def check(self, text: str, is_right: bool, extra: str = "") -> None:
         print(
-            f"{'ok' if is_right else 'FAILED'}: {said}{'' if is_right else more}",
+            f"{'ok' if is_right else 'FAILED'}: {text}{'' if is_right else extra}",
             flush=True,
         )
         self.passed += is_right
@@ -243,20 +243,20 @@ class Grading:
         """Checks that the honest teams have the rows that they have alone."""
         rows = self.rows(out)
         for name in HONEST:
-            others = [
+            rest = [
                 (mine, own) for mine, own in zip(rows[name], alone[name]) if mine != own
             ]
             self.check(
                 f"{out}: the rows of {name} are the same",
                 rows[name] == alone[name],
-                f" but for {others[:2]}",
+                f" but for {rest[:2]}",
             )
         for name in set(HOSTILE) & set(rows) - {"blind"}:
-            solved = sum(row[9] == "solved" for row in rows[name])
+            solved_count = sum(row[9] == "solved" for row in rows[name])
             by_chance = len(rows[name]) // 4 if name == "guess" else 0
             self.check(
-                f"{out}: {name} solves {solved} of {len(rows[name])}",
-                solved <= by_chance,
+                f"{out}: {name} solves {solved_count} of {len(rows[name])}",
+                solved_count <= by_chance,
             )
             print("   ", {fault for row in rows[name] for fault in row[15:] if fault})
 
@@ -271,7 +271,7 @@ class Grading:
             .format(team_limit=round(MORE * workers * took_alone / len(HONEST)))
         )
         (self.folder / "all.toml").write_text(text)
-        took = self.graded("all.toml", out, workers)
+        took = self.grade("all.toml", out, workers)
         self.compare(out, alone)
         self.check(
             f"{out}: {took:.1f} s, {took / took_alone:.2f} times as long as alone",
@@ -281,13 +281,13 @@ class Grading:
     def two_commands(self, alone: Dict[str, List[List[str]]]) -> None:
         """Two commands at the same time."""
         outs = ["one", "other"]
-        ran = [
+        process = [
             subprocess.Popen(
                 self.words("honest.toml", out, 2), cwd=TOP, stdout=subprocess.DEVNULL
             )
             for out in outs
         ]
-        for child, out in zip(ran, outs):
+        for child, out in zip(process, outs):
             self.check(
                 f"{out} of two commands: status {child.wait()}", child.returncode == 0
             )
@@ -314,8 +314,8 @@ def main() -> int:
     words = parser.parse_args()
     with tempfile.TemporaryDirectory(
         prefix="course-"
-    ) as place, tempfile.TemporaryDirectory() as temporary:
-        folder = pathlib.Path(place)
+    ) as path, tempfile.TemporaryDirectory() as temporary:
+        folder = pathlib.Path(path)
         tempfile.tempdir = temporary
         engine = (
             ["--program", words.program] if words.program else ["--engine", "model"]
@@ -326,28 +326,30 @@ def main() -> int:
         (folder / "honest.toml").write_text(
             HEAD.format(seeds=words.seeds, team_limit=10_000) + "".join(good)
         )
-        mixed = [
+        mixed_value = [
             text
             for number, own in enumerate(good)
             for text in [*bad[2 * number : 2 * number + 2], own]
         ]
-        teams = "".join(mixed).replace("{", "{{").replace("}", "}}")
+        teams = "".join(mixed_value).replace("{", "{{").replace("}", "}}")
         (folder / "teams").write_text(
             HEAD.format(seeds=words.seeds, team_limit="{team_limit}") + teams
         )
         for workers in words.workers:
-            took = grading.graded("honest.toml", f"honest-{workers}", workers)
+            took = grading.grade("honest.toml", f"honest-{workers}", workers)
             alone = grading.rows(f"honest-{workers}")
             grading.compare(
                 f"honest-{workers}", grading.rows(f"honest-{words.workers[0]}")
             )
             grading.with_hostile(workers, alone, took)
         grading.two_commands(alone)
-        left = [path.name for path in pathlib.Path(tempfile.gettempdir()).iterdir()]
-        grading.check(f"left: {left or 'nothing'}", not left)
+        remaining = [
+            path.name for path in pathlib.Path(tempfile.gettempdir()).iterdir()
+        ]
+        grading.check(f"left: {remaining or 'nothing'}", not remaining)
         shutil.rmtree(folder, ignore_errors=True)
         folder.mkdir(exist_ok=True)
-    return concluded(grading.passed, grading.failed)
+    return report_counts(grading.passed, grading.failed)
 
 
 if __name__ == "__main__":

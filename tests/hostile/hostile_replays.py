@@ -21,7 +21,7 @@ import time
 from typing import BinaryIO, Iterator, List, NamedTuple, Tuple
 
 from bench.inputs import MIB, peak_of_child
-from tests.support.counts import concluded
+from tests.support.counts import report_counts
 
 TOP = pathlib.Path(__file__).resolve().parents[2]
 HEAD = (
@@ -35,8 +35,8 @@ BAD = b'{"agent":0,"do":"bad","reply":{"no":"line"}}\n'
 
 
 class Case(NamedTuple):
-    """A text: what it begins with, what is repeated behind that, the fault line, the
-    status, whether it is one line."""
+    """A hostile text: its beginning, the repeated part, the expected fault line and
+    status, and whether it is a single line."""
 
     name: str
     begin: bytes
@@ -85,13 +85,13 @@ def pieces(case: Case, size: int) -> Iterator[bytes]:
     """The text in pieces."""
     piece = case.again * max(1, MIB // len(case.again))
     yield case.begin
-    left = size - len(case.begin)
-    while left > 0:
-        yield piece[:left]
-        left -= len(piece)
+    remaining = size - len(case.begin)
+    while remaining > 0:
+        yield piece[:remaining]
+        remaining -= len(piece)
 
 
-def feed(pipe: BinaryIO, case: Case, size: int) -> None:
+def write_text(pipe: BinaryIO, case: Case, size: int) -> None:
     """Writes the text, as far as the program reads it."""
     try:
         with pipe:
@@ -110,30 +110,32 @@ def run(program: List[str], case: Case, size: int) -> Run:
         stdout=subprocess.DEVNULL,
         stderr=subprocess.PIPE,
     )
-    writer = threading.Thread(target=feed, args=(child.stdin, case, size))
+    writer = threading.Thread(target=write_text, args=(child.stdin, case, size))
     writer.start()
     peak = peak_of_child(child) / 1024
     seconds = time.monotonic() - begin
     writer.join()
     with child.stderr:
-        told = child.stderr.read().decode(errors="replace").strip()
-    return Run(told.partition(": ")[2], child.returncode, seconds, peak)
+        errors = child.stderr.read().decode(errors="replace").strip()
+    return Run(errors.partition(": ")[2], child.returncode, seconds, peak)
 
 
 def faults_of(case: Case, size: int, whole: Run, part: Run) -> List[str]:
-    """What is wrong with the runs of a case."""
-    found = []
-    for one in (whole, part):
-        if (one.fault, one.status) != (case.fault, case.status):
-            found.append(
-                f"`{one.fault}` with status {one.status} for `{case.fault}` with status {case.status}"
+    """Returns the mistakes in the runs of a case."""
+    results = []
+    for first in (whole, part):
+        if (first.fault, first.status) != (case.fault, case.status):
+            results.append(
+                f"`{first.fault}` with status {first.status} for `{case.fault}` with status {case.status}"
             )
     bound = 4 + (3 * size / MIB if case.is_line else 0)
     if whole.peak > bound:
-        found.append(f"{whole.peak:.0f} MiB, more than {bound:.0f}")
+        results.append(f"{whole.peak:.0f} MiB, more than {bound:.0f}")
     if whole.seconds > 8 * part.seconds + 1:
-        found.append(f"{whole.seconds:.1f} s, but a quarter takes {part.seconds:.1f} s")
-    return found
+        results.append(
+            f"{whole.seconds:.1f} s, but a quarter takes {part.seconds:.1f} s"
+        )
+    return results
 
 
 def words() -> Tuple[List[str], int]:
@@ -142,25 +144,25 @@ def words() -> Tuple[List[str], int]:
     )
     parser.add_argument("program", nargs="?", default=str(TOP / "arena"))
     parser.add_argument("--size", type=int, default=1024 * MIB)
-    given = parser.parse_args()
-    return [given.program], given.size
+    args = parser.parse_args()
+    return [args.program], args.size
 
 
 def main() -> int:
     program, size = words()
-    failed = 0
+    failure_count = 0
     for case in CASES:
         part = run(program, case, size // 4)
         whole = run(program, case, size)
-        found = faults_of(case, size, whole, part)
-        failed += bool(found)
-        wrong = "".join(f"; WRONG: {one}" for one in found)
+        faults = faults_of(case, size, whole, part)
+        failure_count += bool(faults)
+        wrong = "".join(f"; WRONG: {fault}" for fault in faults)
         print(
             f"{case.name}: {whole.fault}, status {whole.status}; {whole.seconds:.2f} s, {whole.peak:.0f} MiB; "
             f"a quarter {part.seconds:.2f} s, {part.peak:.0f} MiB{wrong}",
             flush=True,
         )
-    return concluded(len(CASES) - failed, failed)
+    return report_counts(len(CASES) - failure_count, failure_count)
 
 
 if __name__ == "__main__":

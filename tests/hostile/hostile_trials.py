@@ -13,10 +13,10 @@ import threading
 import time
 from typing import Any, Dict, List, Tuple
 
-from arena_lab.sandbox.processes import listed, words_of
+from arena_lab.sandbox.processes import process_numbers, command_words
 from tests.support import halls
-from tests.support.counts import concluded
-from tests.support.halls import Served
+from tests.support.counts import report_counts
+from tests.support.halls import ServedHall
 
 EDITOR = 'editor = { languages = ["python"], seconds = 12 }'
 ENTERS = """import sys
@@ -60,10 +60,10 @@ ATTACKS: Dict[str, Tuple[str, str]] = {
 }
 
 
-class Attacked:
-    """A hall, and what has gone wrong in it."""
+class AttackedHall:
+    """A hall under attack, with the mistakes noticed."""
 
-    def __init__(self, hall: Served) -> None:
+    def __init__(self, hall: ServedHall) -> None:
         self.hall = hall
         self.tokens = hall.tokens()
         self.faults: List[str] = []
@@ -76,55 +76,59 @@ class Attacked:
             self.faults.append(what)
             print(f"FAULT {what}", flush=True)
 
-    def asked(self, name: str, files: Any) -> Any:
+    def request(self, name: str, files: Any) -> Any:
         body = {"language": "python", "files": files, "kind": "play"}
         body["network"] = "ring of 5"
         return self.hall.ask("POST", "/api/trials", self.tokens[name], body)
 
-    def tried(self, name: str, agent: str = "") -> Any:
-        """A trial of an agent, or of the kit's, which has ended."""
+    def run_trial(self, name: str, agent: str = "") -> Any:
+        """Runs a trial of an agent (default: the kit's) to its end."""
         kit = self.hall.ask("GET", "/api/drafts/python", self.tokens[name]).json()
         files = {**kit["files"], **({"agent.py": agent} if agent else {})}
-        path = f"/api/trials/{self.asked(name, files).json()['id']}"
+        path = f"/api/trials/{self.request(name, files).json()['id']}"
 
-        def ended() -> Any:
-            told = self.hall.ask("GET", path, self.tokens[name]).json()
-            return told if told["state"] in ("over", "lost") else None
+        def ended_trial() -> Any:
+            reply = self.hall.ask("GET", path, self.tokens[name]).json()
+            return reply if reply["state"] in ("over", "lost") else None
 
-        return self.hall.wait(ended, f"{name}'s trial has ended", SECONDS)
+        return self.hall.wait(ended_trial, f"{name}'s trial has ended", SECONDS)
 
-    def attack(self, name: str, agent: str, wanted: str) -> None:
-        told = self.tried("birch", agent)
-        found = told["found"] or {"right": False, "said": [told["fault"]]}
-        said = " ".join([*found["said"], *found.get("written", {}).values()])
-        is_told = wanted in said or told["state"] == "lost"
-        self.check(not found["right"] and is_told, f"{name}: {said[:300]}")
-        self.check("REACHED" not in said, f"{name} has reached something: {said[:300]}")
+    def attack(self, name: str, agent: str, expectation: str) -> None:
+        message = self.run_trial("birch", agent)
+        result = message["found"] or {"right": False, "said": [message["fault"]]}
+        output = " ".join([*result["said"], *result.get("written", {}).values()])
+        is_told = expectation in output or message["state"] == "lost"
+        self.check(not result["right"] and is_told, f"{name}: {output[:300]}")
+        self.check(
+            "REACHED" not in output, f"{name} has reached something: {output[:300]}"
+        )
 
     def be_honest(self, is_over: threading.Event) -> None:
-        """Tries the kit again and again."""
+        """Repeats trials of the kit."""
         while not is_over.is_set():
-            told = self.tried("cedar")
-            is_right = bool(told["found"] and told["found"]["right"])
+            message = self.run_trial("cedar")
+            is_right = bool(message["found"] and message["found"]["right"])
             self.honest += is_right
-            self.check(is_right, f"the honest program: {told['fault']} {told['found']}")
+            self.check(
+                is_right, f"the honest program: {message['fault']} {message['found']}"
+            )
 
     def requests(self) -> None:
         """What is too large, too deep, or too many at once."""
         for size, status in ((200_000, 413), (7_000_000, 413)):
-            told = self.asked("amber", {"agent.py": "x" * size})
-            self.check(told.status == status, f"{size} bytes: {told.status}")
+            reply = self.request("amber", {"agent.py": "x" * size})
+            self.check(reply.status == status, f"{size} bytes: {reply.status}")
         for body in (b"[" * 100_000, b'{"files": ' * 50_000, b"\xff", b""):
-            told = self.hall.send(
+            reply = self.hall.send(
                 "POST", "/api/trials", self.tokens["amber"], body, "application/json"
             )
-            is_refused = told.status in (400, 404)
-            self.check(is_refused, f"{body[:9]!r}: {told.status}")
+            is_refused = reply.status in (400, 404)
+            self.check(is_refused, f"{body[:9]!r}: {reply.status}")
         files = {"agent.py": "import time; time.sleep(9)"}
         answers: List[int] = []
         threads = [
             threading.Thread(
-                target=lambda: answers.append(self.asked("amber", files).status)
+                target=lambda: answers.append(self.request("amber", files).status)
             )
             for _ in range(6)
         ]
@@ -133,32 +137,35 @@ class Attacked:
                 each(thread)
         self.check(sorted(answers) == [201] + [429] * 5, f"six at once: {answers}")
 
-    def left(self) -> List[str]:
+    def processes_left(self) -> List[str]:
         """Processes of programs."""
-        found = [" ".join(words_of(process)) for process in listed()]
-        return [it for it in found if "python3 agent.py" in it]
+        results = [" ".join(command_words(process)) for process in process_numbers()]
+        return [result for result in results if "python3 agent.py" in result]
 
 
 def main(program: str) -> int:
     os.environ["ARENA_PROGRAM"] = program
-    with halls.served(EDITOR) as hall:
-        it = Attacked(hall)
+    with halls.serve_hall(EDITOR) as hall:
+        attacked_hall = AttackedHall(hall)
         is_over = threading.Event()
-        honest = threading.Thread(target=it.be_honest, args=(is_over,))
+        honest = threading.Thread(target=attacked_hall.be_honest, args=(is_over,))
         honest.start()
-        known = {"folder": str(hall.folder), "port": hall.port}
+        facts = {"folder": str(hall.folder), "port": hall.port}
         try:
-            for name, (agent, wanted) in ATTACKS.items():
-                text = agent.format(**known) if "{folder" in agent else agent
-                it.attack(name, text, wanted)
-            it.requests()
+            for name, (agent, attack) in ATTACKS.items():
+                text = agent.format(**facts) if "{folder" in agent else agent
+                attacked_hall.attack(name, text, attack)
+            attacked_hall.requests()
         finally:
             is_over.set()
             honest.join()
-        it.check(it.honest > 0, "no honest program was tried")
+        attacked_hall.check(attacked_hall.honest > 0, "no honest program was tried")
     time.sleep(1)
-    it.check(not it.left(), f"processes are left: {it.left()}")
-    return concluded(it.right, len(it.faults))
+    attacked_hall.check(
+        not attacked_hall.processes_left(),
+        f"processes are left: {attacked_hall.processes_left()}",
+    )
+    return report_counts(attacked_hall.right, len(attacked_hall.faults))
 
 
 if __name__ == "__main__":

@@ -24,10 +24,10 @@ import time
 from collections import Counter
 from typing import Any, Dict, List
 
-from arena_lab.rules.model import judge, played
+from arena_lab.rules.model import judge, replay_match
 from tests.support import halls
-from tests.support.counts import concluded
-from tests.support.halls import Served, play
+from tests.support.counts import report_counts
+from tests.support.halls import ServedHall, play
 
 ENDED = ("over", "lost", "cancelled")
 NAMES = ("web", "worker 0", "worker 1")
@@ -36,79 +36,81 @@ NAMES = ("web", "worker 0", "worker 1")
 class Team:
     """A team that asks for attempts and plays them, whatever happens to the hall."""
 
-    def __init__(self, hall: Served, token: str) -> None:
+    def __init__(self, hall: ServedHall, token: str) -> None:
         self._hall = hall
         self._token = token
         self.numbers: List[int] = []
         self.over: Dict[int, Any] = {}
 
-    def asked(self, how: str, path: str, body: Any = None) -> Any:
+    def request(self, how: str, path: str, body: Any = None) -> Any:
         """What the hall answers, or nothing if it does not answer."""
         with contextlib.suppress(OSError, http.client.HTTPException):
-            told = self._hall.ask(how, path, self._token, body)
-            return told.json() if told.status in (200, 201) else None
+            reply = self._hall.ask(how, path, self._token, body)
+            return reply.json() if reply.status in (200, 201) else None
         return None
 
     def play(self, is_over: threading.Event) -> None:
         while not is_over.is_set():
-            told = self.asked("POST", "/api/matches", {"network": "ring of 5"})
-            if told is None:
+            reply = self.request("POST", "/api/matches", {"network": "ring of 5"})
+            if reply is None:
                 time.sleep(0.3)
                 continue
-            self.numbers.append(told["id"])
-            self.end(told["id"], is_over)
+            self.numbers.append(reply["id"])
+            self.end(reply["id"], is_over)
 
     def end(self, number: int, is_over: threading.Event) -> None:
         """Plays an attempt to its end, again if it begins anew."""
         keys: Any = None
         while not is_over.is_set():
-            told = self.asked("GET", f"/api/matches/{number}")
-            if told is not None and told["state"] in ENDED:
-                self.over[number] = halls.came(told)
+            reply = self.request("GET", f"/api/matches/{number}")
+            if reply is not None and reply["state"] in ENDED:
+                self.over[number] = halls.result_of(reply)
                 return
-            now = [it["keys"] for it in told["matches"]] if told is not None else []
+            now = (
+                [match["keys"] for match in reply["matches"]]
+                if reply is not None
+                else []
+            )
             if now and now != keys:
                 keys = now
                 with contextlib.suppress(OSError):
-                    play(told)
+                    play(reply)
             time.sleep(0.2)
 
     def faults(self) -> List[str]:
         """What is wrong with the team's attempts at the end."""
-        found = []
+        results = []
         for number in self.numbers:
-            told = self._hall.over(self._token, number)
-            if number in self.over and halls.came(told) != self.over[number]:
-                found.append(
-                    f"attempt {number} has changed: {self.over[number]} and {halls.came(told)}"
+            reply = self._hall.over(self._token, number)
+            if number in self.over and halls.result_of(reply) != self.over[number]:
+                results.append(
+                    f"attempt {number} has changed: {self.over[number]} and {halls.result_of(reply)}"
                 )
-            for it in told["matches"] if told["state"] == "over" else []:
+            for it in reply["matches"] if reply["state"] == "over" else []:
                 replay = self._hall.ask(
                     "GET", f"/api/matches/{number}/replays/{it['number']}", self._token
                 ).body
-                match = played(replay.decode())
+                match = replay_match(replay.decode())
                 verdict = judge(match)._asdict()
                 told_of_it = {name: it["verdict"][name] for name in verdict}
-                # of a match that nobody has entered, or not after a fault
+                # verdicts of a match without an agent, or after a fault
                 is_empty = it["verdict"]["outcome"] in ("absent", "cut")
                 if (
                     match.replay().encode() != replay
                     or not is_empty
                     and verdict != told_of_it
                 ):
-                    found.append(
+                    results.append(
                         f"attempt {number} has the verdict {it['verdict']}, and its replay {verdict}"
                     )
-        return found
+        return results
 
 
-def kill_one(hall: Served, chance: random.Random) -> str:
+def kill_one(hall: ServedHall, rng: random.Random) -> str:
     """Kills a process that is drawn; gives its name."""
     servers = hall.servers()
-    name = chance.choice([*NAMES, *(["a server"] if servers else [])])
-    number = (
-        chance.choice(servers) if name == "a server" else hall.processes().get(name)
-    )
+    name = rng.choice([*NAMES, *(["a server"] if servers else [])])
+    number = rng.choice(servers) if name == "a server" else hall.processes().get(name)
     with contextlib.suppress(ProcessLookupError, TypeError):
         os.kill(number, signal.SIGKILL)
     return name
@@ -127,10 +129,10 @@ def main() -> int:
     parser.add_argument("--seed", metavar="S", type=int, default=1)
     words = parser.parse_args()
     os.environ["ARENA_PROGRAM"] = str(pathlib.Path(words.program).resolve())
-    chance = random.Random(words.seed)
-    killed = Counter()
+    rng = random.Random(words.seed)
+    counts = Counter()
     is_over = threading.Event()
-    with halls.served(workers=2) as hall:
+    with halls.serve_hall(workers=2) as hall:
         teams = [Team(hall, token) for token in hall.tokens().values()]
         threads = [
             threading.Thread(target=team.play, args=(is_over,)) for team in teams
@@ -139,8 +141,8 @@ def main() -> int:
             thread.start()
         limit = time.monotonic() + words.seconds
         while time.monotonic() < limit:
-            killed[kill_one(hall, chance)] += 1
-            time.sleep(chance.uniform(0.2, 3))
+            counts[kill_one(hall, rng)] += 1
+            time.sleep(rng.uniform(0.2, 3))
         is_over.set()
         for thread in threads:
             thread.join()
@@ -156,8 +158,8 @@ def main() -> int:
         faults.append(f"matches were lost, or none was played: {dict(states)}")
     for fault in faults:
         print(f"FAILED {fault}")
-    print(f"killed {dict(killed)}; attempts {dict(states)}")
-    return concluded(sum(states.values()) - len(faults), len(faults))
+    print(f"killed {dict(counts)}; attempts {dict(states)}")
+    return report_counts(sum(states.values()) - len(faults), len(faults))
 
 
 if __name__ == "__main__":

@@ -25,41 +25,41 @@ CASES = Cases(BESIDE)
 case = CASES.case
 
 
-def heard(program: str, folder: pathlib.Path, *options: str, **more: object) -> Server:
+def heard(program: str, folder: pathlib.Path, *options: str, **extra: object) -> Server:
     """A server whose operator can say something."""
     return serving(
-        program, folder, *options, stdin=subprocess.PIPE, **{"turns": LONG, **more}
+        program, folder, *options, stdin=subprocess.PIPE, **{"turns": LONG, **extra}
     )
 
 
-def asked(server: Server, teams: int = 2) -> str:
+def status_text(server: Server, teams: int = 2) -> str:
     """What the operator is told that asks for the status. It ends with a row for each
     team."""
     server.says(b"status\n")
-    told = server.tells("closed now:\n")
-    while len(ROW.findall(told.rpartition("closed now:\n")[2])) < teams:
-        told += server.tells("\n")
-    return told
+    log = server.tells("closed now:\n")
+    while len(ROW.findall(log.rpartition("closed now:\n")[2])) < teams:
+        log += server.tells("\n")
+    return log
 
 
-def found(pattern: str, text: str) -> Tuple[str, ...]:
+def match_groups(pattern: str, text: str) -> Tuple[str, ...]:
     match = re.search(pattern, text, re.M)
     require(match, f"{pattern!r} is not in {text!r}")
     return match.groups()
 
 
-def played(
+def start_server(
     program: str,
     folder: pathlib.Path,
     matches: Sequence[Fixture],
     delays: Optional[Delays] = None,
-    **more: object,
+    **extra: object,
 ) -> Server:
     """A server of a tournament of these matches."""
     write_cup(folder, matches, delays)
-    return serve(program, folder, **{"turns": LONG, "stdin": subprocess.PIPE, **more})
+    return serve(program, folder, **{"turns": LONG, "stdin": subprocess.PIPE, **extra})
 
 
-def on_ring(*teams: str, **more: int) -> List[Fixture]:
+def on_ring(*teams: str, **extra: int) -> List[Fixture]:
     """A match for each team on the ring of eight nodes."""
-    return [match(team, ring(8), [4], **more) for team in teams]
+    return [match(team, ring(8), [4], **extra) for team in teams]

@@ -10,7 +10,7 @@ import termios
 import time
 from typing import Iterator, List, Sequence, Tuple
 
-from tests.hostile.two_teams import TEAMS, answer, entered, goes_on, serving
+from tests.hostile.two_teams import TEAMS, answer, entered_agent, goes_on, serving
 from tests.support.cases import Cases
 from tests.support.counts import require, wants
 from tests.support.servers import Server, enter
@@ -36,44 +36,48 @@ def closed_in(folder: pathlib.Path) -> List[str]:
     "the operator closes all matches: the replays are written, the table is printed, and the server ends"
 )
 def operator_closes(program: str, folder: pathlib.Path) -> None:
-    with serving(program, folder, turns=LONG, stdin=subprocess.PIPE) as server, entered(
-        server, "red-0"
-    ):
+    with serving(
+        program, folder, turns=LONG, stdin=subprocess.PIPE
+    ) as server, entered_agent(server, "red-0"):
         server.says(b"clo")
         time.sleep(0.3)
         server.says(b"se\n")
-        status, printed, told = server.ended().texts()
+        status, output, errors = server.wait_for_end().texts()
     wants("the status", status, 0)
     wants(
         "the teams of the table",
-        sorted(line.split()[1] for line in printed.splitlines()[1:]),
+        sorted(line.split()[1] for line in output.splitlines()[1:]),
         sorted(TEAMS),
     )
     wants("the replays", closed_in(folder), ["match0.jsonl", "match1.jsonl"])
-    require("serve: the operator closes all matches\n" in told, f"told was {told!r}")
+    require(
+        "serve: the operator closes all matches\n" in errors, f"told was {errors!r}"
+    )
 
 
 def closes_one(program: str, folder: pathlib.Path, game: int) -> None:
-    closed = TEAMS[game]
-    other = TEAMS[1 - game]
+    closing = TEAMS[game]
+    second = TEAMS[1 - game]
     with serving(
         program, folder, "--log", turns=LONG, stdin=subprocess.PIPE
-    ) as server, entered(server, f"{closed}-0") as ends, entered(
-        server, f"{other}-0"
+    ) as server, entered_agent(server, f"{closing}-0") as ends, entered_agent(
+        server, f"{second}-0"
     ) as stays:
         server.says(b"close %d\n" % game)
-        server.tells(f"serve: match {game} ({closed}) closed: ")
+        server.tells(f"serve: match {game} ({closing}) closed: ")
         for client, heard in ((ends, OVER), (stays, HERE)):
             client.sendall(LOOK)
             wants("an agent after the close", answer(client, len(heard)), heard)
         server.says(b"close %d\n" % (1 - game))
-        status, printed, told = server.ended().texts()
+        status, output, errors = server.wait_for_end().texts()
     wants(
         "the status and the lines of the table",
-        (status, len(printed.splitlines())),
+        (status, len(output.splitlines())),
         (0, 3),
     )
-    require(f"serve: match {1 - game} ({other}) closed: " in told, f"told was {told!r}")
+    require(
+        f"serve: match {1 - game} ({second}) closed: " in errors, f"told was {errors!r}"
+    )
 
 
 @case("the operator closes one match, and the other goes on")
@@ -89,15 +93,15 @@ def operator_closes_early(program: str, folder: pathlib.Path) -> None:
             program, folder, *options, turns=LONG, pause=pause, stdin=subprocess.PIPE
         ) as server:
             server.says(b"close\n")
-            status, printed, _ = server.ended().texts()
-        wants(f"the status with {options}", (status, len(printed.splitlines())), (0, 3))
+            status, output, _ = server.wait_for_end().texts()
+        wants(f"the status with {options}", (status, len(output.splitlines())), (0, 3))
 
 
 @case(
     "the operator is told how the contest stands: who is missing, the turns, the events, the teams ranked"
 )
 def operator_asks(program: str, folder: pathlib.Path) -> None:
-    # with a log the verdict on a match that was closed is the one that was told then
+    # with a log, the verdict told at the close of a match is final
     for options in ([], ["--log"]):
         asks(program, folder, options)
 
@@ -111,11 +115,11 @@ def asks(program: str, folder: pathlib.Path, options: Sequence[str]) -> None:
         answer(client, 1000)
         # a team that nobody has entered for is not ranked before one that plays
         server.says(b"status\n")
-        told = server.tells("  - red: no agent of match 0 has entered\n")
-        require("  1 blue" in told and "  2 " not in told, f"{told!r}")
-        with entered(server, "red-0"):
+        log = server.tells("  - red: no agent of match 0 has entered\n")
+        require("  1 blue" in log and "  2 " not in log, f"{log!r}")
+        with entered_agent(server, "red-0"):
             server.says(b"status\n")
-            told = server.tells("  2 ")
+            log = server.tells("  2 ")
             server.says(b"close 1\nstatus\n")
             later = server.tells("  2 ")
     for line in (
@@ -127,7 +131,7 @@ def asks(program: str, folder: pathlib.Path, options: Sequence[str]) -> None:
         " serve: if all matches were closed now:\n",
         *RANKED,
     ):
-        require(line in told, f"{line!r} is not told, but {told!r}")
+        require(line in log, f"{line!r} is not told, but {log!r}")
     for line in (
         ", open matches 1\n",
         " serve: match 1 (blue) is closed: turns ",
@@ -168,9 +172,9 @@ def input_floods(program: str, folder: pathlib.Path) -> None:
             with contextlib.suppress(BlockingIOError):
                 os.write(server.child.stdin.fileno(), b"status\nx\n" * 1000)
         goes_on(server, "the flood")
-        status, printed, told = server.ended().texts()
-    wants("the status", (status, len(printed.splitlines())), (0, 3))
-    require("dropped" not in told, "lines of the log were dropped")
+        status, output, errors = server.wait_for_end().texts()
+    wants("the status", (status, len(output.splitlines())), (0, 3))
+    require("dropped" not in errors, "lines of the log were dropped")
 
 
 @case("a client is not the operator, where standard input is closed")
@@ -219,12 +223,12 @@ def behind(program: str, folder: pathlib.Path) -> None:
         os.write(typing, b"close\n")
         time.sleep(1)
         goes_on(server, "what was typed for others")
-        wants("the status", server.ended()[0], 0)
+        wants("the status", server.wait_for_end()[0], 0)
 
 
 @case("a server in front of a terminal hears what is typed there")
 def in_front(program: str, folder: pathlib.Path) -> None:
     with in_terminal(program, folder, False) as (server, typing):
         os.write(typing, b"close\n")
-        wants("the status", server.ended()[0], 0)
+        wants("the status", server.wait_for_end()[0], 0)
         require(time.monotonic() - server.begun <= 5, "it was not closed at once")

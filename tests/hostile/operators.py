@@ -23,16 +23,16 @@ from tests.hostile.operated_servers import (
     ACCUSE,
     CASES,
     LONG,
-    asked,
+    status_text,
     case,
-    found,
+    match_groups,
     heard,
     on_ring,
-    played,
+    start_server,
 )
 from tests.hostile.two_teams import TEAMS, answer, serving, tournament
 from tests.program.killed_servers import appeal_to
-from tests.support.counts import Wrong, require, wants
+from tests.support.counts import FailedCheckError, require, wants
 from tests.support.servers import enter, serve
 from tests.support.session_lines import DEPART, HERE, LEAVE, LOOK
 from tests.support.tournaments import match
@@ -53,42 +53,42 @@ def many_events(program: str, folder: pathlib.Path) -> None:
     ) as client:
         answer(client, 201 * len(HERE))
         time.sleep(1)
-        now = asked(server)
+        now = status_text(server)
         server.says(b"close\n")
-        _status, printed, told = server.ended().texts()
+        _status, output, errors = server.wait_for_end().texts()
     line = next(
-        line for line in (now + told).splitlines() if "match 0 (red) closed" in line
+        line for line in (now + errors).splitlines() if "match 0 (red) closed" in line
     )
-    row = next(line for line in printed.splitlines() if " red " in line).split()
+    row = next(line for line in output.splitlines() if " red " in line).split()
     require(row[2] in line, f"{row} and {line!r}")
     stands = next(line for line in now.splitlines() if " red " in line).split()
     wants("the row of the status", stands[1:], row[1:])
     events = (folder / "match0.jsonl").read_text().count("\n") - 2
-    wants("events", found(r"events (\d+)", line)[0], str(events))
+    wants("events", match_groups(r"events (\d+)", line)[0], str(events))
 
 
 @case("the status is told once for each line that asks for it")
 def status_once(program: str, folder: pathlib.Path) -> None:
     with heard(program, folder) as server:
-        asked(server)
+        status_text(server)
         time.sleep(2.5)
         server.says(b"close\n")
-        told = server.ended().texts()[2]
-    require("serve: sessions" not in told, told)
+        errors = server.wait_for_end().texts()[2]
+    require("serve: sessions" not in errors, errors)
 
 
 @case("the status ranks each match by its own verdict")
 def own_verdicts(program: str, folder: pathlib.Path) -> None:
     with heard(program, folder, "--log") as server, server.connect(
         enter("blue-1") + ACCUSE
-    ) as client, server.connect(enter("red-0")) as other:
+    ) as client, server.connect(enter("red-0")) as second:
         answer(client, len(HERE) + 14)
-        answer(other, len(HERE))
+        answer(second, len(HERE))
         server.says(b"close 0\n")
         server.tells("match 0 (red) closed")
         rows = [
             line.split()[:3]
-            for line in asked(server).splitlines()
+            for line in status_text(server).splitlines()
             if re.match(r" +[12] ", line)
         ]
     wants("rows", rows, [["1", "red", "silent"], ["2", "blue", "wrong"]])
@@ -104,12 +104,12 @@ def own_turns(program: str, folder: pathlib.Path) -> None:
                 stack.enter_context(server.connect(enter(f"blue-{agent}"))), len(HERE)
             )
         time.sleep(1)
-        told = asked(server)
-    red, blue = (
-        int(found(rf"\({team}\) is open: turns (\d+)", told)[0]) for team in TEAMS
+        log = status_text(server)
+    red_team, blue = (
+        int(match_groups(rf"\({team}\) is open: turns (\d+)", log)[0]) for team in TEAMS
     )
-    if red or not blue:
-        raise Wrong(f"red has taken {red} turns, and blue {blue}")
+    if red_team or not blue:
+        raise FailedCheckError(f"red has taken {red_team} turns, and blue {blue}")
 
 
 @case(
@@ -117,7 +117,9 @@ def own_turns(program: str, folder: pathlib.Path) -> None:
 )
 def gathers_as_long_as_said(program: str, folder: pathlib.Path) -> None:
     def turns() -> int:
-        return int(found(r"\(red\) is open: turns (\d+)", asked(server))[0])
+        return int(
+            match_groups(r"\(red\) is open: turns (\d+)", status_text(server))[0]
+        )
 
     with heard(program, folder, "--gather", "24000") as server, server.connect(
         enter("red-0")
@@ -136,10 +138,10 @@ def own_events(program: str, folder: pathlib.Path) -> None:
     ) as client:
         answer(client, 21 * len(HERE))
         time.sleep(1.2)
-        told = asked(server)
+        log = status_text(server)
     wants(
         "events",
-        found(r"\(red\) is open: turns \d+ of \d+ events (\d+)", told)[0],
+        match_groups(r"\(red\) is open: turns \d+ of \d+ events (\d+)", log)[0],
         "21",
     )
 
@@ -149,20 +151,20 @@ def turns_of_a_closed_match(program: str, folder: pathlib.Path) -> None:
     with heard(program, folder, "--log") as server:
         time.sleep(0.5)
         server.says(b"close 1\n")
-        told = server.tells("match 1 (blue) closed") + asked(server)
-    closed = found(r"match 1 \(blue\) closed: turns (\d+) events (\d+)", told)
+        log = server.tells("match 1 (blue) closed") + status_text(server)
+    closing = match_groups(r"match 1 \(blue\) closed: turns (\d+) events (\d+)", log)
     wants(
         "turns and events",
-        found(r"match 1 \(blue\) is closed: turns (\d+) events (\d+)", told),
-        closed,
+        match_groups(r"match 1 \(blue\) is closed: turns (\d+) events (\d+)", log),
+        closing,
     )
 
 
 @case("the status has a line for each of three matches")
 def status_of_three(program: str, folder: pathlib.Path) -> None:
-    with played(program, folder, on_ring("red", "blue", "green")) as server:
-        told = asked(server, 3)
-    wants("matches", told.count(" is open: turns "), 3)
+    with start_server(program, folder, on_ring("red", "blue", "green")) as server:
+        log = status_text(server, 3)
+    wants("matches", log.count(" is open: turns "), 3)
 
 
 @case("a match that is closed is not closed again")
@@ -173,8 +175,8 @@ def closed_once(program: str, folder: pathlib.Path) -> None:
                 answer(client, 200)
         server.tells("match 1 (blue) closed")
         server.says(b"close 1\n")
-        told = asked(server)
-    require("the operator closes match 1" not in told, told)
+        log = status_text(server)
+    require("the operator closes match 1" not in log, log)
 
 
 @case("the lines of the log have the times since the server began")
@@ -182,20 +184,20 @@ def times_of_the_log(program: str, folder: pathlib.Path) -> None:
     with heard(program, folder, "--log") as server:
         time.sleep(2.2)
         server.says(b"close\n")
-        told = server.ended().texts()[2]
-    found(r"^(0:00:0[2-9]) serve: the operator closes all", told)
+        errors = server.wait_for_end().texts()[2]
+    match_groups(r"^(0:00:0[2-9]) serve: the operator closes all", errors)
 
 
 @case("with --log it is told each minute how far the matches are")
 def each_minute(program: str, folder: pathlib.Path) -> None:
     with serving(program, folder, "--log", turns=LONG) as server:
         until = time.monotonic() + 75
-        told = b""
+        message = b""
         os.set_blocking(server.child.stderr.fileno(), False)
-        while time.monotonic() < until and b"is open: turns" not in told:
-            told += server.child.stderr.read() or b""
+        while time.monotonic() < until and b"is open: turns" not in message:
+            message += server.child.stderr.read() or b""
             time.sleep(0.5)
-    require(b"is open: turns" in told, told.decode())
+    require(b"is open: turns" in message, message.decode())
 
 
 @case("of a hundred strangers each is told or counted, and only once")
@@ -204,13 +206,13 @@ def strangers(program: str, folder: pathlib.Path) -> None:
         for _ in range(100):
             with server.connect(b"x\n") as client:
                 answer(client, 100)
-        told = server.tells("more clients played nobody")
+        reply = server.tells("more clients played nobody")
         time.sleep(11)
         server.says(b"close\n")
-        told += server.ended().texts()[2]
-    lines = told.count("it was denied")
-    more = sum(int(count) for count in re.findall(r"serve: (\d+) more clients", told))
-    require(lines + more == 100, f"{lines} lines and {more} more")
+        reply += server.wait_for_end().texts()[2]
+    lines = reply.count("it was denied")
+    extra = sum(int(count) for count in re.findall(r"serve: (\d+) more clients", reply))
+    require(lines + extra == 100, f"{lines} lines and {extra} more")
 
 
 # ---- files
@@ -219,13 +221,13 @@ def strangers(program: str, folder: pathlib.Path) -> None:
 @case("the part of each match has the head of that match")
 def heads_of_parts(program: str, folder: pathlib.Path) -> None:
     matches = [match(team, ring(8), [hole]) for team, hole in zip(TEAMS, (4, 5))]
-    with played(program, folder, matches) as server, server.connect(
+    with start_server(program, folder, matches) as server, server.connect(
         enter("blue-0")
     ) as client:
         answer(client, len(HERE))
         time.sleep(1)
     for number, hole in ((0, 4), (1, 5)):
-        recovered = subprocess.run(
+        recovery = subprocess.run(
             [program, "recover", f"match{number}.jsonl.part"],
             cwd=folder,
             text=True,
@@ -233,7 +235,7 @@ def heads_of_parts(program: str, folder: pathlib.Path) -> None:
         ).stdout
         wants(
             f"the head of match {number}",
-            f'"holes":[{hole}]' in recovered.split("\n")[0],
+            f'"holes":[{hole}]' in recovery.split("\n")[0],
             True,
         )
 
@@ -244,7 +246,7 @@ def part_left_behind(program: str, folder: pathlib.Path) -> None:
         pass
     wants("the part that is left", (folder / "match0.jsonl.part").exists(), True)
     server = serve(program, folder, turns=1)
-    wants("the next server", server.ended()[0], 0)
+    wants("the next server", server.wait_for_end()[0], 0)
     wants(
         "the files",
         sorted(path.name for path in folder.glob("match0*")),
@@ -256,7 +258,7 @@ def part_left_behind(program: str, folder: pathlib.Path) -> None:
     "two prefixes whose files meet are not served beside each other, and no file is touched"
 )
 def prefixes_that_meet(program: str, folder: pathlib.Path) -> None:
-    with played(
+    with start_server(
         program, folder, on_ring(*(f"t{number}" for number in range(12)))
     ) as server:
         with server.connect(enter("t10-0") + LOOK) as client:
@@ -264,17 +266,17 @@ def prefixes_that_meet(program: str, folder: pathlib.Path) -> None:
             time.sleep(1.5)
             before = (folder / "match10.jsonl.part").read_bytes()
             (folder / "match12.jsonl").write_text("of another evening")
-            status, printed, told = (
-                serve(program, folder, prefix="match1", turns=1).ended().texts()
+            status, output, errors = (
+                serve(program, folder, prefix="match1", turns=1).wait_for_end().texts()
             )
-        wants("the second server", (status, printed), (6, ""))
-        wants("what it told", told.splitlines()[-1], "match10.jsonl.part: busy")
+        wants("the second server", (status, output), (6, ""))
+        wants("what it told", errors.splitlines()[-1], "match10.jsonl.part: busy")
         wants("the part", (folder / "match10.jsonl.part").read_bytes(), before)
         wants(
             "another file", (folder / "match12.jsonl").read_text(), "of another evening"
         )
         server.says(b"close\n")
-        wants("the first server", server.ended()[0], 0)
+        wants("the first server", server.wait_for_end()[0], 0)
     wants(
         "the looks of match 10",
         (folder / "match10.jsonl").read_text().count('"do":"look"'),
@@ -297,8 +299,10 @@ def replay_at_close(program: str, folder: pathlib.Path) -> None:
             sorted(path.name for path in folder.glob("match0*")),
             ["match0.jsonl"],
         )
-        other = serve(program, folder, turns=1).ended().texts()[2].splitlines()[-1]
-        wants("what another server told", other, "match0.jsonl.part: busy")
+        second = (
+            serve(program, folder, turns=1).wait_for_end().texts()[2].splitlines()[-1]
+        )
+        wants("what another server told", second, "match0.jsonl.part: busy")
     rows = subprocess.run(
         [program, "table", "red=match0.jsonl"],
         cwd=folder,
@@ -316,10 +320,10 @@ def replay_stays(program: str, folder: pathlib.Path) -> None:
         answer(client, 101 * len(HERE))
         server.says(b"close 0\n")
         time.sleep(2)
-        closed = (folder / "match0.jsonl").read_bytes()
+        data = (folder / "match0.jsonl").read_bytes()
         server.says(b"close\n")
-        wants("the status", server.ended()[0], 0)
-    wants("the replay at the end", (folder / "match0.jsonl").read_bytes(), closed)
+        wants("the status", server.wait_for_end()[0], 0)
+    wants("the replay at the end", (folder / "match0.jsonl").read_bytes(), data)
     wants(
         "the files",
         sorted(path.name for path in folder.glob("match*")),
@@ -331,7 +335,7 @@ def replay_stays(program: str, folder: pathlib.Path) -> None:
 def lock_of_the_user(program: str, folder: pathlib.Path) -> None:
     tournament(folder)
     (folder / "match.lock").write_text("mine")
-    wants("the server", serve(program, folder, turns=1).ended()[0], 0)
+    wants("the server", serve(program, folder, turns=1).wait_for_end()[0], 0)
     wants("the file", (folder / "match.lock").read_text(), "mine")
 
 
@@ -340,7 +344,7 @@ def lock_of_the_user(program: str, folder: pathlib.Path) -> None:
 )
 def turns_of_each_match(program: str, folder: pathlib.Path) -> None:
     for _ in range(2):
-        with played(
+        with start_server(
             program, folder, on_ring(*TEAMS), Delays(2, 2), turns=1500
         ) as server:
             for team, steps in (("red", 3), ("blue", 1)):
@@ -348,12 +352,12 @@ def turns_of_each_match(program: str, folder: pathlib.Path) -> None:
                     enter(f"{team}-0") + DEPART * steps + LEAVE
                 ) as client:
                     answer(client, 10_000)
-            wants("the status", server.ended()[0], 0)
+            wants("the status", server.wait_for_end()[0], 0)
         for number in range(2):
-            judged = subprocess.run(
+            result = subprocess.run(
                 [program, *appeal_to(number)], cwd=folder, capture_output=True
             )
-            wants(f"the appeal of match {number}", judged.returncode, 0)
+            wants(f"the appeal of match {number}", result.returncode, 0)
     wants(
         "files of turns",
         sorted(path.name for path in folder.glob("match*turns*")),

@@ -60,7 +60,7 @@ from tests.hostile.refused_calls import (
     Shim,
     Trials,
     fault_of,
-    judged,
+    judge,
     kind_of,
     places,
     plain_run,
@@ -70,11 +70,11 @@ from tests.hostile.refused_calls import (
 from tests.hostile.refused_servers import refuse_server
 from tests.hostile.refused_tests import refuse_tests
 from tests.program.program_cases import REFUSED_WORDS
-from tests.support.counts import Wrong, require
+from tests.support.counts import FailedCheckError, require
 
 QUICK = 60
 QUICK_SERVED = 40
-MOST_SERVED = 2000
+MAX_SERVED = 2000
 WORKERS = 8
 OTHERS = [
     Command("help", ["--help"], "", None),
@@ -108,12 +108,12 @@ WANTED_TEXTS = {
 
 
 def attempt(
-    trials: Trials, command: Command, mode: str = "", place: int = 0
+    trials: Trials, command: Command, mode: str = "", index: int = 0
 ) -> Attempt:
     """Runs a command in a folder of its own, with this call refused, or none."""
     numbers: Dict[str, int] = {}
     with room_of(trials.lab) as room, trials.shim.counting(
-        numbers, mode, place
+        numbers, mode, index
     ) as variables:
         run = plain_run(trials.lab, command.words, room, command.script, variables)
         replays = replays_in(room)
@@ -123,64 +123,68 @@ def attempt(
 def wheres(folder: pathlib.Path, command: Command, mode: str) -> Set[str]:
     """What a fault of this kind may name: files that the command reads, files that it
     writes, or a stream."""
-    named = {*(word.rpartition("=")[2] for word in command.words), *command.beside}
-    files = {name for name in named if (folder / name).is_file()}
+    names = {*(word.rpartition("=")[2] for word in command.words), *command.beside}
+    files = {name for name in names if (folder / name).is_file()}
     if any(name.endswith(".toml") for name in files):
         files |= {
             f"examples/{path.name}" for path in (folder / "examples").glob("*.toml")
         }
-    written = {
+    writing = {
         "output",
-        *(f"kept{number}.jsonl" for number in range(4) if "kept" in named),
+        *(f"kept{number}.jsonl" for number in range(4) if "kept" in names),
     }
-    read = files | ({command.given} if command.script else set())
+    reader = files | ({command.stdin} if command.script else set())
     made = (
-        read
-        | written
+        reader
+        | writing
         | {"arena", *command.beside}
-        | named & {"kept", "twin", "examples/appeal"}
+        | names & {"kept", "twin", "examples/appeal"}
     )
-    return {"read": read, "write": written, "memory": made}[kind_of(mode)]
+    return {"read": reader, "write": writing, "memory": made}[kind_of(mode)]
 
 
-def is_untold(whole: Run, found: Run) -> bool:
-    """Whether the runs differ in standard error alone, of which only a prefix was
-    written."""
-    return whole != found == found._replace(
-        status=whole.status, printed=whole.printed
-    ) and whole.told.startswith(found.told)
+def is_untold(whole: Run, run: Run) -> bool:
+    """Returns whether the runs differ in standard error alone, of which only a prefix
+    was written."""
+    return whole != run == run._replace(
+        status=whole.status, stdout=whole.stdout
+    ) and whole.stderr.startswith(run.stderr)
 
 
 def outcome(
     mode: str,
     may_name: Set[str],
     whole: Attempt,
-    found: Attempt,
+    attempt: Attempt,
     accepts: Callable[[bytes], bool],
 ) -> str:
     """What came of a run with a call refused."""
-    run = found.run
-    require(found.numbers["refused"] == 1, "the call was not made")
-    if found.did_as(whole):
+    run = attempt.run
+    require(attempt.numbers["refused"] == 1, "the call was not made")
+    if attempt.did_as(whole):
         return "as ever"
-    told = f"status {run.status}, `{run.told.strip()[:200]}`"
+    errors = f"status {run.status}, `{run.stderr.strip()[:200]}`"
     require(
         not mode.startswith("short"),
-        f"a short call made a difference: {told}, {len(run.printed)} bytes printed",
+        f"a short call made a difference: {errors}, {len(run.stdout)} bytes printed",
     )
     require(
-        whole.run.printed.startswith(run.printed),
-        f"another text was printed: {told}, `{run.printed[-200:]!r}`",
+        whole.run.stdout.startswith(run.stdout),
+        f"another text was printed: {errors}, `{run.stdout[-200:]!r}`",
     )
-    for name, text in found.replays.items():
+    for name, text in attempt.replays.items():
         if text != whole.replays.get(name) and accepts(text):
-            raise Wrong(f"{name} is the replay of another match: {told}")
-    if mode == "write" and found.replays == whole.replays and is_untold(whole.run, run):
+            raise FailedCheckError(f"{name} is the replay of another match: {errors}")
+    if (
+        mode == "write"
+        and attempt.replays == whole.replays
+        and is_untold(whole.run, run)
+    ):
         return "untold"
     where = fault_of(mode, run)
-    require(where in may_name, f"it names another place: {told}")
-    if where.startswith("kept") and run.printed != whole.run.printed:
-        raise Wrong(f"a replay keeps back what is printed: {told}")
+    require(where in may_name, f"it names another place: {errors}")
+    if where.startswith("kept") and run.stdout != whole.run.stdout:
+        raise FailedCheckError(f"a replay keeps back what is printed: {errors}")
     return mode
 
 
@@ -190,18 +194,18 @@ def wanted_fault(
     """What is wrong with a run of a command with nothing refused, beside one without
     the library."""
     examples = lab.folder / "examples"
-    wanted = WANTED_TEXTS.get(command.name, plain.printed)
+    expectation = WANTED_TEXTS.get(command.name, plain.stdout)
     if command.name in WANTED:
-        wanted = (examples / WANTED[command.name]).read_bytes()
+        expectation = (examples / WANTED[command.name]).read_bytes()
     if plain != whole.run:
         return "the library makes a difference"
     if plain.status != (REFUSED_WORDS if command in OTHERS[1:] else DONE):
-        return f"status {plain.status}, `{plain.told.strip()[:200]}`"
-    if plain.printed != wanted:
-        return f"another text was printed: `{plain.printed[-200:]!r}`"
-    kept = whole.replays.get("kept0.jsonl")
+        return f"status {plain.status}, `{plain.stderr.strip()[:200]}`"
+    if plain.stdout != expectation:
+        return f"another text was printed: `{plain.stdout[-200:]!r}`"
+    record = whole.replays.get("kept0.jsonl")
     first = (lab.folder / WHOLE_OF_PART).read_bytes()
-    if command.name in ("rehearse", "interactive") and kept != first:
+    if command.name in ("rehearse", "interactive") and record != first:
         return "its replay is not examples/first0.jsonl"
     return None
 
@@ -214,15 +218,15 @@ def refuse_command(trials: Trials, command: Command) -> None:
         lab.faults.append(
             f"{command.name}: no call was counted; is the program linked dynamically?"
         )
-    accepts = functools.lru_cache()(lambda text: judged(lab, text) is not None)
+    accepts = functools.lru_cache()(lambda text: judge(lab, text) is not None)
     for mode in MODES:
         number = whole.numbers[kind_of(mode)]
         may_name = wheres(lab.folder, command, mode)
         trials.alike(
-            lambda place: outcome(
-                mode, may_name, whole, attempt(trials, command, mode, place), accepts
+            lambda index: outcome(
+                mode, may_name, whole, attempt(trials, command, mode, index), accepts
             ),
-            places(number, trials.most),
+            places(number, trials.limit),
             f"{command.name}, {mode} of {number}",
             f"{command.name}, {mode}",
         )
@@ -235,44 +239,50 @@ RECOVERED = ("appeal0.jsonl", "appeal0.turns")
 
 
 def recover_twice(
-    trials: Trials, numbers: Dict[str, int], mode: str = "", place: int = 0
+    trials: Trials, numbers: Dict[str, int], mode: str = "", index: int = 0
 ) -> str:
     """Finishes a contest with this call refused, or none: the replay and the turns are
     whole, or their parts are there. Then finishes it with nothing refused."""
     lab = trials.lab
-    whole, timed = ((lab.folder / "examples" / name).read_bytes() for name in RECOVERED)
+    whole, timed_value = (
+        (lab.folder / "examples" / name).read_bytes() for name in RECOVERED
+    )
     with room_of(lab) as room:
         replay = room / "kept0.jsonl"
         part = room / "kept0.jsonl.part"
         turns = room / "kept0.turns"
         part_of_turns = room / "kept0.turns.part"
         part.write_bytes(b"".join(whole.splitlines(keepends=True)[:-2]))
-        part_of_turns.write_bytes(timed)
-        with trials.shim.counting(numbers, mode, place) as variables:
+        part_of_turns.write_bytes(timed_value)
+        with trials.shim.counting(numbers, mode, index) as variables:
             first = plain_run(lab, RECOVERY, room, variables=variables)
         if not (replay.read_bytes() == whole if replay.exists() else part.exists()):
-            raise Wrong(
+            raise FailedCheckError(
                 f"status {first.status}, and the match is lost: {os.listdir(room)}"
             )
         if not (
-            turns.read_bytes() == timed if turns.exists() else part_of_turns.exists()
+            turns.read_bytes() == timed_value
+            if turns.exists()
+            else part_of_turns.exists()
         ):
-            raise Wrong(
+            raise FailedCheckError(
                 f"status {first.status}, and the turns are lost: {os.listdir(room)}"
             )
         is_finished = (
-            first.printed == CONTEST_TABLE and replay.exists() and turns.exists()
+            first.stdout == CONTEST_TABLE and replay.exists() and turns.exists()
         )
-        if not (is_finished if first.status == DONE else first.told):
-            raise Wrong(f"status {first.status}, printed `{first.printed[-200:]!r}`")
+        if not (is_finished if first.status == DONE else first.stderr):
+            raise FailedCheckError(
+                f"status {first.status}, printed `{first.stdout[-200:]!r}`"
+            )
         again = plain_run(lab, RECOVERY, room)
         if (
             again != Run(DONE, CONTEST_TABLE, "")
             or replay.read_bytes() != whole
-            or turns.read_bytes() != timed
+            or turns.read_bytes() != timed_value
         ):
-            raise Wrong(
-                f"once more: status {again.status}, `{again.told.strip()[:200]}`"
+            raise FailedCheckError(
+                f"once more: status {again.status}, `{again.stderr.strip()[:200]}`"
             )
     return "finished at once" if first.status == DONE else "finished once more"
 
@@ -284,8 +294,8 @@ def refuse_recovery(trials: Trials) -> None:
     for mode in MODES:
         number = numbers[kind_of(mode)]
         trials.alike(
-            lambda place: recover_twice(trials, {}, mode, place),
-            places(number, trials.most),
+            lambda index: recover_twice(trials, {}, mode, index),
+            places(number, trials.limit),
             f"a contest that is finished, {mode} of {number}",
             f"a contest that is finished, {mode}",
         )
@@ -315,21 +325,21 @@ def main() -> int:
         default=WORKERS,
         help="runs at the same time (%(default)s)",
     )
-    given = parser.parse_args()
+    args = parser.parse_args()
     if not shutil.which("gcc"):
         sys.exit("there is no gcc")
-    most, most_served = (QUICK, QUICK_SERVED) if given.quick else (0, MOST_SERVED)
+    limit, most_served = (QUICK, QUICK_SERVED) if args.quick else (0, MAX_SERVED)
     with tempfile.TemporaryDirectory() as name:
-        lab = Lab(given.program, pathlib.Path(name))
-        trials = Trials(lab, Shim.built(lab.folder), most, most_served, given.workers)
+        lab = Lab(args.program, pathlib.Path(name))
+        trials = Trials(lab, Shim.built(lab.folder), limit, most_served, args.workers)
         for command in (*COMMANDS, *OTHERS):
             # on threads, memory is not asked for in the same order each time
             if command.name != ALL_HOLES:
                 lab.part(try_command, trials, command)
         lab.part(refuse_recovery, trials)
         lab.part(refuse_server, trials)
-        if given.tests:
-            lab.part(refuse_tests, trials, given.tests)
+        if args.tests:
+            lab.part(refuse_tests, trials, args.tests)
     return lab.conclude()
 
 

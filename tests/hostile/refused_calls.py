@@ -1,4 +1,5 @@
-"""Runs of the program in which a call is refused, and what a fault may tell of it."""
+"""Runs the program with one system call refused, and checks the faults that it
+reports."""
 import collections
 import concurrent.futures
 import contextlib
@@ -26,9 +27,9 @@ from tests.hostile.commands import (
     NO_THREADS,
     Lab,
     Run,
-    ended,
+    end_of,
 )
-from tests.support.counts import Wrong
+from tests.support.counts import FailedCheckError
 
 SHIM = pathlib.Path(__file__).resolve().with_name("refusals_shim.c")
 KINDS = ["memory", "read", "write"]
@@ -43,8 +44,8 @@ class Shim:
     """What refuses and counts calls: a library that is loaded, or a part of the
     program."""
 
-    def __init__(self, loaded: str = "") -> None:
-        self.variables = {"LD_PRELOAD": loaded} if loaded else {}
+    def __init__(self, loaded_value: str = "") -> None:
+        self.variables = {"LD_PRELOAD": loaded_value} if loaded_value else {}
 
     @classmethod
     def built(cls, folder: pathlib.Path) -> "Shim":
@@ -56,23 +57,23 @@ class Shim:
 
     @contextlib.contextmanager
     def counting(
-        self, numbers: Dict[str, int], mode: str = "", place: int = 0
+        self, numbers: Dict[str, int], mode: str = "", index: int = 0
     ) -> Iterator[Dict[str, str]]:
-        """An environment in which calls are counted, and one is refused if it is named;
-        at the end the numbers."""
-        refuse = {"REFUSE": f"{mode} {place}"} if mode else {}
+        """Yields an environment in which calls are counted and, optionally, one is
+        refused; fills `numbers` at the end."""
+        refuse = {"REFUSE": f"{mode} {index}"} if mode else {}
         with tempfile.NamedTemporaryFile() as file:
             file.write(bytes(8 * (len(COUNTED) + MARKS)))
             file.flush()
             yield {**os.environ, **self.variables, "COUNTS": file.name, **refuse}
-            found = struct.unpack(
+            result = struct.unpack(
                 f"{len(COUNTED) + MARKS}Q", pathlib.Path(file.name).read_bytes()
             )
-        numbers.update(zip(COUNTED, found))
+        numbers.update(zip(COUNTED, result))
         numbers.update(
             {
-                f"mark {place}": mark - 1
-                for place, mark in enumerate(found[len(COUNTED) :])
+                f"mark {index}": mark - 1
+                for index, mark in enumerate(result[len(COUNTED) :])
                 if mark
             }
         )
@@ -85,8 +86,8 @@ class Attempt(NamedTuple):
     replays: Dict[str, bytes]
     numbers: Dict[str, int]
 
-    def did_as(self, other: "Attempt") -> bool:
-        return (self.run, self.replays) == (other.run, other.replays)
+    def did_as(self, attempt: "Attempt") -> bool:
+        return (self.run, self.replays) == (attempt.run, attempt.replays)
 
 
 class Trials(NamedTuple):
@@ -95,7 +96,7 @@ class Trials(NamedTuple):
 
     lab: Lab
     shim: Shim
-    most: int
+    limit: int
     most_served: int
     workers: int
 
@@ -105,29 +106,29 @@ class Trials(NamedTuple):
         """Does a piece of work for each of these places, several at the same time, and
         counts what came of them."""
 
-        def tried(place: int) -> Tuple[str, List[str]]:
+        def try_once(index: int) -> Tuple[str, List[str]]:
             try:
-                return work(place), []
+                return work(index), []
             except Exception as why:
-                return "otherwise", [f"{name} {place}: {why}"]
+                return "otherwise", [f"{name} {index}: {why}"]
 
         with concurrent.futures.ThreadPoolExecutor(self.workers) as pool:
-            found = list(pool.map(tried, some))
-        self.lab.runs += len(found)
-        self.lab.faults += [fault for _, faults in found for fault in faults]
-        self.lab.report(what, collections.Counter(came for came, _ in found))
+            results = list(pool.map(try_once, some))
+        self.lab.runs += len(results)
+        self.lab.faults += [fault for _, faults in results for fault in faults]
+        self.lab.report(what, collections.Counter(outcome for outcome, _ in results))
 
 
 def kind_of(mode: str) -> str:
     return mode.rpartition("-")[2]
 
 
-def places(number: int, most: int) -> Sequence[int]:
+def places(number: int, limit: int) -> Sequence[int]:
     """The places 1 to a number, or at most this many of them, evenly spread, the first
     and the last among them."""
-    if not most or number <= most:
+    if not limit or number <= limit:
         return range(1, number + 1)
-    return [1 + index * (number - 1) // (most - 1) for index in range(most)]
+    return [1 + index * (number - 1) // (limit - 1) for index in range(limit)]
 
 
 @contextlib.contextmanager
@@ -150,41 +151,41 @@ def plain_run(
     variables: Optional[Dict[str, str]] = None,
 ) -> Run:
     """What came of the program with these words in a folder."""
-    with open(folder / script if script else os.devnull, "rb") as given:
-        return ended(
+    with open(folder / script if script else os.devnull, "rb") as source:
+        return end_of(
             subprocess.Popen(
                 [lab.program, *words],
                 cwd=folder,
                 env=variables,
-                stdin=given,
+                stdin=source,
                 stdout=subprocess.PIPE,
                 stderr=subprocess.PIPE,
             )
         )
 
 
-def judged(lab: Lab, text: bytes, *words: str) -> Optional[bytes]:
+def judge(lab: Lab, text: bytes, *words: str) -> Optional[bytes]:
     """What the program prints of a replay, with nothing refused, or None if it refuses
     the text."""
     with room_of(lab) as room:
         (room / "left.jsonl").write_bytes(text)
         run = plain_run(lab, words or ["judge", "left.jsonl"], room)
-    return run.printed if run.status == DONE else None
+    return run.stdout if run.status == DONE else None
 
 
 def fault_of(mode: str, run: Run) -> str:
     """The place that the one fault line names, which is the fault that this refusal
     makes, with its status."""
-    where, _, text = run.told.rstrip("\n").rpartition(": ")
+    where, _, text = run.stderr.rstrip("\n").rpartition(": ")
     # a thread needs memory to start
     faults = {
         mode: STATUSES[mode],
         **({"threads": NO_THREADS} if mode == "memory" else {}),
     }
     if (
-        run.told != f"{where}: {text}\n"
+        run.stderr != f"{where}: {text}\n"
         or "\n" in where
         or run.status != faults.get(text)
     ):
-        raise Wrong(f"status {run.status}, `{run.told.strip()[:200]}`")
+        raise FailedCheckError(f"status {run.status}, `{run.stderr.strip()[:200]}`")
     return where

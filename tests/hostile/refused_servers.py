@@ -7,24 +7,23 @@ import socket
 import time
 from typing import Dict, List, NamedTuple, Optional, Sequence
 
-from tests.hostile.commands import DONE, SERVED, Lab, Run, ended
+from tests.hostile.commands import DONE, SERVE, Lab, Run, end_of
 from tests.hostile.refused_calls import (
     MODES,
     Trials,
     fault_of,
-    judged,
+    judge,
     kind_of,
     places,
     replays_in,
     room_of,
 )
 from tests.program.program_cases import CUP, TRIANGLE
-from tests.support.counts import Wrong, require
+from tests.support.counts import FailedCheckError, require
 from tests.support.servers import Server
 from tests.support.session_lines import HERE, OVER
 
-# what is told if a part could not be written on or a line could not be told, which
-# keeps nothing else back
+# messages about a part or a log line that was not written; they affect nothing else
 CUT_PART = re.compile(
     r"(\d+:\d\d:\d\d serve: (the part of match 0 (stops after \d+ events: write"
     r"|goes on after \d+ events)|\d+ lines were dropped here, since nobody read the log)\n)+"
@@ -32,10 +31,9 @@ CUT_PART = re.compile(
 # seconds, of a server that takes a third of one
 SOON = 60
 SAID = [b'{"do":"enter","key":"ka"}\n{"do":"look"}\n', b'{"do":"enter","key":"zz"}\n']
-# what each of the clients may hear: the first also that the match is over, if it was
-# closed before
+# replies that each client may hear; the first may also hear that the match is over
 WHOLE = [[HERE + HERE, HERE + OVER, OVER], [b'{"no":"key"}\n']]
-# what a client may hear for whose session there is no memory
+# reply of a session without memory
 NO_MEMORY_LINE = b'{"no":"memory"}\n'
 
 
@@ -50,13 +48,13 @@ class Contest(NamedTuple):
     seconds: float
 
 
-def hears(port: int, said: bytes) -> bytes:
+def hears(port: int, text: bytes) -> bytes:
     """What a client hears that says this and ends its input."""
     heard = b""
     with contextlib.suppress(OSError), socket.create_connection(
         ("127.0.0.1", port), timeout=SOON
     ) as client:
-        client.sendall(said)
+        client.sendall(text)
         client.shutdown(socket.SHUT_WR)
         while True:
             piece = client.recv(4096)
@@ -66,12 +64,14 @@ def hears(port: int, said: bytes) -> bytes:
     return heard
 
 
-def hosted(program: str, folder: pathlib.Path, variables: Dict[str, str]) -> Contest:
+def serve_twice(
+    program: str, folder: pathlib.Path, variables: Dict[str, str]
+) -> Contest:
     """Serves a contest in a folder to two clients, one behind the other. What is
     printed has N for the port."""
     words = [
         program,
-        SERVED,
+        SERVE,
         "cup.toml",
         "--sessions",
         2,
@@ -84,33 +84,31 @@ def hosted(program: str, folder: pathlib.Path, variables: Dict[str, str]) -> Con
     ]
     server = Server(words, folder, env=variables)
     heard = [
-        hears(server.port, said) if server.first.endswith(b"\n") else b""
-        for said in SAID
+        hears(server.port, message) if server.first.endswith(b"\n") else b""
+        for message in SAID
     ]
-    run = ended(server.child)
+    run = end_of(server.child)
     seconds = time.monotonic() - server.begun
-    printed = (server.first + run.printed).replace(
+    output = (server.first + run.stdout).replace(
         b"listening %d\n" % server.port, b"listening N\n"
     )
-    return Contest(
-        run._replace(printed=printed), heard, replays_in(folder), {}, seconds
-    )
+    return Contest(run._replace(stdout=output), heard, replays_in(folder), {}, seconds)
 
 
-def served(trials: Trials, mode: str = "", place: int = 0) -> Contest:
+def serve_refused(trials: Trials, mode: str = "", index: int = 0) -> Contest:
     """Serves a contest with this call refused, or none; again where another took the
     port meanwhile."""
     for _ in range(5):
         numbers: Dict[str, int] = {}
         with room_of(trials.lab) as room, trials.shim.counting(
-            numbers, mode, place
+            numbers, mode, index
         ) as variables:
             (room / "tri.toml").write_text(TRIANGLE)
             (room / "cup.toml").write_text(CUP)
-            contest = hosted(trials.lab.program, room, variables)._replace(
+            contest = serve_twice(trials.lab.program, room, variables)._replace(
                 numbers=numbers
             )
-        if not contest.run.told.startswith("serve: listen\n"):
+        if not contest.run.stderr.startswith("serve: listen\n"):
             break
     return contest
 
@@ -127,32 +125,33 @@ def answers_of(replay: bytes) -> bytes:
 
 
 def cut_sessions(heard: Sequence[bytes]) -> int:
-    """How many clients heard less than all, and nothing else."""
+    """Returns how many clients heard less than all, and nothing else."""
     for number, (text, wholes) in enumerate(zip(heard, WHOLE)):
         if text != NO_MEMORY_LINE and not any(
             whole.startswith(text) for whole in wholes
         ):
-            raise Wrong(f"client {number} heard `{text!r}`")
+            raise FailedCheckError(f"client {number} heard `{text!r}`")
     return sum(text not in wholes for text, wholes in zip(heard, WHOLE))
 
 
-def check_replay(contest: Contest, lab: Lab, told: str) -> Optional[bytes]:
-    """The table of the replay that a server left, which has all that was answered, and
-    nothing if its client was told that there is no memory for it; None if there is no
-    replay."""
+def check_replay(contest: Contest, lab: Lab, text: str) -> Optional[bytes]:
+    """Returns the table of the server's replay (None without a replay), which must
+    contain all replies; "" if the client heard that memory is lacking."""
     replay = contest.replays.get("kept0.jsonl", b"")
-    table = judged(lab, replay, "table", "red=left.jsonl")
+    table = judge(lab, replay, "table", "red=left.jsonl")
     if table is None:
         return None
-    kept = answers_of(replay)
+    record = answers_of(replay)
     heard = contest.heard[0]
     if heard == NO_MEMORY_LINE:
-        require(not kept, f"client 0 plays and is told that there is no memory: {told}")
+        require(
+            not record, f"client 0 plays and is told that there is no memory: {text}"
+        )
         return table
     answers = heard.replace(OVER, b"")
     require(
-        kept.startswith(answers[: answers.rfind(b"\n") + 1]),
-        f"client 0 heard what its replay has not: {told}",
+        record.startswith(answers[: answers.rfind(b"\n") + 1]),
+        f"client 0 heard what its replay has not: {text}",
     )
     return table
 
@@ -160,24 +159,24 @@ def check_replay(contest: Contest, lab: Lab, told: str) -> Optional[bytes]:
 def served_outcome(mode: str, contest: Contest, lab: Lab) -> str:
     """What came of a contest with a call refused."""
     run = contest.run
-    told = f"status {run.status}, `{run.told.strip()[:200]}`, printed `{run.printed!r}`, heard `{contest.heard}`"
-    require(contest.seconds <= SOON, f"it took {contest.seconds:.0f} seconds: {told}")
+    errors = f"status {run.status}, `{run.stderr.strip()[:200]}`, printed `{run.stdout!r}`, heard `{contest.heard}`"
+    require(contest.seconds <= SOON, f"it took {contest.seconds:.0f} seconds: {errors}")
     cut = cut_sessions(contest.heard)
-    table = check_replay(contest, lab, told)
-    if run.status == DONE and (not run.told or CUT_PART.fullmatch(run.told)):
-        if table is None or run.printed != b"listening N\n" + table:
-            raise Wrong(f"the table is not that of the replay: {told}")
+    table = check_replay(contest, lab, errors)
+    if run.status == DONE and (not run.stderr or CUT_PART.fullmatch(run.stderr)):
+        if table is None or run.stdout != b"listening N\n" + table:
+            raise FailedCheckError(f"the table is not that of the replay: {errors}")
         if cut > 1 or (cut and mode.startswith("short")):
-            raise Wrong(f"{cut} clients heard too little: {told}")
-        missed = "" if contest.numbers["refused"] else " (call not made)"
+            raise FailedCheckError(f"{cut} clients heard too little: {errors}")
+        missed_value = "" if contest.numbers["refused"] else " (call not made)"
         return (
-            "a part cut" if run.told else "a session cut" if cut else "as ever"
-        ) + missed
-    require(not mode.startswith("short"), f"a short call made a difference: {told}")
-    return served_fault(mode, contest, table, told)
+            "a part cut" if run.stderr else "a session cut" if cut else "as ever"
+        ) + missed_value
+    require(not mode.startswith("short"), f"a short call made a difference: {errors}")
+    return served_fault(mode, contest, table, errors)
 
 
-def served_fault(mode: str, contest: Contest, table: Optional[bytes], told: str) -> str:
+def served_fault(mode: str, contest: Contest, table: Optional[bytes], text: str) -> str:
     """What came of a contest whose server tells a fault."""
     where = fault_of(mode, contest.run)
     may_name = {
@@ -194,37 +193,39 @@ def served_fault(mode: str, contest: Contest, table: Optional[bytes], told: str)
             "kept0.jsonl.part",
         },
     }[mode]
-    require(where in may_name, f"it names another place: {told}")
-    lines = contest.run.printed.splitlines(keepends=True)
+    require(where in may_name, f"it names another place: {text}")
+    lines = contest.run.stdout.splitlines(keepends=True)
     if lines[:1] not in ([], [b"listening N\n"]) and not b"listening N\n".startswith(
-        contest.run.printed
+        contest.run.stdout
     ):
-        raise Wrong(f"another text was printed: {told}")
+        raise FailedCheckError(f"another text was printed: {text}")
     if where == "kept0.jsonl" and (
         len(lines) != 3 or not lines[2].startswith(b"  1 red ")
     ):
-        raise Wrong(f"a replay keeps the table back: {told}")
+        raise FailedCheckError(f"a replay keeps the table back: {text}")
     if table is not None and not (b"listening N\n" + table).startswith(
-        contest.run.printed
+        contest.run.stdout
     ):
-        raise Wrong(f"the table is not that of the replay: {told}")
+        raise FailedCheckError(f"the table is not that of the replay: {text}")
     return f"{where.rpartition('/')[2]}: {mode}"
 
 
 def refuse_server(trials: Trials) -> None:
     """Runs a server with calls of each kind refused."""
-    contest = served(trials)
+    contest = serve_refused(trials)
     try:
         require(
             served_outcome("short", contest, trials.lab) == "as ever (call not made)",
             str(contest),
         )
-    except Wrong as why:
+    except FailedCheckError as why:
         trials.lab.faults.append(f"serve with nothing refused: {why}")
     for mode in MODES:
         number = contest.numbers[kind_of(mode)]
         trials.alike(
-            lambda place: served_outcome(mode, served(trials, mode, place), trials.lab),
+            lambda index: served_outcome(
+                mode, serve_refused(trials, mode, index), trials.lab
+            ),
             places(number, trials.most_served),
             f"serve, {mode} of {number}",
             f"serve, {mode}",

@@ -23,9 +23,9 @@ import time
 from typing import Any, List, Tuple
 
 from tests.support.cases import raise_descriptors
-from tests.support.counts import SKIPPED, concluded
-from tests.support.halls import Served
-from tests.support.proxies import NAME, Caddy, Nginx, connected
+from tests.support.counts import SKIPPED, report_counts
+from tests.support.halls import ServedHall
+from tests.support.proxies import NAME, Caddy, Nginx, connect
 
 SLOW = 2_100
 BROWSERS = 100
@@ -44,39 +44,39 @@ BODY = (
 ).encode() + bytes(5_000)
 
 
-def opened(port: int, address: str, is_encrypted: bool) -> Any:
+def open_connection(port: int, address: str, is_encrypted: bool) -> Any:
     if is_encrypted:
-        return connected(port, address)
+        return connect(port, address)
     return socket.create_connection(("127.0.0.1", port), 30, (address, 0))
 
 
-def attack(port: int, is_encrypted: bool, count: int, over: Any, begun: Any) -> None:
+def attack(port: int, is_encrypted: bool, count: int, over: Any, start: Any) -> None:
     """Holds slow connections until it is over."""
     raise_descriptors()
-    held: List[Any] = [None] * count
+    held_links: List[Any] = [None] * count
     while not over.is_set():
         rest = time.monotonic() + DRIP
         for number in range(count):
             if over.is_set():
                 return
             with contextlib.suppress(OSError):
-                if held[number] is not None:
-                    held[number].send(b"a")
+                if held_links[number] is not None:
+                    held_links[number].send(b"a")
                     continue
             with contextlib.suppress(OSError):
-                held[number] = opened(port, STRANGER, is_encrypted)
-                held[number].settimeout(0)
-                held[number].send(BODY if number % 2 else HEAD)
-        begun.set()
+                held_links[number] = open_connection(port, STRANGER, is_encrypted)
+                held_links[number].settimeout(0)
+                held_links[number].send(BODY if number % 2 else HEAD)
+        start.set()
         over.wait(max(0.0, rest - time.monotonic()))
 
 
 def look(port: int, is_encrypted: bool) -> float:
     """The seconds in which a browser has a page, or infinity."""
-    begun = time.monotonic()
+    start = time.monotonic()
     try:
         connection = http.client.HTTPConnection("127.0.0.1", port)
-        connection.sock = opened(port, HONEST, is_encrypted)
+        connection.sock = open_connection(port, HONEST, is_encrypted)
         with contextlib.closing(connection):
             for page in PAGES:
                 connection.request("GET", page, headers={"Host": NAME})
@@ -86,44 +86,46 @@ def look(port: int, is_encrypted: bool) -> float:
                     return float("inf")
     except (OSError, http.client.HTTPException):
         return float("inf")
-    return time.monotonic() - begun
+    return time.monotonic() - start
 
 
 def looks(port: int, is_encrypted: bool) -> List[float]:
-    """How long each browser waits for each look, all of them at once."""
+    """Returns how long each browser waits for each look, all of them at once."""
     with concurrent.futures.ThreadPoolExecutor(BROWSERS) as pool:
         rounds = [
             list(pool.map(lambda _: look(port, is_encrypted), range(BROWSERS)))
             for _ in range(LOOKS)
         ]
-    return [it for found in rounds for it in found]
+    return [it for outcome_found in rounds for it in outcome_found]
 
 
-def attacked(title: str, port: int, is_encrypted: bool, slow: int) -> Tuple[int, int]:
+def attack_and_report(
+    title: str, port: int, is_encrypted: bool, slow: int
+) -> Tuple[int, int]:
     """Prints what browsers wait beside a stranger; gives how many looks were answered
     in time, and how many were not."""
     before = max(looks(port, is_encrypted))
     over = multiprocessing.Event()
-    begun = multiprocessing.Event()
-    words = (port, is_encrypted, slow, over, begun)
+    event = multiprocessing.Event()
+    words = (port, is_encrypted, slow, over, event)
     stranger = multiprocessing.Process(target=attack, args=words)
     stranger.start()
     try:
-        began = begun.wait(BEGIN)
-        found = looks(port, is_encrypted)
+        began = event.wait(BEGIN)
+        outcome_found = looks(port, is_encrypted)
     finally:
         over.set()
         stranger.join()
-    late = sum(it > PATIENCE + before for it in found)
-    middle = sorted(found)[len(found) // 2]
-    more = "" if began else ", before all slow connections were there"
+    late = sum(it > PATIENCE + before for it in outcome_found)
+    middle = sorted(outcome_found)[len(outcome_found) // 2]
+    extra = "" if began else ", before all slow connections were there"
     print(
-        f"{title}: {len(found)} looks of {BROWSERS} browsers beside {slow:,} slow "
-        f"connections, one in {middle:.2f} s, the slowest in {max(found):.2f} s, "
-        f"before in {before:.2f} s, {late} late{more}",
+        f"{title}: {len(outcome_found)} looks of {BROWSERS} browsers beside {slow:,} slow "
+        f"connections, one in {middle:.2f} s, the slowest in {max(outcome_found):.2f} s, "
+        f"before in {before:.2f} s, {late} late{extra}",
         flush=True,
     )
-    return len(found) - late, late
+    return len(outcome_found) - late, late
 
 
 def main(words: List[str]) -> int:
@@ -134,24 +136,24 @@ def main(words: List[str]) -> int:
     raise_descriptors()
     counts = []
     for title, kind in (("by itself", None), ("nginx", Nginx), ("Caddy", Caddy)):
-        if kind is not None and kind.found() is None:
+        if kind is not None and kind.program_path() is None:
             print(f"{SKIPPED}slow strangers: {title} is not installed", flush=True)
             continue
         with tempfile.TemporaryDirectory(prefix="hall-") as name:
             folder = pathlib.Path(name)
-            more = f'names = ["{NAME}"]' + ("\nhttps = true" if kind else "")
-            hall = Served(folder, more)
+            extra = f'names = ["{NAME}"]' + ("\nhttps = true" if kind else "")
+            hall = ServedHall(folder, extra)
             hall.start()
             proxy = kind(folder, hall.port) if kind else None
             try:
                 port = proxy.port if proxy else hall.port
-                counts.append(attacked(title, port, proxy is not None, slow))
+                counts.append(attack_and_report(title, port, proxy is not None, slow))
             finally:
                 if proxy:
                     proxy.end()
                 hall.stop()
-    passed, failed = (sum(it) for it in zip(*counts))
-    return concluded(passed, failed)
+    passes, failures = (sum(it) for it in zip(*counts))
+    return report_counts(passes, failures)
 
 
 if __name__ == "__main__":

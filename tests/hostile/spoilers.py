@@ -25,13 +25,13 @@ from tests.hostile.two_teams import (
     TEAMS,
     WAITING,
     answer,
-    entered,
+    entered_agent,
     goes_on,
     looks,
     serving,
     tournament,
 )
-from tests.support.counts import Wrong, require, wants
+from tests.support.counts import FailedCheckError, require, wants
 from tests.support.servers import PATIENCE, Server, enter, serve
 from tests.support.session_lines import (
     HERE,
@@ -61,8 +61,8 @@ def strangers(program: str, folder: pathlib.Path) -> None:
     with serving(program, folder) as server:
         for _ in range(300):
             server.connect().close()
-        entered(server, "blue-0", "an agent that comes after them").close()
-        status, printed, _ = server.ended().texts()
+        entered_agent(server, "blue-0", "an agent that comes after them").close()
+        status, output, _ = server.wait_for_end().texts()
         wants("the status", status, 0)
 
 
@@ -71,27 +71,27 @@ def strangers(program: str, folder: pathlib.Path) -> None:
 )
 def unheard(program: str, folder: pathlib.Path) -> None:
     quota = 1000
-    more = 500
-    with serving(program, folder, turns=4000) as server, entered(
+    extra = 500
+    with serving(program, folder, turns=4000) as server, entered_agent(
         server, "red-0"
     ) as client:
-        waits(client, more, enter("red-0"), NO_TWICE)
+        waits(client, extra, enter("red-0"), NO_TWICE)
         client.sendall(quota * LOOK)
         wants("its commands", answer(client, quota * len(HERE)), quota * HERE)
-        waits(client, more, LOOK, NO_SPENT)
+        waits(client, extra, LOOK, NO_SPENT)
         goes_on(server, "commands that use up no quota")
 
 
-def waits(client: socket.socket, count: int, said: bytes, wanted: bytes) -> None:
+def waits(client: socket.socket, count: int, text: bytes, expectation: bytes) -> None:
     """This number of commands is refused so, and no faster than one a millisecond."""
-    begun = time.monotonic()
-    client.sendall(count * said)
+    start = time.monotonic()
+    client.sendall(count * text)
     wants(
         "commands that use up no quota",
-        answer(client, count * len(wanted)),
-        count * wanted,
+        answer(client, count * len(expectation)),
+        count * expectation,
     )
-    took = time.monotonic() - begun
+    took = time.monotonic() - start
     require(
         took >= count / 1000,
         f"{count} commands that use up no quota were answered within {took:.3f} s",
@@ -104,7 +104,7 @@ def wrong_keys(program: str, folder: pathlib.Path) -> None:
         for number in range(150):
             with server.connect(enter(f"nobody-{number}")) as client:
                 wants("a wrong key", answer(client, 100), b'{"no":"key"}\n')
-        entered(server, "blue-0", "an agent that comes after them").close()
+        entered_agent(server, "blue-0", "an agent that comes after them").close()
 
 
 @case(
@@ -112,27 +112,27 @@ def wrong_keys(program: str, folder: pathlib.Path) -> None:
 )
 def silent(program: str, folder: pathlib.Path) -> None:
     if not any(makes_room_in_time(program, folder) for _ in range(TRIES)):
-        raise Wrong(
+        raise FailedCheckError(
             f"{WAITING} clients did not connect in {ROOM_AFTER} s in any of {TRIES} tries: the machine is busy"
         )
 
 
 def makes_room_in_time(program: str, folder: pathlib.Path) -> bool:
-    """Whether the clients connected before the first of them had waited for long: else
-    it is the first that makes room, and not who comes."""
+    """Returns whether the clients connected before the first of them had waited for
+    long: else it is the first that makes room, and not who comes."""
     with serving(
         program, folder, sessions=1000, turns=2000
     ) as server, contextlib.ExitStack() as stack:
-        begun = time.monotonic()
+        start = time.monotonic()
         clients = [stack.enter_context(server.connect()) for _ in range(WAITING)]
         with server.connect(enter("blue-0")) as client:
-            said = answer(client, len(NO_FULL))
-        if time.monotonic() - begun > ROOM_AFTER:
+            output = answer(client, len(NO_FULL))
+        if time.monotonic() - start > ROOM_AFTER:
             return False
-        wants("one that comes at once", said, NO_FULL)
+        wants("one that comes at once", output, NO_FULL)
         time.sleep(1.6)
         clients += [stack.enter_context(server.connect()) for _ in range(20)]
-        entered(server, "blue-0", "an agent that comes after them").close()
+        entered_agent(server, "blue-0", "an agent that comes after them").close()
         wants("the oldest", answer(clients[0], 100), NO_LATE)
         clients[-1].sendall(enter("red-0"))
         wants("the newest", answer(clients[-1], len(HERE)), HERE)
@@ -146,19 +146,21 @@ def late(program: str, folder: pathlib.Path) -> None:
     ) as client:
         wants("it", answer(client, 100), NO_LATE)
         if not FIRST_LINE / 2 < time.monotonic() - server.begun < 2 * FIRST_LINE:
-            raise Wrong("it was cut off too early or too late")
+            raise FailedCheckError("it was cut off too early or too late")
 
 
 @case("when the sessions of all agents go on, who comes is told that there is no room")
 def full(program: str, folder: pathlib.Path) -> None:
-    with serving(program, folder, sessions=2, turns=4000) as server, entered(
+    with serving(program, folder, sessions=2, turns=4000) as server, entered_agent(
         server, "red-0", "the first"
-    ), entered(server, "red-1", "the second") as two:
+    ), entered_agent(server, "red-1", "the second") as two:
         with server.connect() as third:
             wants("the third", answer(third, 100), NO_FULL)
         two.close()
         time.sleep(0.5)
-        entered(server, "blue-0", "the one that comes when there is room again").close()
+        entered_agent(
+            server, "blue-0", "the one that comes when there is room again"
+        ).close()
 
 
 @case(
@@ -166,17 +168,17 @@ def full(program: str, folder: pathlib.Path) -> None:
 )
 def told_why(program: str, folder: pathlib.Path) -> None:
     with serving(program, folder, "--log", sessions=2) as server:
-        for said in (b"x\n", enter("nobody"), enter("red-0"), enter("red-0")):
-            with server.connect(said) as client:
+        for message in (b"x\n", enter("nobody"), enter("red-0"), enter("red-0")):
+            with server.connect(message) as client:
                 answer(client, 10)
-        told = server.ended().texts()[2]
+        errors = server.wait_for_end().texts()[2]
     for line in (
         "serve: --sessions 2 is below the number of agents, 4",
         "since its first line was no enter",
         "since no agent has its key",
         "since its key was used before",
     ):
-        require(line in told, f"{line!r} is not told, but {told!r}")
+        require(line in errors, f"{line!r} is not told, but {errors!r}")
 
 
 # The end.
@@ -200,18 +202,20 @@ def flooding(server: Server, stop: threading.Event, clients: int) -> None:
 
 @case("clients that send line feeds do not hold up the end")
 def flooded_end(program: str, folder: pathlib.Path) -> None:
-    with serving(program, folder, turns=300) as server, entered(server, "red-0"):
+    with serving(program, folder, turns=300) as server, entered_agent(server, "red-0"):
         stop = threading.Event()
         flood = threading.Thread(target=flooding, args=(server, stop, 60))
         flood.start()
         try:
-            status, _, _ = server.ended().texts()
+            status, _, _ = server.wait_for_end().texts()
         finally:
             stop.set()
             flood.join()
         wants("the status", status, 0)
         if time.monotonic() - server.begun > PATIENCE:
-            raise Wrong(f"the end came after {time.monotonic() - server.begun:.1f} s")
+            raise FailedCheckError(
+                f"the end came after {time.monotonic() - server.begun:.1f} s"
+            )
 
 
 # The log.
@@ -219,19 +223,19 @@ def flooded_end(program: str, folder: pathlib.Path) -> None:
 
 def nearly_full() -> Tuple[int, int]:
     """The ends of a pipe that takes no more than 4096 bytes."""
-    read, write = os.pipe()
+    reader, write = os.pipe()
     os.set_blocking(write, False)
     with contextlib.suppress(BlockingIOError):
         while True:
             os.write(write, b"-" * 4096)
-    os.read(read, 4096)
+    os.read(reader, 4096)
     os.set_blocking(write, True)
-    return read, write
+    return reader, write
 
 
 @case("a log that nobody reads stops no contest")
 def unread_log(program: str, folder: pathlib.Path) -> None:
-    read, write = nearly_full()
+    reader, write = nearly_full()
     try:
         with serving(program, folder, "--log", stderr=write) as server:
             for _ in range(60):
@@ -239,14 +243,14 @@ def unread_log(program: str, folder: pathlib.Path) -> None:
                     wants("a stranger", answer(client, 100), b'{"no":"enter"}\n')
             with server.connect(enter("blue-0") + LOOK) as client:
                 wants("an agent", answer(client, 2 * len(HERE)), HERE + HERE)
-            wants("the status", server.ended()[0], 0)
+            wants("the status", server.wait_for_end()[0], 0)
         wants(
             "the replays",
             sorted(path.name for path in folder.glob("match*")),
             ["match0.jsonl", "match1.jsonl"],
         )
     finally:
-        os.close(read)
+        os.close(reader)
         os.close(write)
 
 
@@ -259,23 +263,25 @@ def earlier_files(program: str, folder: pathlib.Path) -> None:
         with serving(program, folder, turns=1) as server:
             with server.connect(enter(f"red-{number % 2}") + LOOK * number) as client:
                 answer(client, 1000)
-            server.ended()
-    found = sorted(path.name for path in folder.glob("match0*"))
-    wants("the files", found, ["match0.jsonl", "match0.jsonl.old", "match0.jsonl.old2"])
+            server.wait_for_end()
+    results = sorted(path.name for path in folder.glob("match0*"))
+    wants(
+        "the files", results, ["match0.jsonl", "match0.jsonl.old", "match0.jsonl.old2"]
+    )
 
 
 @case("a second server with the same prefix is refused, and leaves all files alone")
 def two_servers(program: str, folder: pathlib.Path) -> None:
-    with serving(program, folder, turns=2000) as first, entered(first, "red-0"):
+    with serving(program, folder, turns=2000) as first, entered_agent(first, "red-0"):
         before = sorted(
             (path.name, path.read_bytes())
             for path in folder.glob("match*")
             if path.suffix != ".part"
         )
         second = serve(program, folder)
-        status, printed, told = second.ended().texts()
-        wants("the status of the second", (status, printed), (REFUSED, ""))
-        require("match0.jsonl.part: busy" in told, f"the second told {told!r}")
+        status, output, errors = second.wait_for_end().texts()
+        wants("the status of the second", (status, output), (REFUSED, ""))
+        require("match0.jsonl.part: busy" in errors, f"the second told {errors!r}")
         after = sorted(
             (path.name, path.read_bytes())
             for path in folder.glob("match*")
@@ -292,7 +298,8 @@ def is_root() -> bool:
 
 
 def threads(most: int) -> Callable[[], None]:
-    """A user that has no other threads, and may have this many."""
+    """Returns a function that switches to an otherwise unused user with this limit of
+    threads."""
 
     def limit() -> None:
         resource.setrlimit(resource.RLIMIT_NPROC, (most, most))
@@ -307,11 +314,11 @@ def no_threads(program: str, folder: pathlib.Path) -> None:
     if not is_root():
         return
     folder.chmod(0o777)
-    status, printed, told = (
-        serving(program, folder, preexec_fn=threads(4)).ended().texts()
+    status, output, errors = (
+        serving(program, folder, preexec_fn=threads(4)).wait_for_end().texts()
     )
-    wants("the status and what was printed", (status, printed), (NO_THREADS, ""))
-    require("serve: threads" in told, f"it told {told!r}")
+    wants("the status and what was printed", (status, output), (NO_THREADS, ""))
+    require("serve: threads" in errors, f"it told {errors!r}")
 
 
 # threads of a contest of two matches before it listens: its own, one of each match, and
@@ -333,26 +340,28 @@ def no_thread_for_a_session(program: str, folder: pathlib.Path) -> None:
         for key in ("red-0", "red-1", "blue-0", "blue-1"):
             client = stack.enter_context(server.connect(enter(key)))
             heard[key] = (client, answer(client, len(HERE)))
-        plays = [client for client, said in heard.values() if said == HERE]
-        waits = [key for key, (_, said) in heard.items() if said == NO_MEMORY]
+        plays = [client for client, message in heard.values() if message == HERE]
+        waits = [key for key, (_, message) in heard.items() if message == NO_MEMORY]
         if not plays or not waits or len(plays) + len(waits) != len(heard):
-            raise Wrong(f"the agents heard {[said for _, said in heard.values()]}")
+            raise FailedCheckError(
+                f"the agents heard {[message for _, message in heard.values()]}"
+            )
         looks(plays[0], "an agent whose session goes on")
         plays[0].close()
         time.sleep(0.5)
         stack.enter_context(
-            entered(server, waits[0], "the same key once there is a thread")
+            entered_agent(server, waits[0], "the same key once there is a thread")
         )
         stack.pop_all().close()
-        status, printed, told = server.ended().texts()
+        status, output, errors = server.wait_for_end().texts()
     wants(
         "the status and the lines of the table",
-        (status, len(printed.splitlines())),
+        (status, len(output.splitlines())),
         (0, 3),
     )
     require(
-        "it was not served, since memory or threads ran out" in told,
-        f"told was {told!r}",
+        "it was not served, since memory or threads ran out" in errors,
+        f"told was {errors!r}",
     )
 
 
@@ -364,7 +373,7 @@ def few_descriptors(program: str, folder: pathlib.Path) -> None:
     with serving(
         program, folder, turns=4000, preexec_fn=limit
     ) as server, contextlib.ExitStack() as stack:
-        client = stack.enter_context(entered(server, "red-0"))
+        client = stack.enter_context(entered_agent(server, "red-0"))
         for _ in range(40):
             stack.enter_context(server.connect())
         looks(client)
@@ -412,14 +421,14 @@ def course(program: str, folder: pathlib.Path) -> None:
                     enter(f"{team}-{agent}") + b'{"do":"leave"}\n'
                 ) as client:
                     wants("an agent", answer(client, 1000), HERE + b'{"ok":"bye"}\n')
-        told = server.ended().texts()[2]
+        errors = server.wait_for_end().texts()[2]
     wants(
         "the replays",
         sorted(path.name for path in folder.glob("cup*l")),
         ["cup.toml", "cup0.jsonl", "cup1.jsonl"],
     )
     require(
-        "serve: session 0 plays match 0 (red) agent 0" in told, f"told was {told!r}"
+        "serve: session 0 plays match 0 (red) agent 0" in errors, f"told was {errors!r}"
     )
 
 
@@ -433,8 +442,8 @@ def shown_names(program: str, folder: pathlib.Path) -> None:
         text=True,
         check=False,
     )
-    told = run.stderr.splitlines()[-2]
-    wants("the fault", told, r"a\u{9b}\u{202e}\u{2066}b: read")
+    errors = run.stderr.splitlines()[-2]
+    wants("the fault", errors, r"a\u{9b}\u{202e}\u{2066}b: read")
 
 
 if __name__ == "__main__":

@@ -17,7 +17,7 @@ import sys
 import tempfile
 from typing import Iterator, List, Optional
 
-from tests.support.counts import concluded
+from tests.support.counts import report_counts
 from tests.support.servers import Server
 
 TOP = pathlib.Path(__file__).resolve().parents[2]
@@ -41,11 +41,11 @@ def within(namespace: str, *words: object) -> List[str]:
 @contextlib.contextmanager
 def two_networks() -> Iterator[None]:
     """Two namespaces that a cable joins."""
-    made = []
+    products = []
     try:
         for name in (HERE, THERE):
             ip("netns", "add", name)
-            made.append(name)
+            products.append(name)
         ip(
             "link",
             "add",
@@ -62,7 +62,7 @@ def two_networks() -> Iterator[None]:
         )
         for name, cable, end in ((HERE, "arena0", 0), (THERE, "arena1", 1)):
             for *addresses, bits in NETWORKS.values():
-                more = ["nodad"] if ":" in addresses[end] else []
+                extra = ["nodad"] if ":" in addresses[end] else []
                 ip(
                     "-n",
                     name,
@@ -71,17 +71,17 @@ def two_networks() -> Iterator[None]:
                     f"{addresses[end]}/{bits}",
                     "dev",
                     cable,
-                    *more,
+                    *extra,
                 )
             ip("-n", name, "link", "set", "lo", "up")
             ip("-n", name, "link", "set", cable, "up")
         yield
     finally:
-        for name in made:
+        for name in products:
             ip("netns", "del", name)
 
 
-def played(program: str, address: Optional[str], target: str) -> str:
+def play(program: str, address: Optional[str], target: str) -> str:
     """The line of the table that the team red gets if its agents connect to this
     address."""
     with tempfile.TemporaryDirectory() as folder:
@@ -122,11 +122,11 @@ def played(program: str, address: Optional[str], target: str) -> str:
                 )
                 for number in range(2)
             ]
-            printed = server.ended().texts()[1]
+            output = server.wait_for_end().texts()[1]
             for agent in agents:
                 agent.kill()
                 agent.wait()
-    return next(line for line in printed.splitlines() if " red " in line)
+    return next(line for line in output.splitlines() if " red " in line)
 
 
 def main() -> int:
@@ -137,13 +137,13 @@ def main() -> int:
     with two_networks():
         for family, (server, _, _) in NETWORKS.items():
             for address in (server, None):
-                row = played(program, address, server)
+                row = play(program, address, server)
                 results.append(("solved" in row) == (address is not None))
                 print(
                     f"{family}, listening on {address or '127.0.0.1'}: {' '.join(row.split())}",
                     flush=True,
                 )
-    return concluded(results.count(True), results.count(False))
+    return report_counts(results.count(True), results.count(False))
 
 
 if __name__ == "__main__":

@@ -9,7 +9,7 @@ from tests.support.servers import HOST, Server, enter, serve
 from tests.support.session_lines import HERE, LOOK
 from tests.support.tournaments import match, write_cup
 
-# how many clients may wait beside each other to be let in
+# clients that may wait for admission at once
 WAITING = 256
 TEAMS = ("red", "blue")
 
@@ -20,20 +20,20 @@ def tournament(folder: pathlib.Path, quota: int = 1000) -> None:
 
 
 def serving(
-    program: str, folder: pathlib.Path, *options: str, **more: object
+    program: str, folder: pathlib.Path, *options: str, **extra: object
 ) -> Server:
     """A server of the tournament."""
     tournament(folder)
-    return serve(program, folder, *options, **more)
+    return serve(program, folder, *options, **extra)
 
 
 def goes_on(server: Server, what: str) -> None:
     """An agent is still answered, and the server has not ended."""
-    entered(server, "blue-1", f"an agent after {what}").close()
+    entered_agent(server, "blue-1", f"an agent after {what}").close()
     wants(f"the server after {what}", server.child.poll(), None)
 
 
-def entered(
+def entered_agent(
     server: Server, key: str, what: str = "an agent", source: str = HOST
 ) -> socket.socket:
     """An agent that has entered by this key and was answered."""

@@ -22,10 +22,10 @@ from arena_lab.play.matches import play
 from arena_lab.play.teams import INSIDE, AgentWords, Together
 from arena_lab.rules.fixtures import Fixture, fixture_of
 from arena_lab.rules.model import Setup
-from arena_lab.rules.networks import named
+from arena_lab.rules.networks import network_named
 from arena_lab.rules.rehearsal import Rehearsal
 from arena_lab.support.progress import along
-from tests.support.counts import concluded
+from tests.support.counts import report_counts
 
 RUNS = 10_000
 RING = AgentWords(INSIDE, f"{AGENTS / 'ring.py'} {{nodes}}")
@@ -58,7 +58,7 @@ PAIRINGS = [
 
 def fixture_for(pairing: Pairing, seed: int) -> Fixture:
     """The match of a seed."""
-    network = named(pairing.network)
+    network = network_named(pairing.network)
     agents = max(network.degrees()) + 1 if pairing.agent == MAP else 2
     home = seed % network.nodes
     hole = (home + 1 + seed // network.nodes % (network.nodes - 1)) % network.nodes
@@ -70,17 +70,19 @@ def fixture_for(pairing: Pairing, seed: int) -> Fixture:
 def fault_of(seed: int) -> str:
     """What is wrong with the match of a seed, or nothing."""
     pairing = PAIRINGS[seed % len(PAIRINGS)]
-    names = sorted(schedulers.NAMED)
+    names = sorted(schedulers.SCHEDULER_MAKERS)
     name = names[seed // len(PAIRINGS) % len(names)]
     turn = seed // len(PAIRINGS)
     fixture = fixture_for(pairing, turn)
     team = Together([pairing.agent] * fixture.setup.agents, fixture, 5)
-    played = play(Rehearsal(fixture), team, schedulers.NAMED[name](turn), fixture)
-    if not played.has_failed():
+    match = play(
+        Rehearsal(fixture), team, schedulers.SCHEDULER_MAKERS[name](turn), fixture
+    )
+    if not match.has_failed():
         return ""
     return (
         f"seed {seed}, {pairing.network}, {name} {turn}, home {fixture.setup.home}, holes {fixture.setup.holes}: "
-        f"{'; '.join([played.verdict().outcome, *played.faults])}"
+        f"{'; '.join([match.verdict().outcome, *match.faults])}"
     )
 
 
@@ -102,20 +104,20 @@ def main() -> int:
     )
     words = parser.parse_args()
     faults: List[str] = []
-    played = 0
+    match_count = 0
     try:
         for seed in along(
             range(words.seed, words.seed + words.runs), words.runs, "match"
         ):
             fault = fault_of(seed)
-            played += 1
+            match_count += 1
             if fault:
                 faults.append(fault)
                 print(fault, flush=True)
     except KeyboardInterrupt:
         print("interrupted; until then:")
     print(f"played on {len({pairing.network for pairing in PAIRINGS})} networks")
-    return concluded(played - len(faults), len(faults))
+    return report_counts(match_count - len(faults), len(faults))
 
 
 if __name__ == "__main__":

@@ -21,6 +21,7 @@ mod played;
 mod reading;
 mod rehearsals;
 mod replays;
+mod searchers;
 mod sending;
 mod servers;
 mod sessions;

@@ -33,8 +33,8 @@ class Match:
         self.pool = []
 
     def says(self, agent):
-        """Whether a command is heard, which then counts against the quota; Enter is not
-        asked about."""
+        """Returns whether a command is heard, which then counts against the quota;
+        Enter is not asked about."""
         if self.left[agent] == 0:
             return False
         self.left[agent] -= 1
@@ -43,17 +43,17 @@ class Match:
 
 def counts(events, seed=bytes([7]) * 32):
     stream = words(seed)
-    kept = arrivals = matches = 0
-    done = EVENTS_OF_A_MATCH
+    record = arrivals = matches = 0
+    finish = EVENTS_OF_A_MATCH
     game = None
     for _ in range(events):
-        if done == EVENTS_OF_A_MATCH:
+        if finish == EVENTS_OF_A_MATCH:
             game = Match()
-            done = 0
+            finish = 0
             matches += 1
-        done += 1
-        if done <= AGENTS or done == EVENTS_OF_A_MATCH:
-            kept += 1
+        finish += 1
+        if finish <= AGENTS or finish == EVENTS_OF_A_MATCH:
+            record += 1
             continue
         word = next(stream)
         kind = word % 16
@@ -64,17 +64,17 @@ def counts(events, seed=bytes([7]) * 32):
                 game.pool.remove(agent)
                 game.node[agent] = neighbour(game.node[agent], game.link[agent])
                 game.link[agent] = None
-                kept += 1
+                record += 1
                 arrivals += 1
             continue
         if kind in (2, 3):
             next(stream)
         if game.says(agent):
-            kept += 1
+            record += 1
             if 4 <= kind <= 8 and game.link[agent] is None:
                 game.link[agent] = word // 256 % 4
                 game.pool.append(agent)
-    return events, kept, arrivals, max(matches, 1)
+    return events, record, arrivals, max(matches, 1)
 
 
 if __name__ == "__main__":

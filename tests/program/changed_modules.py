@@ -12,7 +12,7 @@ import sys
 import tempfile
 
 from tests.program.refused_modules import is_harmless
-from tests.support.counts import concluded
+from tests.support.counts import report_counts
 from tests.support.program_rows import Stage
 
 
@@ -21,14 +21,14 @@ def main() -> int:
         sys.exit((__doc__ or "").strip())
     program = sys.argv[1]
     count = int(sys.argv[2]) if len(sys.argv) == 3 else 10_000
-    failed = 0
+    failure_count = 0
     with tempfile.TemporaryDirectory(prefix="modules-") as folder:
         stage = Stage(program, pathlib.Path(folder))
         for seed in range(count):
             if not is_harmless(stage, seed):
                 print(f"FAILED seed {seed}", flush=True)
-                failed += 1
-    return concluded(count - failed, failed)
+                failure_count += 1
+    return report_counts(count - failure_count, failure_count)
 
 
 if __name__ == "__main__":

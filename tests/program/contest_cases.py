@@ -9,7 +9,7 @@ from typing import Callable, List, Optional, Sequence
 
 from arena_lab.support.ports import free_port
 from tests.program.program_cases import MATCH, SEED, TABLE_HEAD, TRIANGLE, case, writes
-from tests.support.counts import Wrong, require
+from tests.support.counts import FailedCheckError, require
 from tests.support.program_rows import DONE, FAILED_STREAM, PATIENCE, Stage, expect
 from tests.support.servers import Server, enter, serve
 from tests.support.session_lines import HERE, LEAVE, LOOKS
@@ -42,9 +42,9 @@ def serve_words(port: int, prefix: str) -> List[str]:
     return [*words.split(), "--replay", prefix]
 
 
-def served(
+def start_server(
     stage: Stage,
-    *more: str,
+    *extra: str,
     cup: str = TWO_TEAMS,
     turns: int = 20,
     pause: int = 10,
@@ -52,13 +52,13 @@ def served(
     grace: float = GRACE,
     limit: Optional[Callable[[], None]] = None,
 ) -> Server:
-    """A server of this tournament on the triangle, by these options. What is to limit
-    it is called as it starts."""
+    """Starts a server of this tournament on the triangle; `limit` is called in the
+    child before the start."""
     writes(stage, cup=cup, tri=TRIANGLE)
     return serve(
         stage.program,
         stage.folder,
-        *more,
+        *extra,
         turns=turns,
         pause=pause,
         sessions=sessions,
@@ -83,11 +83,11 @@ Attack = Callable[[Server], List[socket.socket]]
 def holds_up(stage: Stage, attack: Attack) -> None:
     """The server ends soon although these clients hold on to their connections, and the
     results are there."""
-    with served(stage) as server, contextlib.ExitStack() as held:
+    with start_server(stage) as server, contextlib.ExitStack() as held_links:
         heard = server.hears(enter("ba") + b'{"do":"accuse","port":1}\n')
         for client in attack(server):
-            held.enter_context(client)
-        run = server.ended()
+            held_links.enter_context(client)
+        run = server.wait_for_end()
         took = time.monotonic() - server.begun
     expect(run, BLUE_GUESSES)
     require(heard.startswith(HERE), f"blue heard {heard!r}")
@@ -107,7 +107,7 @@ def silent(stage: Stage) -> None:
 
 
 @case("a client that has entered and says no more holds up no contest")
-def entered(stage: Stage) -> None:
+def enter_all(stage: Stage) -> None:
     holds_up(stage, lambda server: [server.connect(enter("ra"))])
 
 
@@ -131,9 +131,9 @@ def deaf(stage: Stage) -> None:
 
 @case("a contest to which nobody comes ends by itself")
 def nobody(stage: Stage) -> None:
-    with served(stage, sessions=4) as server:
+    with start_server(stage, sessions=4) as server:
         expect(
-            server.ended(),
+            server.wait_for_end(),
             table(
                 "  1 blue             silent          0    0",
                 "  2 red              silent          0    0",
@@ -145,14 +145,14 @@ def nobody(stage: Stage) -> None:
 
 @case("a contest whose sessions have all ended waits for nobody")
 def all_ended(stage: Stage) -> None:
-    with served(stage, sessions=1, grace=PATIENCE * 2) as server:
+    with start_server(stage, sessions=1, grace=PATIENCE * 2) as server:
         server.hears(enter("ba") + b'{"do":"accuse","port":1}\n')
-        expect(server.ended(), BLUE_GUESSES)
+        expect(server.wait_for_end(), BLUE_GUESSES)
 
 
 def waits_long(stage: Stage, waits: Sequence[float]) -> None:
     """A client that takes its last line within the grace period is answered."""
-    with served(stage, grace=PATIENCE) as server:
+    with start_server(stage, grace=PATIENCE) as server:
         with server.connect(enter("ra")) as client, client.makefile("rb") as answers:
             answers.readline()
             for wait in waits:
@@ -175,7 +175,7 @@ LONG = 100_000
 
 @case("with --early a contest ends once each agent has ended or is lost")
 def early(stage: Stage) -> None:
-    with served(stage, "--early", turns=LONG, sessions=4) as server:
+    with start_server(stage, "--early", turns=LONG, sessions=4) as server:
         server.hears(enter("ba") + b'{"do":"accuse","port":1}\n')
         server.hears(enter("bb") + LEAVE)
         server.hears(enter("ra") + LEAVE)
@@ -184,7 +184,7 @@ def early(stage: Stage) -> None:
         ) as lost, lost.makefile("rb") as answers:
             heard = [answers.readline() for _ in range(3)]
         expect(
-            server.ended(),
+            server.wait_for_end(),
             table(
                 "  1 blue             guess 1         0    0",
                 "  2 red              silent          1    1",
@@ -198,24 +198,24 @@ def early(stage: Stage) -> None:
 
 @case("with --early a contest goes on while an agent may still act")
 def not_early(stage: Stage) -> None:
-    with served(stage, "--early", turns=LONG) as server:
+    with start_server(stage, "--early", turns=LONG) as server:
         for key in ("ba", "bb", "ra"):
             server.hears(enter(key) + LEAVE)
         time.sleep(LASTS * 5)
         if server.child.poll() is not None:
-            raise Wrong("the contest has ended")
+            raise FailedCheckError("the contest has ended")
 
 
 @case("with --gather the turns begin once all agents have entered")
 def gather(stage: Stage) -> None:
-    with served(stage, "--gather", str(1000 * PATIENCE), turns=20) as server:
+    with start_server(stage, "--gather", str(1000 * PATIENCE), turns=20) as server:
         time.sleep(LASTS * 3)
         for key in ("ba", "bb", "ra"):
             server.hears(enter(key) + LEAVE)
         if server.hears(enter("rb") + LEAVE) != HERE + b'{"ok":"bye"}\n':
-            raise Wrong("the match was over before all agents had entered")
+            raise FailedCheckError("the match was over before all agents had entered")
         begin = time.monotonic()
-        run = server.ended()
+        run = server.wait_for_end()
         took = time.monotonic() - begin
     expect(
         run,
@@ -229,8 +229,8 @@ def gather(stage: Stage) -> None:
 
 @case("with --gather the turns begin when its milliseconds have passed, at the latest")
 def gather_ends(stage: Stage) -> None:
-    with served(stage, "--gather", "400", turns=1, grace=0) as server:
-        server.ended()
+    with start_server(stage, "--gather", "400", turns=1, grace=0) as server:
+        server.wait_for_end()
         took = time.monotonic() - server.begun
     require(0.4 <= took <= SOON, f"the server took {took:.1f} s")
 
@@ -242,16 +242,16 @@ TIME = re.compile(r"^\d+:[0-5]\d:[0-5]\d (?=serve: )")
 
 @case("with --log it is told who comes, who plays, and how sessions and matches end")
 def log(stage: Stage) -> None:
-    with served(stage, "--log", sessions=4) as server:
+    with start_server(stage, "--log", sessions=4) as server:
         server.hears(enter("ba") + b'{"do":"accuse","port":1}\n')
         server.hears(enter("zz"))
-        timed = server.ended().told.decode().splitlines()
-    told = [TIME.sub("", line, count=1) for line in timed]
-    found = sorted(
-        re.sub(r"from 127\.0\.0\.1:\d+$", "from PEER", line) for line in told
+        lines = server.wait_for_end().stderr.decode().splitlines()
+    message = [TIME.sub("", line, count=1) for line in lines]
+    results = sorted(
+        re.sub(r"from 127\.0\.0\.1:\d+$", "from PEER", line) for line in message
     )
-    require(all(map(TIME.match, timed)), f"a line has no time: {timed}")
-    if found != [
+    require(all(map(TIME.match, lines)), f"a line has no time: {lines}")
+    if results != [
         "serve: match 0 (red) closed: turns 20 events 1, silent moves 0 lost 0",
         "serve: match 1 (blue) closed: turns 20 events 3, guess 1 moves 0 lost 0",
         "serve: session 0 from PEER",
@@ -260,9 +260,11 @@ def log(stage: Stage) -> None:
         "serve: session 1 from PEER",
         "serve: session 1 played nobody: it was denied, since no agent has its key",
     ]:
-        raise Wrong(f"told was {found}")
-    if told.index(SESSION_0_PLAYS) > told.index(SESSION_0_ENDED):
-        raise Wrong(f"a session is told to play once it has ended: {told}")
+        raise FailedCheckError(f"told was {results}")
+    if message.index(SESSION_0_PLAYS) > message.index(SESSION_0_ENDED):
+        raise FailedCheckError(
+            f"a session is told to play once it has ended: {message}"
+        )
 
 
 @case(
@@ -271,8 +273,8 @@ def log(stage: Stage) -> None:
 def address(stage: Stage) -> None:
     writes(stage, cup=TWO_TEAMS, tri=TRIANGLE)
     words = [*serve_words(free_port(), "match"), "--grace", "0", "--address"]
-    told = b"serve: listen\n  this machine has no such address: give another --address, 0.0.0.0 for all of IPv4\n"
+    message = b"serve: listen\n  this machine has no such address: give another --address, 0.0.0.0 for all of IPv4\n"
     for address in ("localhost", "192.0.2.7"):
-        expect(stage.run([*words, address]), b"", told, FAILED_STREAM)
+        expect(stage.run([*words, address]), b"", message, FAILED_STREAM)
     run = stage.run([*words, "::1"])
     require(run.status == DONE, f"the server ended with {run}")

@@ -12,12 +12,12 @@ from tests.program.contest_cases import (
     LONG,
     TWO_TEAMS,
     serve_words,
-    served,
+    start_server,
     table,
 )
 from tests.program.killed_servers import appeal_to, kills, try_kill
 from tests.program.program_cases import TRIANGLE, case, writes
-from tests.support.counts import Wrong, require
+from tests.support.counts import FailedCheckError, require
 from tests.support.program_rows import (
     DONE,
     FAILED_STREAM,
@@ -45,25 +45,26 @@ def old_files(stage: Stage) -> None:
         "match1.jsonl.part",
     ):
         (stage.folder / name).write_text(name)
-    with served(stage, turns=100, grace=0) as server:
-        begun = names(stage)
-        server.ended()
-    kept = [
+    with start_server(stage, turns=100, grace=0) as server:
+        start = names(stage)
+        server.wait_for_end()
+    record = [
         "match0.jsonl.old",
         "match0.turns.old",
         "match0.turns.old2",
         "match1.jsonl.part.old",
     ]
     require(
-        begun == sorted([*kept, "match0.jsonl.part", "match1.jsonl.part"]),
-        f"at the beginning there are {begun}",
+        start == sorted([*record, "match0.jsonl.part", "match1.jsonl.part"]),
+        f"at the beginning there are {start}",
     )
     require(
-        names(stage) == sorted([*kept, "match0.jsonl", "match1.jsonl"]),
+        names(stage) == sorted([*record, "match0.jsonl", "match1.jsonl"]),
         f"at the end there are {names(stage)}",
     )
     for name, was in zip(
-        kept, ("match0.jsonl", "match0.turns.old", "match0.turns", "match1.jsonl.part")
+        record,
+        ("match0.jsonl", "match0.turns.old", "match0.turns", "match1.jsonl.part"),
     ):
         require(
             (stage.folder / name).read_text() == was,
@@ -73,15 +74,15 @@ def old_files(stage: Stage) -> None:
 
 @case("files that appear while a contest goes on get other names at its end")
 def files_meanwhile(stage: Stage) -> None:
-    with served(stage, cup=IN_TURNS, grace=0) as server:
+    with start_server(stage, cup=IN_TURNS, grace=0) as server:
         for name in ("match0.jsonl", "match0.turns"):
             (stage.folder / name).write_text(name)
-        server.ended()
+        server.wait_for_end()
     for name in ("match0.jsonl", "match0.turns"):
         if (stage.folder / f"{name}.old").read_text() != name or (
             stage.folder / name
         ).read_text() == name:
-            raise Wrong(f"what appeared as {name} is lost")
+            raise FailedCheckError(f"what appeared as {name} is lost")
 
 
 @case(
@@ -91,19 +92,21 @@ def private_files(stage: Stage) -> None:
     for name in ("match0.jsonl.new", "match1.turns.new"):
         (stage.folder / name).write_text(name)
         (stage.folder / name).chmod(0o666)
-    with served(stage, cup=IN_TURNS, grace=0) as server:
+    with start_server(stage, cup=IN_TURNS, grace=0) as server:
         parts = [
             (stage.folder / f"match{match}.{kind}.part").stat().st_mode & 0o777
             for match in (0, 1)
             for kind in ("jsonl", "turns")
         ]
-        server.ended()
+        server.wait_for_end()
     modes = {
         name: (stage.folder / name).stat().st_mode & 0o777 for name in names(stage)
     }
-    wanted = ("match0.jsonl", "match0.turns", "match1.jsonl", "match1.turns")
-    if parts != [0o600] * 4 or modes != dict.fromkeys(wanted, 0o600):
-        raise Wrong(f"the modes of the parts are {parts}, those of the files {modes}")
+    expectation = ("match0.jsonl", "match0.turns", "match1.jsonl", "match1.turns")
+    if parts != [0o600] * 4 or modes != dict.fromkeys(expectation, 0o600):
+        raise FailedCheckError(
+            f"the modes of the parts are {parts}, those of the files {modes}"
+        )
 
 
 @case("a folder that is missing is told before the server says that it listens")
@@ -115,10 +118,10 @@ def no_folder(stage: Stage) -> None:
 
 @case("a server on a port that is in use leaves the files of the first alone")
 def two_servers(stage: Stage) -> None:
-    with served(stage, turns=LONG) as server:
+    with start_server(stage, turns=LONG) as server:
         words = serve_words(server.port, "match")
-        told = b"serve: listen\n  another program listens on this port: end it, or give another --port\n"
-        expect(stage.run(words), b"", told, FAILED_STREAM)
+        message = b"serve: listen\n  another program listens on this port: end it, or give another --port\n"
+        expect(stage.run(words), b"", message, FAILED_STREAM)
         require(
             names(stage) == ["match0.jsonl.part", "match1.jsonl.part"],
             f"there are {names(stage)}",
@@ -126,7 +129,7 @@ def two_servers(stage: Stage) -> None:
 
 
 def wait_for(holds: Callable[[], bool]) -> bool:
-    """Whether it holds before patience ends."""
+    """Returns whether it holds before patience ends."""
     end = time.monotonic() + PATIENCE
     while not holds():
         if time.monotonic() > end:
@@ -139,8 +142,8 @@ CLOSE = b'{"do":"close","reply":null}\n'
 
 
 @case("the replay of a match whose server was killed is recovered")
-def killed(stage: Stage) -> None:
-    with served(stage, turns=LONG) as server:
+def kill_server(stage: Stage) -> None:
+    with start_server(stage, turns=LONG) as server:
         server.hears(enter("ba") + b'{"do":"accuse","port":1}\n')
         part = stage.folder / "match1.jsonl.part"
         require(
@@ -152,23 +155,23 @@ def killed(stage: Stage) -> None:
     part.write_bytes(whole + b'{"event":"tell","ag')
     run = stage.run(["recover", part.name])
     head, first, second = whole.splitlines(keepends=True)
-    closed = head + first + second + CLOSE + b'{"end":3}\n'
-    expect(run, closed)
-    (stage.folder / "match1.jsonl").write_bytes(run.printed)
+    closing = head + first + second + CLOSE + b'{"end":3}\n'
+    expect(run, closing)
+    (stage.folder / "match1.jsonl").write_bytes(run.stdout)
     expect(stage.run(["judge", "match1.jsonl"]), b"guess 1 moves 0 lost 0\n")
-    if not stage.run(["recover", "match0.jsonl.part"]).printed.endswith(
+    if not stage.run(["recover", "match0.jsonl.part"]).stdout.endswith(
         b"}\n" + CLOSE + b'{"end":1}\n'
     ):
-        raise Wrong("the match in which nothing happened is not recovered")
+        raise FailedCheckError("the match in which nothing happened is not recovered")
 
 
 @case(
     "a contest that is still served is not recovered, and one that was killed is finished"
 )
-def finished(stage: Stage) -> None:
+def finish_contest(stage: Stage) -> None:
     words = ["recover", "cup.toml", "--replay", "match"]
     whole = ["match0.jsonl", "match0.turns", "match1.jsonl", "match1.turns"]
-    with served(stage, cup=IN_TURNS, turns=LONG) as server:
+    with start_server(stage, cup=IN_TURNS, turns=LONG) as server:
         server.hears(enter("ba") + b'{"do":"accuse","port":1}\n')
         part = stage.folder / "match1.jsonl.part"
         require(
@@ -181,17 +184,17 @@ def finished(stage: Stage) -> None:
             f"there are {names(stage)}",
         )
         server.child.kill()
-    replay = stage.run(["recover", part.name]).printed
-    ranked = table(
+    replay = stage.run(["recover", part.name]).stdout
+    ranked_value = table(
         "  1 blue             guess 1         0    0",
         "  2 red              silent          0    0",
     )
-    expect(stage.run(words), ranked)
+    expect(stage.run(words), ranked_value)
     if names(stage) != whole or (stage.folder / "match1.jsonl").read_bytes() != replay:
-        raise Wrong(f"there are {names(stage)}")
+        raise FailedCheckError(f"there are {names(stage)}")
     if any((stage.folder / name).stat().st_mode & 0o777 != 0o600 for name in whole):
-        raise Wrong("others may read what was recovered")
-    expect(stage.run(["table", *words[1:]]), ranked)
+        raise FailedCheckError("others may read what was recovered")
+    expect(stage.run(["table", *words[1:]]), ranked_value)
     expect(stage.run(appeal_to(1)), b"guess 1 moves 0 lost 0\n")
 
 
@@ -199,16 +202,18 @@ def finished(stage: Stage) -> None:
     "a match that is closed has its replay and turns while others go on, and they are there after a kill"
 )
 def closed_before(stage: Stage) -> None:
-    with served(stage, "--early", cup=IN_TURNS, turns=LONG) as server:
+    with start_server(stage, "--early", cup=IN_TURNS, turns=LONG) as server:
         for key in ("ba", "bb"):
             server.hears(enter(key) + b'{"do":"accuse","port":1}\n')
-        wanted = [
+        expectation = [
             "match0.jsonl.part",
             "match0.turns.part",
             "match1.jsonl",
             "match1.turns",
         ]
-        require(wait_for(lambda: names(stage) == wanted), f"there are {names(stage)}")
+        require(
+            wait_for(lambda: names(stage) == expectation), f"there are {names(stage)}"
+        )
         server.child.kill()
     require(
         stage.run(["recover", "cup.toml", "--replay", "match"]).status == DONE,
@@ -223,9 +228,9 @@ def closed_before(stage: Stage) -> None:
 
 @case("a text that is no part is not recovered")
 def no_part(stage: Stage) -> None:
-    for text, told in ((b"", b"head"), (b'{"version"', b"head"), (b"{}\n", b"head")):
+    for text, message in ((b"", b"head"), (b'{"version"', b"head"), (b"{}\n", b"head")):
         (stage.folder / "p").write_bytes(text)
-        expect(stage.run(["recover", "p"]), b"", b"p: " + told + b"\n", REFUSED_TEXT)
+        expect(stage.run(["recover", "p"]), b"", b"p: " + message + b"\n", REFUSED_TEXT)
 
 
 ROOM = 900
@@ -242,15 +247,15 @@ def full_disk() -> None:
     "a part and a replay for which there is no room are told, and the others are there"
 )
 def no_room(stage: Stage) -> None:
-    with served(stage, grace=0, limit=full_disk) as server:
+    with start_server(stage, grace=0, limit=full_disk) as server:
         server.hears(enter("ba") + b'{"do":"look"}\n' * 9 + LEAVE)
-        run = server.ended()
+        run = server.wait_for_end()
         run = run._replace(
-            told=re.sub(rb"(?m)^\d+:[0-5]\d:[0-5]\d (?=serve: )", b"", run.told)
+            stderr=re.sub(rb"(?m)^\d+:[0-5]\d:[0-5]\d (?=serve: )", b"", run.stderr)
         )
     part = stage.folder / "match1.jsonl.part"
     events = part.read_bytes().count(b"\n") - 1
-    told = (
+    text = (
         "serve: the part of match 1 stops after 0 events: write\nmatch1.jsonl: write\n"
     )
     expect(
@@ -259,37 +264,37 @@ def no_room(stage: Stage) -> None:
             "  1 blue             silent          0    0",
             "  2 red              silent          0    0",
         ),
-        told.encode(),
+        text.encode(),
         FAILED_STREAM,
     )
     if names(stage) != ["match0.jsonl", "match1.jsonl.part"] or not 0 < events < 11:
-        raise Wrong(f"there are {names(stage)}, with {events} events")
+        raise FailedCheckError(f"there are {names(stage)}, with {events} events")
     expect(stage.run(["judge", "match0.jsonl"]), b"silent moves 0 lost 0\n")
-    recovered = stage.run(["recover", part.name]).printed
+    recovery = stage.run(["recover", part.name]).stdout
     require(
-        recovered.endswith(CLOSE + b'{"end":%d}\n' % (events + 1)),
-        f"recovered is {recovered!r}",
+        recovery.endswith(CLOSE + b'{"end":%d}\n' % (events + 1)),
+        f"recovered is {recovery!r}",
     )
 
 
 @case("a part for which there was no room is recovered with the turns of its events")
 def no_room_for_events(stage: Stage) -> None:
-    with served(stage, cup=IN_TURNS, grace=0, limit=full_disk) as server:
+    with start_server(stage, cup=IN_TURNS, grace=0, limit=full_disk) as server:
         server.hears(enter("ba") + b'{"do":"look"}\n' * 9 + LEAVE)
-        server.ended()
+        server.wait_for_end()
     if names(stage) != [
         "match0.jsonl",
         "match0.turns",
         "match1.jsonl.part",
         "match1.turns",
     ]:
-        raise Wrong(f"there are {names(stage)}")
+        raise FailedCheckError(f"there are {names(stage)}")
     for match in (0, 1):
         if (
             match == 1
             and stage.run(["recover", "cup.toml", "--replay", "match"]).status != DONE
         ):
-            raise Wrong("the contest is not finished")
+            raise FailedCheckError("the contest is not finished")
         expect(stage.run(appeal_to(match)), b"silent moves 0 lost 0\n")
 
 
@@ -300,5 +305,7 @@ def killed_servers(stage: Stage) -> None:
         folder.mkdir()
         try:
             try_kill(stage.program, kill, folder)
-        except Wrong as error:
-            raise Wrong(f"killed after {kill.after:.3f} s: {error}") from error
+        except FailedCheckError as error:
+            raise FailedCheckError(
+                f"killed after {kill.after:.3f} s: {error}"
+            ) from error

@@ -13,14 +13,14 @@ class Example(NamedTuple):
 
     words: str
     script: str = ""
-    printed: str = ""
-    told: str = ""
+    stdout: str = ""
+    stderr: str = ""
     replay: str = ""
 
 
 TEAMS = "red=examples/first0.jsonl blue=examples/guess0.jsonl green=examples/triangle0.jsonl"
 EXAMPLES = [
-    Example("check examples/first.toml", printed="first.checked"),
+    Example("check examples/first.toml", stdout="first.checked"),
     Example(
         "rehearse examples/first.toml --replay examples/first",
         "first.script",
@@ -39,21 +39,21 @@ EXAMPLES = [
         "triangle.printed",
         replay="triangle0.jsonl",
     ),
-    Example("judge examples/first0.jsonl", printed="solved moves 13 lost 1\n"),
-    Example("judge examples/guess0.jsonl", printed="guess 1 moves 0 lost 0\n"),
-    Example("judge examples/triangle0.jsonl", printed="silent moves 1 lost 0\n"),
+    Example("judge examples/first0.jsonl", stdout="solved moves 13 lost 1\n"),
+    Example("judge examples/guess0.jsonl", stdout="guess 1 moves 0 lost 0\n"),
+    Example("judge examples/triangle0.jsonl", stdout="silent moves 1 lost 0\n"),
     Example(
         "judge examples/appeal0.jsonl --turns examples/appeal0.turns --tournament examples/appeal.toml --match 0",
-        printed="solved moves 25 lost 1\n",
+        stdout="solved moves 25 lost 1\n",
     ),
-    Example(f"table {TEAMS}", printed="table.printed"),
-    Example("explain examples/first0.jsonl 1", printed="first.explained"),
-    Example("twin examples/first0.jsonl 5", told="twin: same\n"),
-    Example("twin examples/first0.jsonl 6", told="twin: reached 20\n"),
-    Example("twin examples/guess0.jsonl 1", printed="guess.twin"),
-    Example("judge examples/guess.twin", printed="wrong moves 0 lost 0\n"),
+    Example(f"table {TEAMS}", stdout="table.printed"),
+    Example("explain examples/first0.jsonl 1", stdout="first.explained"),
+    Example("twin examples/first0.jsonl 5", stderr="twin: same\n"),
+    Example("twin examples/first0.jsonl 6", stderr="twin: reached 20\n"),
+    Example("twin examples/guess0.jsonl 1", stdout="guess.twin"),
+    Example("judge examples/guess.twin", stdout="wrong moves 0 lost 0\n"),
     Example(
-        "check examples/version1.toml", printed="match 0 red nodes 3 links 3 agents 2\n"
+        "check examples/version1.toml", stdout="match 0 red nodes 3 links 3 agents 2\n"
     ),
     Example(
         "explore examples/version1.toml 0", "triangle.answers", "triangle.explored"
@@ -69,23 +69,23 @@ def plays_example(example: Example, stage: Stage) -> None:
         TOP / "examples", folder, ignore=shutil.ignore_patterns("agents", "__pycache__")
     )
     script = (folder / example.script).read_bytes() if example.script else b""
-    printed = folder / example.printed
-    wanted = (
-        printed.read_bytes()
-        if example.printed and printed.is_file()
-        else example.printed.encode()
+    output = folder / example.stdout
+    expectation = (
+        output.read_bytes()
+        if example.stdout and output.is_file()
+        else example.stdout.encode()
     )
     if example.replay:
         (folder / example.replay).unlink()
     expect(
         stage.run(example.words.split(), script),
-        wanted,
-        example.told.encode(),
-        REFUSED_MATCH if example.told else DONE,
+        expectation,
+        example.stderr.encode(),
+        REFUSED_MATCH if example.stderr else DONE,
     )
     if example.replay:
-        wanted = (TOP / "examples" / example.replay).read_bytes()
-        difference(example.replay, wanted, (folder / example.replay).read_bytes())
+        expectation = (TOP / "examples" / example.replay).read_bytes()
+        difference(example.replay, expectation, (folder / example.replay).read_bytes())
 
 
 for each in EXAMPLES:

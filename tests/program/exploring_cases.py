@@ -5,7 +5,7 @@ import functools
 import json
 from typing import List, Tuple
 
-from arena_lab.rules.limits import MOST_TEXT
+from arena_lab.rules.limits import MAX_TEXT
 from tests.program.hosted_agents import (
     FAILING,
     RACE,
@@ -17,7 +17,7 @@ from tests.program.hosted_agents import (
     Step,
     as_agent,
     enter,
-    explored,
+    explore,
     fails,
     heard,
     in_turn,
@@ -41,30 +41,30 @@ def first_failing(stage: Stage) -> None:
     first = next(
         it
         for it in (
-            explored(stage, RACE, "--draws", n, "--seed", 3) for n in range(1, 40)
+            explore(stage, RACE, "--draws", n, "--seed", 3) for n in range(1, 40)
         )
         if it.counts["failed"]
     )
     for draws in (60, 200):
-        found = explored(stage, RACE, "--draws", draws, "--seed", 3).found
-        require(found == first.found, draws, found, first.found)
+        result = explore(stage, RACE, "--draws", draws, "--seed", 3).found
+        require(result == first.found, draws, result, first.found)
 
 
 @case("a drawn schedule that fails is told though others make more moves")
 def failing_is_told(stage: Stage) -> None:
     for seed in range(5):
-        told = explored(stage, RACE, "--draws", 100, "--seed", seed)
-        wanted = (FAILING, "fails") if told.counts["failed"] else (DONE, "comes")
-        require((told.status, told.found["found"]) == wanted, seed, told)
+        output = explore(stage, RACE, "--draws", 100, "--seed", seed)
+        expectation = (FAILING, "fails") if output.counts["failed"] else (DONE, "comes")
+        require((output.status, output.found["found"]) == expectation, seed, output)
 
 
 @case("an agent that has failed at its start has failed under the first drawn schedule")
 def fails_at_once(stage: Stage) -> None:
-    told = explored(stage, [fails, as_agent(1, solves)], "--draws", 2)
+    output = explore(stage, [fails, as_agent(1, solves)], "--draws", 2)
     require(
-        told.found
+        output.found
         == {"found": "breaks", "agent": 0, "failure": "program", "schedule": []},
-        told,
+        output,
     )
 
 
@@ -73,21 +73,26 @@ def fails_at_once(stage: Stage) -> None:
 )
 def outside(stage: Stage) -> None:
     for words in ([], ["--draws", 2]):
-        told = explored(stage, [SOLVER, looks], *words)
-        wanted = {"found": "breaks", "agent": 1, "failure": "outside", "schedule": []}
-        require(told.found == wanted, words, told)
+        output = explore(stage, [SOLVER, looks], *words)
+        expectation = {
+            "found": "breaks",
+            "agent": 1,
+            "failure": "outside",
+            "schedule": [],
+        }
+        require(output.found == expectation, words, output)
 
 
 @case("an agent that sleeps and has not entered has failed under a drawn schedule")
 def asleep(stage: Stage) -> None:
-    told = explored(stage, [SOLVER, sleeps], "--draws", 2, "--spurious-wakeups", 0)
-    require(told.found.get("failure") == "asleep", told)
+    output = explore(stage, [SOLVER, sleeps], "--draws", 2, "--spurious-wakeups", 0)
+    require(output.found.get("failure") == "asleep", output)
 
 
 @case("all agents that are lost are counted")
 def two_lost(stage: Stage) -> None:
-    told = explored(stage, [as_agent(0, is_lost), as_agent(1, is_lost)], "--draws", 3)
-    require(told.counts["lost"] == [[2, 3]], told)
+    output = explore(stage, [as_agent(0, is_lost), as_agent(1, is_lost)], "--draws", 3)
+    require(output.counts["lost"] == [[2, 3]], output)
 
 
 def walks_or_is_lost(history: List[str]) -> Step:
@@ -123,9 +128,9 @@ def writes_and_solves(history: List[str]) -> Step:
 )
 def hunts(stage: Stage) -> None:
     team = [writes_and_solves, walks_or_is_lost]
-    lost = explored(stage, team, "--draws", 200, "--objective", "lost")
+    lost = explore(stage, team, "--draws", 200, "--objective", "lost")
     require(lost.found["found"] == "comes" and lost.found["lost"] == 1, lost)
-    moves = explored(stage, team, "--draws", 200, "--objective", "moves")
+    moves = explore(stage, team, "--draws", 200, "--objective", "moves")
     require(
         moves.found["found"] == "comes"
         and moves.found["moves"] == moves.counts["moves"][-1][0] > 5,
@@ -138,53 +143,55 @@ def hunts(stage: Stage) -> None:
 
 @case("both agents of a race come first under drawn schedules")
 def both_come(stage: Stage) -> None:
-    told = explored(stage, RACE, "--draws", 200)
-    require(50 < told.counts["solved"] < 150, told)
+    output = explore(stage, RACE, "--draws", 200)
+    require(50 < output.counts["solved"] < 150, output)
 
 
 @case("other seeds draw other schedules, also those of more than 16 bits")
 def seeds(stage: Stage) -> None:
-    told = {
-        json.dumps(explored(stage, RACE, "--draws", 200, "--seed", seed).counts)
+    output = {
+        json.dumps(explore(stage, RACE, "--draws", 200, "--seed", seed).counts)
         for seed in (0, 1, 256, 65_536, 65_537)
     }
-    require(len(told) > 3, told)
+    require(len(output) > 3, output)
 
 
 @case("the schedules behind the first 256 are others")
 def streams(stage: Stage) -> None:
     once, twice = (
-        explored(stage, RACE, "--draws", draws).counts["solved"] for draws in (256, 512)
+        explore(stage, RACE, "--draws", draws).counts["solved"] for draws in (256, 512)
     )
     require(twice != 2 * once, once, twice)
 
 
-def counted(stage: Stage, draws: int, *words: object) -> Tuple[int, int, int]:
+def sample_counts(stage: Stage, draws: int, *words: object) -> Tuple[int, int, int]:
     """What is counted of the first drawn schedules of a race."""
-    counts = explored(stage, RACE, "--draws", draws, "--seed", 7, *words).counts
+    counts = explore(stage, RACE, "--draws", draws, "--seed", 7, *words).counts
     return counts["solved"], counts["failed"], counts["turns"]
 
 
 def counted_of(stage: Stage, number: int, *words: object) -> List[int]:
     """What is counted of the drawn schedule of this number."""
-    before = counted(stage, number, *words) if number else (0, 0, 0)
-    return [new - old for new, old in zip(counted(stage, number + 1, *words), before)]
+    before = sample_counts(stage, number, *words) if number else (0, 0, 0)
+    return [
+        new - old for new, old in zip(sample_counts(stage, number + 1, *words), before)
+    ]
 
 
 @case("every second schedule of a hunt is the one that is drawn without it")
 def every_second(stage: Stage) -> None:
     for number in range(0, 24, 2):
-        hunted, drawn = (
+        hunt_result, draw = (
             counted_of(stage, number, *words)
             for words in (("--objective", "moves"), ())
         )
-        require(hunted == drawn, number, hunted, drawn)
+        require(hunt_result == draw, number, hunt_result, draw)
 
 
 @case("each schedule starves another agent")
-def starved(stage: Stage) -> None:
-    told = explored(stage, RACE, "--draws", 2, "--scheduler", "starved")
-    require(told.counts["solved"] == told.counts["failed"] == 1, told)
+def starve_agent(stage: Stage) -> None:
+    output = explore(stage, RACE, "--draws", 2, "--scheduler", "starved")
+    require(output.counts["solved"] == output.counts["failed"] == 1, output)
 
 
 def walks_once(agent: int, history: List[str]) -> Step:
@@ -201,7 +208,7 @@ def walks_once(agent: int, history: List[str]) -> Step:
 @case("of two agents on links the one arrives first that departed last")
 def last_departed(stage: Stage) -> None:
     for seed in range(8):
-        schedule = explored(
+        schedule = explore(
             stage,
             [as_agent(0, walks_once), as_agent(1, walks_once)],
             "--draws",
@@ -213,7 +220,7 @@ def last_departed(stage: Stage) -> None:
         ).found["schedule"]
         # an agent's second turn departs, and its third arrives
         turns = [
-            [at for at, other in enumerate(schedule) if other == agent]
+            [at for at, second in enumerate(schedule) if second == agent]
             for agent in (0, 1)
         ]
         last = max((0, 1), key=lambda agent: turns[agent][1])
@@ -245,7 +252,7 @@ def sleeps_and_writes(history: List[str]) -> Step:
     "sleepers wake seldom beside slow agents, in some schedules ten times as seldom as in others"
 )
 def sleepers_wake_seldom(stage: Stage) -> None:
-    told = explored(
+    output = explore(
         stage,
         [looks_and_solves, sleeps_and_writes],
         "--draws",
@@ -255,9 +262,8 @@ def sleepers_wake_seldom(stage: Stage) -> None:
         "--spurious-wakeups",
         10,
     )
-    # with weight 10 in all schedules it would be some 420 of them, with weight 1 some
-    # 60
-    require(150 < told.counts["failed"] < 320, told.counts)
+    # weight 10 in all schedules would give about 420, and weight 1 about 60
+    require(150 < output.counts["failed"] < 320, output.counts)
 
 
 # Limits and lines.
@@ -265,17 +271,17 @@ def sleepers_wake_seldom(stage: Stage) -> None:
 
 @case("a search stops at --max-states")
 def states(stage: Stage) -> None:
-    told = explored(stage, [SOLVER, stops], "--max-states", 2)
-    require((told.status, told.fault) == (REFUSED_TEXT, "host: states"), told)
+    output = explore(stage, [SOLVER, stops], "--max-states", 2)
+    require((output.status, output.fault) == (REFUSED_TEXT, "host: states"), output)
 
 
 @case("each agent that has failed at its start is found")
 def second_fails(stage: Stage) -> None:
-    told = explored(stage, [stops, fails])
+    output = explore(stage, [stops, fails])
     require(
-        told.found
+        output.found
         == {"found": "breaks", "agent": 1, "failure": "program", "schedule": []},
-        told,
+        output,
     )
 
 
@@ -286,23 +292,27 @@ def sends(line: bytes) -> Agent:
 
 @case("a line that is longer than a server takes is denied, and a long text is written")
 def long_lines(stage: Stage) -> None:
-    told = explored(stage, [sends(b" " * 65_537), stops])
-    require(told.found.get("found") == "fails" and told.counts["boards"] == 1, told)
-    told = explored(stage, [sends(say("write", expect="", put="x" * 5_500)), stops])
-    require(told.found.get("found") == "fails" and told.counts["boards"] == 2, told)
+    output = explore(stage, [sends(b" " * 65_537), stops])
+    require(
+        output.found.get("found") == "fails" and output.counts["boards"] == 1, output
+    )
+    output = explore(stage, [sends(say("write", expect="", put="x" * 5_500)), stops])
+    require(
+        output.found.get("found") == "fails" and output.counts["boards"] == 2, output
+    )
 
 
 @case("a line of a host has at most 1,048,576 bytes, in whatever pieces it is read")
 def longest_answer(stage: Stage) -> None:
     writes_team(stage, 2)
-    for more, number, asked in (
+    for extra, number, request in (
         (0, 2, b'{"begin":0}\n{"begin":1}\n'),
         (1, 1, b'{"begin":0}\n'),
     ):
-        answer = b" stops".rjust(MOST_TEXT + more, b"0") + b"\n"
+        answer = b" stops".rjust(MAX_TEXT + extra, b"0") + b"\n"
         expect(
             stage.run(["explore", "team.toml", "0"], answer),
-            asked,
+            request,
             b"host: line %d\n" % number,
             REFUSED_TEXT,
         )
@@ -324,16 +334,20 @@ def looks_again(history: List[str]) -> Step:
     "a round that may go on for ever is fair unless an agent that can move has no turn in it"
 )
 def rounds(stage: Stage) -> None:
-    for other, is_fair in ((stops, True), (as_agent(1, solves), False), (sleeps, True)):
-        told = explored(
-            stage, [as_agent(0, enters_again), other], "--spurious-wakeups", 0, keeps=1
+    for second, is_fair in (
+        (stops, True),
+        (as_agent(1, solves), False),
+        (sleeps, True),
+    ):
+        output = explore(
+            stage, [as_agent(0, enters_again), second], "--spurious-wakeups", 0, keeps=1
         )
         require(
-            [told.found.get(it) for it in ("found", "round", "fair")]
+            [output.found.get(it) for it in ("found", "round", "fair")]
             == ["endless", [0], is_fair],
-            told,
+            output,
         )
-        require(told.status == FAILING, told)
+        require(output.status == FAILING, output)
 
 
 @case(
@@ -341,13 +355,13 @@ def rounds(stage: Stage) -> None:
 )
 def rounds_that_end(stage: Stage) -> None:
     for quota in (1, 10, 200):
-        told = explored(stage, [looks_again, stops], quota=quota, keeps=1)
+        output = explore(stage, [looks_again, stops], quota=quota, keeps=1)
         require(
-            told.found == {"found": "exceeds", "agent": 0, "commands": quota + 1},
+            output.found == {"found": "exceeds", "agent": 0, "commands": quota + 1},
             quota,
-            told,
+            output,
         )
-        require(told.status == REFUSED_TEXT, told)
+        require(output.status == REFUSED_TEXT, output)
 
 
 def waits(patience: int, history: List[str]) -> Step:
@@ -385,8 +399,8 @@ def walks_and_writes(history: List[str]) -> Step:
     "solves is said of agents that nap so often, and its commands and turns are theirs"
 )
 def naps(stage: Stage) -> None:
-    told = [
-        explored(
+    output = [
+        explore(
             stage,
             [walks_and_writes, functools.partial(waits, 9)],
             "--spurious-wakeups",
@@ -394,10 +408,12 @@ def naps(stage: Stage) -> None:
         ).found
         for count in range(10)
     ]
-    for count, found in enumerate(told[:9]):
-        require(found["found"] == "solves" and found["naps"] == count, count, found)
+    for count, result in enumerate(output[:9]):
+        require(result["found"] == "solves" and result["naps"] == count, count, result)
         # each nap is a waking and a look more, before agent 0 has written; to leave is
         # not counted
-        require(found["commands"] == [4, count + 2], count, found)
-        require(found["turns"] == told[0]["turns"] + 2 * count, count, found, told[0])
-    require(told[9]["found"] == "fails", told[9])
+        require(result["commands"] == [4, count + 2], count, result)
+        require(
+            result["turns"] == output[0]["turns"] + 2 * count, count, result, output[0]
+        )
+    require(output[9]["found"] == "fails", output[9])

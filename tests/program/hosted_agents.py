@@ -10,13 +10,12 @@ from tests.support.program_rows import PATIENCE, Stage
 
 FAILING = 1
 WAKES = "wakes"
-# a line to send, or one of the words below
+# a line to send, or one of the following constants
 Step = Union[bytes, str]
 STOPS = "stops"
 SLEEPS = "sleeps"
 FAILS = "fails"
-# what an agent does next, by all that has happened to it: the replies that it heard,
-# and its wakings
+# a function from the history (replies and wake-ups) to the next step
 Agent = Callable[[List[str]], Step]
 
 
@@ -30,8 +29,8 @@ class Answer(NamedTuple):
     fault: str
 
 
-def say(do: str, **more: object) -> bytes:
-    return json.dumps({"do": do, **more}).encode()
+def say(do: str, **extra: object) -> bytes:
+    return json.dumps({"do": do, **extra}).encode()
 
 
 def enter(agent: int) -> bytes:
@@ -84,7 +83,7 @@ def writes_team(stage: Stage, agents: int, quota: int = 200) -> None:
     )
 
 
-def explored(
+def explore(
     stage: Stage,
     agents: Sequence[Agent],
     *words: object,
@@ -107,28 +106,27 @@ def explored(
     last = []
     try:
         for line in child.stdout:
-            told = json.loads(line)
-            if "begin" in told or "ask" in told:
-                child.stdin.write(host.answer(told))
+            message = json.loads(line)
+            if "begin" in message or "ask" in message:
+                child.stdin.write(host.answer(message))
                 child.stdin.flush()
-            elif "visited" not in told:
-                last.append(told)
+            elif "visited" not in message:
+                last.append(message)
         fault = child.stderr.read().decode().strip()
         child.wait()
     finally:
         patience.cancel()
         child.kill()
         child.communicate()
-    found, counts = last if last else ({}, {})
-    return Answer(child.returncode, found, counts, fault)
+    result, counts = last if last else ({}, {})
+    return Answer(child.returncode, result, counts, fault)
 
 
 # Agents.
 
 
 def in_turn(history: List[str], *steps: Step) -> Step:
-    """Of these steps the one after all that has happened; an agent that has done all of
-    them stops."""
+    """Returns the step after this history; agents stop after the last one."""
     return steps[len(history)] if len(history) < len(steps) else STOPS
 
 

@@ -7,7 +7,7 @@ import sys
 import threading
 from typing import List, Sequence
 
-from arena_lab.rules.limits import MOST_TEXT
+from arena_lab.rules.limits import MAX_TEXT
 from tests.program.program_cases import (
     CASES,
     ENTER,
@@ -23,7 +23,7 @@ from tests.support.program_rows import (
     PATIENCE,
     REFUSED_TEXT,
     Stage,
-    Wrong,
+    FailedCheckError,
     difference,
     expect,
 )
@@ -31,9 +31,9 @@ from tests.support.program_rows import (
 INTERACTIVE = ["rehearse", "--interactive"]
 
 
-def without_ends(printed: bytes) -> bytes:
+def without_ends(output: bytes) -> bytes:
     """What is printed, without the empty lines that end the answers."""
-    return b"".join(line for line in printed.splitlines(True) if line != b"\n")
+    return b"".join(line for line in output.splitlines(True) if line != b"\n")
 
 
 def lockstep(stage: Stage, lines: Sequence[str]) -> List[bytes]:
@@ -55,10 +55,10 @@ def lockstep(stage: Stage, lines: Sequence[str]) -> List[bytes]:
             player.stdin.flush()
             answers.append(b"".join(iter(player.stdout.readline, b"\n")))
             if player.poll() is not None:
-                raise Wrong(f"no answer came to {line[:60]}")
+                raise FailedCheckError(f"no answer came to {line[:60]}")
         player.stdin.close()
         if player.wait(PATIENCE) != DONE or player.stdout.read():
-            raise Wrong(
+            raise FailedCheckError(
                 f"it ended with {player.returncode}, or printed behind the last answer"
             )
     finally:
@@ -75,16 +75,16 @@ def answers_at_once(seeds: Sequence[int], stage: Stage) -> None:
     for seed in seeds:
         script = drawn_script(seed)[0]
         batch = stage.run(["rehearse"], script.encode())
-        expect(batch, batch.printed)
+        expect(batch, batch.stdout)
         piece = stage.run(INTERACTIVE, script.encode())
-        expect(piece, piece.printed)
+        expect(piece, piece.stdout)
         difference(
-            f"seed {seed}, in one piece", batch.printed, without_ends(piece.printed)
+            f"seed {seed}, in one piece", batch.stdout, without_ends(piece.stdout)
         )
         answers = lockstep(stage, script.splitlines())
         difference(
             f"seed {seed}, in lockstep",
-            piece.printed,
+            piece.stdout,
             b"".join(answer + b"\n" for answer in answers),
         )
 
@@ -97,16 +97,16 @@ for first_seed in range(0, 40, 10):
 
 @case("an interactive script may be longer than a batch, its lines not")
 def longest_line(stage: Stage) -> None:
-    comment = "#" * MOST_TEXT + "\n"
+    comment = "#" * MAX_TEXT + "\n"
     script = f"0 {ENTER}\n{comment}{comment}0 {LOOK}\n"
     expect(
         stage.run(INTERACTIVE, script.encode()),
         (HERE + "\n\n\n" + HERE + "\n").encode(),
     )
-    refused = f"0 {ENTER}\n#{comment}0 {LOOK}\n"
+    refusal = f"0 {ENTER}\n#{comment}0 {LOOK}\n"
     for text in (
-        refused,
-        refused[: -len(LOOK) - 4],
+        refusal,
+        refusal[: -len(LOOK) - 4],
     ):  # with and without the line feed behind it
         expect(
             stage.run(INTERACTIVE, text.encode()),
@@ -132,7 +132,7 @@ def refused_line(stage: Stage) -> None:
 
 @case("the adversary of the examples delivers the agent that departed last")
 def adversary(stage: Stage) -> None:
-    ran = subprocess.run(
+    result = subprocess.run(
         [sys.executable, TOP / "examples" / "last_departed.py", stage.program],
         timeout=PATIENCE,
         stdout=subprocess.PIPE,
@@ -141,6 +141,6 @@ def adversary(stage: Stage) -> None:
     difference(
         "last_departed.py",
         (TOP / "examples" / "last_departed.printed").read_bytes(),
-        ran.stdout,
+        result.stdout,
     )
-    require(not ran.returncode, f"it ended with {ran.returncode}")
+    require(not result.returncode, f"it ended with {result.returncode}")

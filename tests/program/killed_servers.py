@@ -36,7 +36,7 @@ import time
 from typing import Dict, List, NamedTuple, Optional
 
 from arena_lab.rules.delays import Delays
-from tests.support.counts import Wrong, concluded, require
+from tests.support.counts import FailedCheckError, report_counts, require
 from tests.support.servers import enter, serve
 from tests.support.session_lines import DEPART, GONE, LOOK
 from tests.support.tournaments import TRIANGLE, match, write_cup
@@ -94,24 +94,24 @@ def replay_of(program: str, folder: pathlib.Path, number: int) -> bytes:
     replay = folder / f"match{number}.jsonl"
     if replay.exists():
         return replay.read_bytes()
-    made = subprocess.run(
+    result = subprocess.run(
         [program, "recover", f"{replay}.part"], capture_output=True, timeout=PATIENCE
     )
-    require(not made.returncode, f"recover of match {number}: {made.stderr!r}")
-    return made.stdout
+    require(not result.returncode, f"recover of match {number}: {result.stderr!r}")
+    return result.stdout
 
 
 def finish(program: str, folder: pathlib.Path) -> List[bytes]:
     """Finishes what the server has left; gives the replays."""
     replays = [replay_of(program, folder, number) for number in range(len(TEAMS))]
-    recovered = subprocess.run(
+    result = subprocess.run(
         [program, "recover", "cup.toml", "--replay", "match"],
         cwd=folder,
         capture_output=True,
         timeout=PATIENCE,
     )
-    if recovered.returncode or recovered.stderr:
-        raise Wrong(f"recover: {recovered.stderr!r}")
+    if result.returncode or result.stderr:
+        raise FailedCheckError(f"recover: {result.stderr!r}")
     names = [f"match{number}.jsonl" for number in range(len(TEAMS))]
     require(
         replays == [(folder / name).read_bytes() for name in names],
@@ -119,7 +119,7 @@ def finish(program: str, folder: pathlib.Path) -> List[bytes]:
     )
     words = ["table", *(f"{team}={name}" for team, name in zip(TEAMS, names))]
     if (
-        recovered.stdout
+        result.stdout
         != subprocess.run(
             [program, *words],
             cwd=folder,
@@ -128,7 +128,7 @@ def finish(program: str, folder: pathlib.Path) -> List[bytes]:
             timeout=PATIENCE,
         ).stdout
     ):
-        raise Wrong(f"recover has printed {recovered.stdout!r}")
+        raise FailedCheckError(f"recover has printed {result.stdout!r}")
     stand_appeals(program, folder)
     return replays
 
@@ -152,20 +152,20 @@ def stand_appeals(program: str, folder: pathlib.Path) -> None:
     """Each match that was recovered stands its appeal with its turns, and no part is
     left."""
     for number in range(len(TEAMS)):
-        judged = subprocess.run(
+        result = subprocess.run(
             [program, *appeal_to(number)],
             cwd=folder,
             capture_output=True,
             timeout=PATIENCE,
         )
-        if judged.returncode or not judged.stdout:
-            raise Wrong(f"the appeal of match {number}: {judged.stderr!r}")
+        if result.returncode or not result.stdout:
+            raise FailedCheckError(f"the appeal of match {number}: {result.stderr!r}")
     parts = sorted(path.name for path in folder.glob("match*.part"))
     require(not parts, f"recover has left {parts}")
 
 
 def told_events(replay: bytes) -> int:
-    """How many commands stand in a replay."""
+    """Returns how many commands stand in a replay."""
     events: List[Dict[str, object]] = [
         json.loads(line) for line in replay.splitlines()[1:]
     ]
@@ -200,11 +200,11 @@ def try_kill(program: str, kill: Kill, folder: pathlib.Path) -> None:
     for client in clients:
         client.join(PATIENCE)
     for number, (client, replay) in enumerate(zip(clients, finish(program, folder))):
-        found = told_events(replay)
+        result = told_events(replay)
         old = sum(moment < end - OLD for moment in client.answered)
         require(
-            found >= old,
-            f"match {number} has {found} commands, and {old} were answered {OLD} s before",
+            result >= old,
+            f"match {number} has {result} commands, and {old} were answered {OLD} s before",
         )
 
 
@@ -219,11 +219,11 @@ def fault_of(program: str, kill: Kill) -> Optional[str]:
 
 def kills(count: int, seed: int) -> List[Kill]:
     """Kills that are drawn from a seed: short and long contests in turn."""
-    chance = random.Random(seed)
+    rng = random.Random(seed)
     return [
-        Kill(chance.uniform(0, LONG), LONG_TURNS)
+        Kill(rng.uniform(0, LONG), LONG_TURNS)
         if number % 2
-        else Kill(chance.uniform(0, SHORT), SHORT_TURNS)
+        else Kill(rng.uniform(0, SHORT), SHORT_TURNS)
         for number in range(count)
     ]
 
@@ -235,16 +235,16 @@ def main() -> int:
     parser.add_argument("program", metavar="PROGRAM", type=pathlib.Path)
     parser.add_argument("--kills", metavar="N", type=int, default=100)
     parser.add_argument("--seed", metavar="S", type=int, default=1)
-    given = parser.parse_args()
-    program = str(given.program.resolve())
-    drawn = kills(given.kills, given.seed)
+    args = parser.parse_args()
+    program = str(args.program.resolve())
+    draw = kills(args.kills, args.seed)
     with concurrent.futures.ThreadPoolExecutor(WORKERS) as pool:
-        faults = list(pool.map(lambda kill: fault_of(program, kill), drawn))
-    for kill, fault in zip(drawn, faults):
+        faults = list(pool.map(lambda kill: fault_of(program, kill), draw))
+    for kill, fault in zip(draw, faults):
         if fault:
             print(f"killed after {kill.after:.3f} s of {kill.turns} turns: {fault}")
-    failed = len([fault for fault in faults if fault])
-    return concluded(len(faults) - failed, failed)
+    failures = len([fault for fault in faults if fault])
+    return report_counts(len(faults) - failures, failures)
 
 
 if __name__ == "__main__":

@@ -2,7 +2,7 @@
 import os
 import sys
 
-from arena_lab.rules.limits import MOST_LINE, MOST_TEXT
+from arena_lab.rules.limits import MAX_LINE, MAX_TEXT
 from tests.program.program_cases import (
     BAD,
     CRAMPED,
@@ -30,9 +30,9 @@ LONGEST_TURN = 11
 @case("each two of the most nodes are linked")
 def complete_graph(stage: Stage) -> None:
     links = [
-        [one, other - 1, other, one]
-        for one in range(256)
-        for other in range(one + 1, 256)
+        [first, second - 1, second, first]
+        for first in range(256)
+        for second in range(first + 1, 256)
     ]
     writes(stage, cup=CUP, tri=f"version = 1\nnodes = 256\nlinks = {links}\n")
     expect(
@@ -49,10 +49,10 @@ def most_nodes(stage: Stage) -> None:
         stage.run(["check", "cup.toml"]),
         b"match 0 red nodes 4096 links 4096 agents 2\n",
     )
-    ran = stage.run(
+    result = stage.run(
         ["rehearse", "cup.toml", "--replay", "ring"], f"0 {ENTER}\nclose 0\n".encode()
     )
-    expect(ran, HERE.encode())
+    expect(result, HERE.encode())
     head = (stage.folder / "ring0.jsonl").read_text().partition("\n")[0]
     require(
         head.endswith('"nodes":4096,"quota":10,"replay":3}'),
@@ -68,15 +68,15 @@ LARGE = CUP.replace("version = 2", "version = 3")
 def large_quota(stage: Stage) -> None:
     writes(stage, cup=LARGE.replace("quota = 10", "quota = 2000"), tri=TRIANGLE)
     script = f"0 {ENTER}\n" + f"0 {LOOK}\n" * 2001
-    ran = stage.run(["rehearse", "cup.toml"], script.encode())
-    expect(ran, (HERE * 2001 + '0 {"no":"spent"}\n').encode())
+    result = stage.run(["rehearse", "cup.toml"], script.encode())
+    expect(result, (HERE * 2001 + '0 {"no":"spent"}\n').encode())
 
 
 @case("a whiteboard of version 3 holds more than 4,096 bytes")
 def large_board(stage: Stage) -> None:
     writes(stage, cup=LARGE.replace("board = 8", "board = 65535"), tri=TRIANGLE)
     text = "a" * 65_000
-    told = [
+    message = [
         (ENTER, HERE),
         (f'{{"do":"write","expect":"","put":"{text}"}}', '0 {"ok":"written"}\n'),
         (LOOK, HERE.replace('""', f'"{text}"')),
@@ -85,10 +85,10 @@ def large_board(stage: Stage) -> None:
         (f'{{"do":"write","expect":"{text}","put":""}}', '0 {"ok":"written"}\n'),
         (LOOK, HERE),
     ]
-    ran = stage.run(
-        ["rehearse", "cup.toml"], "".join(f"0 {line}\n" for line, _ in told).encode()
+    result = stage.run(
+        ["rehearse", "cup.toml"], "".join(f"0 {line}\n" for line, _ in message).encode()
     )
-    expect(ran, "".join(answer for _, answer in told).encode())
+    expect(result, "".join(answer for _, answer in message).encode())
 
 
 @case("the largest match is told to lack memory where too little may be mapped")
@@ -115,26 +115,24 @@ def large_match(stage: Stage) -> None:
 @case("long lines are answered")
 def long_lines(stage: Stage) -> None:
     lines = [ENTER, "a" * 70_000]
-    lines += [
-        LOOK + " " * (length - len(LOOK)) for length in (MOST_LINE, MOST_LINE + 1)
-    ]
+    lines += [LOOK + " " * (length - len(LOOK)) for length in (MAX_LINE, MAX_LINE + 1)]
     lines += [f'{{"do":"look","x":{"[" * depth}{"]" * depth}}}' for depth in (10, 200)]
     rehearses(stage, "".join(f"0 {line}\n" for line in lines), (HERE + BAD) * 3)
 
 
 @case("a script of the greatest length, and one byte more")
 def longest_script(stage: Stage) -> None:
-    rehearses(stage, "\n" * MOST_TEXT, "")
-    rehearses(stage, "\n" * (MOST_TEXT + 1), "", "script: text\n", REFUSED_TEXT)
+    rehearses(stage, "\n" * MAX_TEXT, "")
+    rehearses(stage, "\n" * (MAX_TEXT + 1), "", "script: text\n", REFUSED_TEXT)
 
 
 @case("a file of the greatest length, and one byte more")
 def longest_file(stage: Stage) -> None:
-    for more, fault in (
+    for extra, fault in (
         (0, "version\n  version: 1, 2 or 3; of a network 1 or 2"),
         (1, "text"),
     ):
-        writes(stage, long="#" * (MOST_TEXT + more))
+        writes(stage, long="#" * (MAX_TEXT + extra))
         expect(
             stage.run(["check", "long.toml"]),
             b"",
@@ -150,11 +148,11 @@ def longest_turns(stage: Stage) -> None:
     (stage.folder / "examples").symlink_to(TOP / "examples")
     turns = stage.folder / "long.turns"
     events = 69
-    longest = LONGEST_TURN * events + MOST_TEXT
+    longest = LONGEST_TURN * events + MAX_TEXT
     words = "judge examples/appeal0.jsonl --turns long.turns --tournament examples/appeal.toml --match 0".split()
     turns.write_text("0\n" * (longest // 2))
-    told = f"long.turns: {longest // 2} turns, {events} events\n"
-    expect(stage.run(words), b"", told.encode(), REFUSED_MATCH)
+    text = f"long.turns: {longest // 2} turns, {events} events\n"
+    expect(stage.run(words), b"", text.encode(), REFUSED_MATCH)
     turns.write_text("0" * (longest + 1))
     expect(stage.run(words), b"", b"long.turns: text\n", REFUSED_TEXT)
     os.truncate(turns, 10**12)
@@ -171,8 +169,8 @@ def longest_name(stage: Stage) -> None:
         long=CUP.replace("tri.toml", f"{name}n"),
     )
     expect(stage.run(["check", "cup.toml"]), b"match 0 red nodes 3 links 3 agents 2\n")
-    told = b"long.toml: match 0 shape network\n" + SOME_HELP
-    expect(stage.run(["check", "long.toml"]), b"", told, REFUSED_TEXT)
+    message = b"long.toml: match 0 shape network\n" + SOME_HELP
+    expect(stage.run(["check", "long.toml"]), b"", message, REFUSED_TEXT)
 
 
 @case("tournaments have 64 matches")

@@ -17,9 +17,15 @@ from tests.program.program_cases import (
     case,
     writes,
 )
-from tests.program.unmapped_networks import Search, explored, fault_in, searches_of
+from tests.program.unmapped_networks import Search, explore, fault_in, searches_of
 from tests.support.counts import require, wants
-from tests.support.program_rows import DONE, REFUSED_TEXT, Stage, Wrong, expect
+from tests.support.program_rows import (
+    DONE,
+    REFUSED_TEXT,
+    Stage,
+    FailedCheckError,
+    expect,
+)
 from tests.support.servers import Run
 from tests.support.tournaments import TRIANGLE as NETWORK
 from tests.support.tournaments import match, write_cup
@@ -30,9 +36,12 @@ from tests.support.wasm_encoding import (
     checks,
     constant,
     in_memory,
+    join_sections,
     module,
     numeric,
+    sections_of,
     told_by_node,
+    unsigned_leb128,
 )
 
 FAILING = 1
@@ -50,14 +59,14 @@ FILL = b"\xfc\x0b\x00"
 COPY = b"\xfc\x0a\x00\x00"
 MULTIPLY = b"\x6c"
 SUBTRACT = b"\x6b"
-# where a module has the text of a whiteboard
+# address of the whiteboard's text in a module
 BOARD = 16
 # pages of 64 KiB that an agent asks for at a time
 GROWTH = 100
 STATES = '{"states":%d,"memories":%d,"stances":%d,"boards":1}\n'
 
 
-def tried(
+def run_module(
     stage: Stage,
     agent: bytes,
     *words: str,
@@ -74,7 +83,7 @@ def tried(
 def explores(
     stage: Stage,
     agent: bytes,
-    printed: str,
+    output: str,
     status: int,
     failure: str = "",
     arguments: str = "",
@@ -84,13 +93,18 @@ def explores(
     digest = hashlib.sha256(agent).hexdigest()
     line = f'{{"module":"{digest}","arguments":[{arguments}]{failure}}}\n'
     expect(
-        tried(stage, agent, arguments=arguments), (printed + line).encode(), b"", status
+        run_module(stage, agent, arguments=arguments),
+        (output + line).encode(),
+        b"",
+        status,
     )
 
 
 def refuses(stage: Stage, agent: bytes, fault: str) -> None:
     """A file is refused in one line."""
-    expect(tried(stage, agent), b"", f"agent.wasm: {fault}\n".encode(), REFUSED_TEXT)
+    expect(
+        run_module(stage, agent), b"", f"agent.wasm: {fault}\n".encode(), REFUSED_TEXT
+    )
 
 
 def running(body: bytes, *imports: str) -> bytes:
@@ -111,7 +125,7 @@ OUTSIDE = BREAKS.replace("program", "outside")
 
 
 @case("a module solves a ring under every schedule")
-def solved(stage: Stage) -> None:
+def solve_triangle(stage: Stage) -> None:
     shutil.copy(TOP / "examples" / "ring8.toml", stage.folder / "ring8.toml")
     writes(
         stage,
@@ -121,18 +135,18 @@ def solved(stage: Stage) -> None:
         .replace("holes = [2]", "holes = [5]"),
     )
     (stage.folder / "ring.wasm").write_bytes(RING.read_bytes())
-    ran = stage.run(["explore", "cup.toml", "0", "--module", "ring.wasm:8"], b"")
-    lines = ran.printed.decode().splitlines()
+    result = stage.run(["explore", "cup.toml", "0", "--module", "ring.wasm:8"], b"")
+    lines = result.stdout.decode().splitlines()
     digest = hashlib.sha256(RING.read_bytes()).hexdigest()
-    if ran.status != DONE or not lines[0].startswith('{"found":"solves","moves":'):
-        raise Wrong(f"{ran.status}: {lines} {ran.told!r}")
+    if result.status != DONE or not lines[0].startswith('{"found":"solves","moves":'):
+        raise FailedCheckError(f"{result.status}: {lines} {result.stderr!r}")
     require(
         lines[2:] == [f'{{"module":"{digest}","arguments":[8]}}'],
         f"the last lines are {lines[2:]}",
     )
 
 
-def holed(stage: Stage, hole: int, *words: str) -> Run:
+def explore_hole(stage: Stage, hole: int, *words: str) -> Run:
     """What is found of the sample module on a ring of 5 with home base 2."""
     limits = {"home": 2, "quota": 100, "board": 48}
     dark = [] if "--all-holes" not in words else [(2, 0)]
@@ -143,7 +157,7 @@ def holed(stage: Stage, hole: int, *words: str) -> Run:
     )
 
 
-def named(hole: int) -> bytes:
+def hole_line(hole: int) -> bytes:
     """The line that names a black hole."""
     return b'{"hole":%d}\n' % hole
 
@@ -151,10 +165,11 @@ def named(hole: int) -> bytes:
 @case("with --all-holes a ring is solved with each black hole, as with each alone")
 def all_holes(stage: Stage) -> None:
     for words in ([], ["--draws", "3"], ["--spurious-wakeups", "0"]):
-        wanted = b"".join(
-            named(hole) + holed(stage, hole, *words).printed for hole in (0, 1, 3, 4)
+        expectation = b"".join(
+            hole_line(hole) + explore_hole(stage, hole, *words).stdout
+            for hole in (0, 1, 3, 4)
         )
-        expect(holed(stage, 4, "--all-holes", *words), wanted, b"", DONE)
+        expect(explore_hole(stage, 4, "--all-holes", *words), expectation, b"", DONE)
 
 
 @case("with --all-holes the first black hole with which a schedule fails is the last")
@@ -164,27 +179,27 @@ def first_failing(stage: Stage) -> None:
     for port, holes in ((1, (1, 2)), (0, (1,))):
         modules = ["--module", f"walks.wasm:{port}", "--module", "leaves.wasm"]
         words = ["explore", "cup.toml", "0", *modules]
-        wanted = b""
+        expectation = b""
         for hole in holes:
             writes(
                 stage,
                 tri=TRIANGLE,
                 cup=CUP.replace("holes = [2]", f"holes = [{hole}]"),
             )
-            wanted += named(hole) + stage.run(words, b"").printed
-        expect(stage.run([*words, "--all-holes"], b""), wanted, b"", FAILING)
+            expectation += hole_line(hole) + stage.run(words, b"").stdout
+        expect(stage.run([*words, "--all-holes"], b""), expectation, b"", FAILING)
 
 
 @case("with --all-holes a search with too many states names its black hole")
 def too_many_states(stage: Stage) -> None:
-    told = b"agent.wasm: states\n  with node 1 as the black hole\n"
+    message = b"agent.wasm: states\n  with node 1 as the black hole\n"
     agent = running(CALL + b"\x00" + DROP, "enter")
-    found = tried(stage, agent, "--all-holes", "--max-states", "1")
-    expect(found, b"", told, REFUSED_TEXT)
+    run = run_module(stage, agent, "--all-holes", "--max-states", "1")
+    expect(run, b"", message, REFUSED_TEXT)
 
 
 @case("the sample module is what clang makes of its source, as far as searches tell")
-def compiled(stage: Stage) -> None:
+def compile_sample(stage: Stage) -> None:
     if shutil.which("clang") is None or shutil.which("wasm-ld") is None:
         raise unittest.SkipTest("clang or lld is not installed")
     agent = stage.folder / "agent.wasm"
@@ -206,14 +221,16 @@ def compiled(stage: Stage) -> None:
         tri=TRIANGLE,
         cup=CUP.replace("quota = 10", "quota = 100").replace("board = 8", "board = 48"),
     )
-    found = [
+    results = [
         stage.run(
             ["explore", "cup.toml", "0", "--module", f"{file}:3"], b""
-        ).printed.splitlines()[0]
+        ).stdout.splitlines()[0]
         for file in (agent, RING)
     ]
-    if found[0] != found[1] or not found[0].startswith(b'{"found":"solves","moves":4,'):
-        raise Wrong(f"found {found}")
+    if results[0] != results[1] or not results[0].startswith(
+        b'{"found":"solves","moves":4,'
+    ):
+        raise FailedCheckError(f"found {results}")
 
 
 @case("a module that ends at once is silent")
@@ -263,11 +280,11 @@ def burns(stage: Stage) -> None:
 def three_agents() -> Dict[str, bytes]:
     """Modules of three agents on a triangle: one walks by the port of its argument, and
     then accuses the link behind it; one leaves; one traps."""
-    enters, leaves, departs, accuses, argument, came = (
-        CALL + bytes([place]) for place in range(6)
+    enters, leaves, departs, accuses, argument, outcome = (
+        CALL + bytes([index]) for index in range(6)
     )
     goes = constant(I32, 0) + argument + departs + DROP
-    walks = goes + constant(I32, 1) + came + SUBTRACT + accuses + DROP
+    walks = goes + constant(I32, 1) + outcome + SUBTRACT + accuses + DROP
     calls = ("enter", "leave", "depart", "accuse", "argument", "came")
     bodies = {"walks": walks, "leaves": leaves + DROP, "traps": b"\0"}
     return {
@@ -285,7 +302,7 @@ def for_each(stage: Stage) -> None:
     breaks = '{"found":"breaks","agent":%d,"failure":"program",'
     draws = ["--draws", "4"]
     trap = ',"failure":"trap","function":6'
-    for first, second, found, end, failures, more in (
+    for first, second, outcome_found, end, failures, extra in (
         ("walks:0", "leaves", solves % (1, 0), '"commands":[2,0]}', ("", ""), []),
         ("leaves", "walks:0", solves % (1, 0), '"commands":[0,2]}', ("", ""), []),
         ("walks:0", "walks:1", solves % (2, 1), '"commands":[2,1]}', ("", ""), []),
@@ -303,51 +320,53 @@ def for_each(stage: Stage) -> None:
         ),
         ("leaves", "traps", breaks % 1, "}", ("", trap), draws),
     ):
-        given = [agent.partition(":") for agent in (first, second)]
+        conditions = [agent.partition(":") for agent in (first, second)]
         words = [
             it
-            for agent, colon, number in given
+            for agent, colon, number in conditions
             for it in ("--module", f"{agent}.wasm{colon}{number}")
         ]
-        ran = stage.run(["explore", "cup.toml", "0", *words, *more], b"")
+        result = stage.run(["explore", "cup.toml", "0", *words, *extra], b"")
         lines = [
             f'{{"module":"{hashlib.sha256(agents[agent]).hexdigest()}","arguments":[{number}]{failure}}}'
-            for (agent, _, number), failure in zip(given, failures)
+            for (agent, _, number), failure in zip(conditions, failures)
         ]
-        printed = ran.printed.decode().splitlines()
+        output = result.stdout.decode().splitlines()
         if not (
-            printed[0].startswith(found)
-            and printed[0].endswith(end)
-            and printed[2:] == lines
+            output[0].startswith(outcome_found)
+            and output[0].endswith(end)
+            and output[2:] == lines
         ):
-            raise Wrong(f"{first}, {second}: {ran.status}: {printed} {ran.told!r}")
+            raise FailedCheckError(
+                f"{first}, {second}: {result.status}: {output} {result.stderr!r}"
+            )
 
 
 @case(
     "one agent more than the black hole has links solves small networks without a map"
 )
-def unmapped(stage: Stage) -> None:
+def explore_unmapped(stage: Stage) -> None:
     few = [Search(ring(4), 0, 2, links) for links in (4, 0)]
     few += [Search(complete(4), 0, 3, links) for links in (6, 0)]
     for search in [*searches_of(NETWORK), *few]:
-        found = explored(stage.program, search, search.degree + 1, search.board)
-        wants(f"what is wrong with {search}", fault_in(search, found), "")
+        outcome_found = explore(stage.program, search, search.degree + 1, search.board)
+        wants(f"what is wrong with {search}", fault_in(search, outcome_found), "")
 
 
 @case("as many agents as the black hole has links fail, or trap on less whiteboard")
 def too_little(stage: Stage) -> None:
     search = Search(NETWORK, 0, 1, 3)
-    for agents, board, found in (
+    for agents, board, outcome_found in (
         (search.degree, search.board, "fails"),
         (search.degree + 1, search.board - 1, "breaks"),
     ):
-        came = explored(stage.program, search, agents, board)
-        wants(f"what is found of {agents}, {board}", came["found"], found)
+        outcome = explore(stage.program, search, agents, board)
+        wants(f"what is found of {agents}, {board}", outcome["found"], outcome_found)
 
 
 @case("agents whose memory grows are explored until memory runs out, and no longer")
 def grown(stage: Stage) -> None:
-    enters, looks = (CALL + bytes([place]) + DROP for place in range(2))
+    enters, looks = (CALL + bytes([index]) + DROP for index in range(2))
     # what a memory has of zeros takes no room where it is saved
     first = SIZE + constant(I32, GROWTH) + SUBTRACT + constant(I32, 65_536) + MULTIPLY
     grows = (
@@ -361,7 +380,28 @@ def grown(stage: Stage) -> None:
     )
     agent = running(enters + LOOP + grows + looks + AGAIN + END, "enter", "look")
     front = [sys.executable, "-c", CRAMPED, str(200 << 20)]
-    expect(tried(stage, agent, front=front), b"", b"agent.wasm: memory\n", NO_MEMORY)
+    expect(
+        run_module(stage, agent, front=front), b"", b"agent.wasm: memory\n", NO_MEMORY
+    )
+
+
+@case("a module may have a table of thousands of elements")
+def large_table(stage: Stage) -> None:
+    table = b"\x01\x70\x00" + unsigned_leb128(5_000)
+    explores(
+        stage, join_sections({**sections_of(running(b"")), 4: table}), SILENT, FAILING
+    )
+
+
+@case("each black hole of a ring of 48 nodes is tried")
+def many_holes(stage: Stage) -> None:
+    write_cup(stage.folder, [match("red", ring(48), [1], quota=2_000, board=48)])
+    (stage.folder / "ring.wasm").write_bytes(RING.read_bytes())
+    words = ["explore", "cup.toml", "0", "--all-holes", "--draws", "1"]
+    run = stage.run([*words, "--module", "ring.wasm:48"], b"")
+    wants("standard error", run.stderr, b"")
+    wants("the exit status", run.status, DONE)
+    wants("the black holes", run.stdout.count(b'{"hole":'), 47)
 
 
 @case("each instruction on integers has the results that node's WebAssembly has")
@@ -392,11 +432,11 @@ def as_node_has(stage: Stage) -> None:
 
 def first_traps(calls: List[Call]) -> List[Call]:
     """Of each function the first call that traps."""
-    found: Dict[str, Call] = {}
+    results: Dict[str, Call] = {}
     for call in calls:
         if call.result is None:
-            found.setdefault(call.function, call)
-    return list(found.values())
+            results.setdefault(call.function, call)
+    return list(results.values())
 
 
 def alone(function: Function, call: Call, data: bytes) -> bytes:

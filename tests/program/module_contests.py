@@ -26,7 +26,7 @@ import time
 from typing import Any, Dict, List, NamedTuple, Optional, Sequence
 
 from arena_lab.rules.networks import Network
-from tests.support.counts import Wrong, concluded, require
+from tests.support.counts import FailedCheckError, report_counts, require
 from tests.support.matches import TOP, flipped_ring
 from tests.support.servers import HOST, Server
 from tests.support.tournaments import match, write_cup
@@ -53,7 +53,7 @@ class Programs(NamedTuple):
     player: str
 
 
-class Drawn(NamedTuple):
+class DrawnModule(NamedTuple):
     """A module, the ring and the black hole of its matches, and what `explore` found."""
 
     file: pathlib.Path
@@ -78,7 +78,7 @@ class Verdict(NamedTuple):
     lost: int
 
 
-def changed(number: int, draw: random.Random) -> bytes:
+def change_module(number: int, draw: random.Random) -> bytes:
     """The sample module; but for the first, one or two bytes in its second half, where
     its code is, are drawn anew."""
     module = bytearray(SAMPLE.read_bytes())
@@ -87,66 +87,74 @@ def changed(number: int, draw: random.Random) -> bytes:
     return bytes(module)
 
 
-def explored(
+def explore(
     programs: Programs, folder: pathlib.Path, number: int, draw: random.Random
-) -> Optional[Drawn]:
-    """A module and what is found of it; nothing if it is none, or if not every schedule
-    is told of."""
+) -> Optional[DrawnModule]:
+    """Explores a mutated module. Returns None if the module is invalid or if the search
+    was incomplete."""
     file = folder / f"drawn{number}.wasm"
-    file.write_bytes(changed(number, draw))
+    file.write_bytes(change_module(number, draw))
     network = flipped_ring(draw.choice((3, 4, 5)), draw)
     hole = draw.randrange(1, network.nodes)
     write_cup(folder, [match("red", network, [hole], quota=200, board=48)])
     words = ["explore", "cup.toml", "0", "--max-states", str(STATES)]
-    ran = subprocess.run(
+    result = subprocess.run(
         [programs.arena, *words, "--module", f"{file}:{network.nodes}"],
         cwd=folder,
         capture_output=True,
         text=True,
     )
-    if not ran.stdout:
+    if not result.stdout:
         return None
-    found: Dict[str, Any] = json.loads(ran.stdout.splitlines()[0])
-    return Drawn(file, network, hole, found) if found["found"] in FOUND else None
+    report: Dict[str, Any] = json.loads(result.stdout.splitlines()[0])
+    return (
+        DrawnModule(file, network, hole, report) if report["found"] in FOUND else None
+    )
 
 
-def judged(programs: Programs, folder: pathlib.Path, number: int) -> Verdict:
+def judge(programs: Programs, folder: pathlib.Path, number: int) -> Verdict:
     words = [programs.arena, "judge", f"cup{number}.jsonl"]
-    printed = subprocess.run(
+    output = subprocess.run(
         words, cwd=folder, capture_output=True, text=True, check=True
     ).stdout
     outcome, moves, lost = (
-        printed.replace(" moves ", "|").replace(" lost ", "|").split("|")
+        output.replace(" moves ", "|").replace(" lost ", "|").split("|")
     )
     return Verdict(outcome, int(moves), int(lost))
 
 
-def begun(
+def start_agents(
     programs: Programs,
-    drawn: Drawn,
+    drawn_module: DrawnModule,
     keys: Sequence[str],
     port: int,
     draw: random.Random,
 ) -> List["subprocess.Popen[bytes]"]:
     """The agents' programs, which begin one after the other, in a drawn order."""
-    started = []
+    processes = []
     for key in draw.sample(list(keys), len(keys)):
         time.sleep(draw.uniform(0, LATEST / 1000 / len(keys)))
-        words = [programs.player, HOST, str(port), key, "--module", drawn.word]
-        started.append(subprocess.Popen(words, stderr=subprocess.DEVNULL))
-    return started
+        words = [programs.player, HOST, str(port), key, "--module", drawn_module.word]
+        processes.append(subprocess.Popen(words, stderr=subprocess.DEVNULL))
+    return processes
 
 
-def served(
+def serve(
     programs: Programs,
     folder: pathlib.Path,
-    drawn: Drawn,
+    drawn_module: DrawnModule,
     turns: int,
     draw: random.Random,
 ) -> List[Verdict]:
     """The verdicts on the matches of a contest of this many turns."""
     games = [
-        match(f"red{number}", drawn.network, [drawn.hole], quota=200, board=48)
+        match(
+            f"red{number}",
+            drawn_module.network,
+            [drawn_module.hole],
+            quota=200,
+            board=48,
+        )
         for number in range(MATCHES)
     ]
     write_cup(folder, games)
@@ -162,33 +170,40 @@ def served(
     ]
     with Server(command, folder) as server:
         keys = [key for game in games for key in game.keys]
-        started = begun(programs, drawn, keys, server.port, draw)
+        processes = start_agents(programs, drawn_module, keys, server.port, draw)
         try:
             require(server.child.wait(PATIENCE) == 0, "the server failed")
         finally:
-            for child in started:
+            for child in processes:
                 child.kill()
                 child.wait()
-    return [judged(programs, folder, number) for number in range(MATCHES)]
+    return [judge(programs, folder, number) for number in range(MATCHES)]
 
 
-def is_within(verdict: Verdict, found: Dict[str, Any]) -> bool:
-    return verdict.moves <= found["moves"] and verdict.lost <= found["lost"]
+def is_within(verdict: Verdict, values: Dict[str, Any]) -> bool:
+    return verdict.moves <= values["moves"] and verdict.lost <= values["lost"]
 
 
 def requires_the_law(
-    programs: Programs, folder: pathlib.Path, drawn: Drawn, draw: random.Random
+    programs: Programs,
+    folder: pathlib.Path,
+    drawn_module: DrawnModule,
+    draw: random.Random,
 ) -> bool:
     """Plays both contests of a module. Whether it lost a match of the first."""
-    verdicts = served(programs, folder, drawn, TURNS if drawn.solves else 1000, draw)
-    if not drawn.solves:
+    verdicts = serve(
+        programs, folder, drawn_module, TURNS if drawn_module.solves else 1000, draw
+    )
+    if not drawn_module.solves:
         return any(verdict.outcome != "solved" for verdict in verdicts)
     for verdict in verdicts:
-        good = verdict.outcome == "solved" and is_within(verdict, drawn.found)
-        require(good, f"{drawn.found} of a match with the verdict {verdict}")
-    for verdict in served(programs, folder, drawn, draw.randrange(FEW_TURNS), draw):
-        good = verdict.outcome != "wrong" and is_within(verdict, drawn.found)
-        require(good, f"{drawn.found} of a match closed early, as {verdict}")
+        good = verdict.outcome == "solved" and is_within(verdict, drawn_module.found)
+        require(good, f"{drawn_module.found} of a match with the verdict {verdict}")
+    for verdict in serve(
+        programs, folder, drawn_module, draw.randrange(FEW_TURNS), draw
+    ):
+        good = verdict.outcome != "wrong" and is_within(verdict, drawn_module.found)
+        require(good, f"{drawn_module.found} of a match closed early, as {verdict}")
     return False
 
 
@@ -199,32 +214,32 @@ def main() -> int:
     words.add_argument("program")
     words.add_argument("count", nargs="?", type=int, default=12)
     words.add_argument("--player", default=PLAYER)
-    said = words.parse_args()
+    args = words.parse_args()
     programs = Programs(
-        *(str(pathlib.Path(it).resolve()) for it in (said.program, said.player))
+        *(str(pathlib.Path(it).resolve()) for it in (args.program, args.player))
     )
-    count = said.count
-    passed = failed = losers = others = number = 0
+    count = args.count
+    pass_count = failure_count = losers = rest = number = 0
     with tempfile.TemporaryDirectory(prefix="contests-") as name:
         folder = pathlib.Path(name)
-        while passed + failed < count:
+        while pass_count + failure_count < count:
             draw = random.Random(f"module {number}")
-            drawn = explored(programs, folder, number, draw)
+            draws = explore(programs, folder, number, draw)
             number += 1
-            if drawn is None:
+            if draws is None:
                 continue
             try:
-                others += not drawn.solves
-                losers += requires_the_law(programs, folder, drawn, draw)
-                passed += 1
-            except Wrong as wrong:
+                rest += not draws.solves
+                losers += requires_the_law(programs, folder, draws, draw)
+                pass_count += 1
+            except FailedCheckError as wrong:
                 print(f"FAILED module {number - 1}: {wrong}", flush=True)
-                failed += 1
-            print(f"module {number - 1} {drawn.found['found']}", flush=True)
-    print(f"{count - others} modules solve, {losers} of {others} others lost a match")
-    if others and not losers:
-        failed += 1
-    return concluded(passed, failed)
+                failure_count += 1
+            print(f"module {number - 1} {draws.found['found']}", flush=True)
+    print(f"{count - rest} modules solve, {losers} of {rest} others lost a match")
+    if rest and not losers:
+        failure_count += 1
+    return report_counts(pass_count, failure_count)
 
 
 if __name__ == "__main__":

@@ -7,10 +7,10 @@ from tests.program.module_cases import (
     FAILING,
     FILL,
     running,
-    tried,
+    run_module,
 )
 from tests.program.program_cases import case
-from tests.support.program_rows import Stage, Wrong
+from tests.support.program_rows import Stage, FailedCheckError
 from tests.support.wasm_encoding import I32, Function, constant, module
 
 LOAD64 = b"\x29\x00\x00"
@@ -40,21 +40,23 @@ NOT_TEXTS = (
 
 @case("agents write and read any text in UTF-8, and fail with bytes that are not UTF-8")
 def texts(stage: Stage) -> None:
-    for text, found in (
-        *((it, b"silent") for it in TEXTS),
-        *((it, b"command") for it in NOT_TEXTS),
+    for text, result in (
+        *((text, b"silent") for text in TEXTS),
+        *((text, b"command") for text in NOT_TEXTS),
     ):
-        ran = tried(stage, writing(text))
-        if ran.status != FAILING or found not in ran.printed:
-            raise Wrong(f"{text!r}: {ran.status}: {ran.printed!r} {ran.told!r}")
+        run = run_module(stage, writing(text))
+        if run.status != FAILING or result not in run.stdout:
+            raise FailedCheckError(
+                f"{text!r}: {run.status}: {run.stdout!r} {run.stderr!r}"
+            )
 
 
 def writing(text: bytes) -> bytes:
     """A module that writes a text, and traps if the whiteboard does not show it
     then."""
-    enters, writes_it, looks, shows = (CALL + bytes([place]) for place in range(4))
-    put = constant(I32, 0) * 3 + constant(I32, len(text)) + writes_it + DROP
-    seen = (
+    enters, writes_it, looks, shows = (CALL + bytes([index]) for index in range(4))
+    new_text = constant(I32, 0) * 3 + constant(I32, len(text)) + writes_it + DROP
+    observations = (
         constant(I32, BOARD) * 2
         + constant(I32, 8)
         + shows
@@ -63,7 +65,16 @@ def writing(text: bytes) -> bytes:
         + constant(I32, 0)
         + LOAD64
     )
-    body = enters + DROP + put + looks + DROP + seen + b"\x52\x04\x40\x00" + END
+    body = (
+        enters
+        + DROP
+        + new_text
+        + looks
+        + DROP
+        + observations
+        + b"\x52\x04\x40\x00"
+        + END
+    )
     return module(
         [Function([], [], body, "run")], ["enter", "write", "look", "board"], data=text
     )
@@ -73,22 +84,22 @@ def writing(text: bytes) -> bytes:
 def long_lines(stage: Stage) -> None:
     room = 65_536 - len('{"do":"write","expect":"","put":""}')
     for byte, width in ((0x61, 1), (0x22, 2), (0, 6)):
-        most = room // width
-        for old in (0, most // 2, most):
-            for more, found in (
+        limit = room // width
+        for old in (0, limit // 2, limit):
+            for extra, result in (
                 (0, b'"outcome":"silent"'),
                 (1, b'"failure":"command"'),
             ):
-                ran = tried(stage, filling(byte, old, most - old + more))
-                if ran.status != FAILING or found not in ran.printed:
-                    raise Wrong(f"{byte}, {old}, {more}: {ran.printed!r}")
+                run = run_module(stage, filling(byte, old, limit - old + extra))
+                if run.status != FAILING or result not in run.stdout:
+                    raise FailedCheckError(f"{byte}, {old}, {extra}: {run.stdout!r}")
 
 
-def filling(byte: int, expect: int, put: int) -> bytes:
+def filling(byte: int, expect: int, new_text: int) -> bytes:
     """A module that enters and says one Write, which expects a text of `expect` bytes
     and puts one of `put` bytes. All are this byte."""
-    enters, writes_it = (CALL + bytes([place]) for place in range(2))
+    enters, writes_it = (CALL + bytes([index]) for index in range(2))
     fills = constant(I32, 0) + constant(I32, byte) + constant(I32, 65_536) + FILL
-    texts = (constant(I32, 0) + constant(I32, length) for length in (expect, put))
+    texts = (constant(I32, 0) + constant(I32, length) for length in (expect, new_text))
     body = enters + DROP + fills + b"".join(texts) + writes_it + DROP
     return running(body, "enter", "write")

@@ -23,7 +23,7 @@ from typing import Callable, Dict, List, Optional, Sequence, Set, Tuple
 
 from arena_lab.rules.limits import SMALL_NODES
 from bench.inputs import tournament
-from tests.support.counts import concluded
+from tests.support.counts import report_counts
 from tests.support.servers import without_notes
 
 TOP = pathlib.Path(__file__).resolve().parents[2]
@@ -33,48 +33,48 @@ MIN_NODES = 3
 REFUSED = 3
 
 Link = List[int]
-Made = Tuple[int, List[Link]]
+LinkList = Tuple[int, List[Link]]
 
 
 # What the rules say.
 
 
 def is_joined(nodes: int, links: Sequence[Link], without: Optional[int] = None) -> bool:
-    """Whether paths that keep off a node join all the others."""
+    """Returns whether paths that keep off a node join all the others."""
     neighbours: Dict[int, Set[int]] = {
         node: set() for node in range(nodes) if node != without
     }
-    for one, _, two, _ in links:
-        if without not in (one, two):
-            neighbours[one].add(two)
-            neighbours[two].add(one)
+    for link, _, two, _ in links:
+        if without not in (link, two):
+            neighbours[link].add(two)
+            neighbours[two].add(link)
     start = next(iter(neighbours))
-    reached = {start}
+    visits = {start}
     todo = [start]
     while todo:
-        for other in neighbours[todo.pop()] - reached:
-            reached.add(other)
-            todo.append(other)
-    return len(reached) == len(neighbours)
+        for second in neighbours[todo.pop()] - visits:
+            visits.add(second)
+            todo.append(second)
+    return len(visits) == len(neighbours)
 
 
 def first_again(
     links: Sequence[Link], parts: Callable[[Link], List[object]]
 ) -> Optional[int]:
     """The first link of which a part stands in an earlier one."""
-    seen: Set[object] = set()
-    for place, link in enumerate(links):
-        if seen.intersection(parts(link)):
-            return place
-        seen.update(parts(link))
+    observations: Set[object] = set()
+    for index, link in enumerate(links):
+        if observations.intersection(parts(link)):
+            return index
+        observations.update(parts(link))
     return None
 
 
 def gap(nodes: int, links: Sequence[Link]) -> Optional[int]:
-    """The first node at which a port is listed and a lower one is not."""
+    """Returns the first node that lists a port but not all lower ones."""
     ports: List[Set[int]] = [set() for _ in range(nodes)]
-    for one, p, two, q in links:
-        ports[one].add(p)
+    for link, p, two, q in links:
+        ports[link].add(p)
         ports[two].add(q)
     return next(
         (node for node in range(nodes) if ports[node] != set(range(len(ports[node])))),
@@ -83,14 +83,14 @@ def gap(nodes: int, links: Sequence[Link]) -> Optional[int]:
 
 
 def first(places: Sequence[bool]) -> Optional[int]:
-    return next((place for place, holds in enumerate(places) if holds), None)
+    return next((index for index, holds in enumerate(places) if holds), None)
 
 
 def fault_of(nodes: int, links: Sequence[Link]) -> str:
-    """The fault that is told, or none."""
+    """Returns the first fault of a list of links, or ""."""
     if not MIN_NODES <= nodes <= SMALL_NODES:
         return "nodes"
-    for name, place in (
+    for name, position in (
         (
             "node in link",
             lambda: first([max(link[0], link[2]) >= nodes for link in links]),
@@ -106,9 +106,9 @@ def fault_of(nodes: int, links: Sequence[Link]) -> str:
         ),
         ("port gap at node", lambda: gap(nodes, links)),
     ):
-        found = place()
-        if found is not None:
-            return f"{name} {found}"
+        result = position()
+        if result is not None:
+            return f"{name} {result}"
     if not is_joined(nodes, links):
         return "apart"
     cut = next(
@@ -120,95 +120,97 @@ def fault_of(nodes: int, links: Sequence[Link]) -> str:
 # Lists of links.
 
 
-def whole(chance: random.Random) -> Made:
+def whole(rng: random.Random) -> LinkList:
     """A network of a ring and further links, in any order and direction, with any
     numbers of nodes and ports."""
-    nodes = chance.choice((3, 4, 5, 6, 8, 12, 20))
+    nodes = rng.choice((3, 4, 5, 6, 8, 12, 20))
     pairs = {frozenset((node, (node + 1) % nodes)) for node in range(nodes)}
-    for _ in range(chance.choice((0, 1, nodes, nodes * nodes))):
-        pairs.add(frozenset(chance.sample(range(nodes), 2)))
-    names = chance.sample(range(nodes), nodes)
+    for _ in range(rng.choice((0, 1, nodes, nodes * nodes))):
+        pairs.add(frozenset(rng.sample(range(nodes), 2)))
+    names = rng.sample(range(nodes), nodes)
     ends = [
-        chance.sample([names[node] for node in pair], 2)
+        rng.sample([names[node] for node in pair], 2)
         for pair in sorted(pairs, key=sorted)
     ]
-    chance.shuffle(ends)
-    ports = [chance.sample(range(nodes), nodes) for _ in range(nodes)]
+    rng.shuffle(ends)
+    ports = [rng.sample(range(nodes), nodes) for _ in range(nodes)]
     for node in range(nodes):
         degree = sum(node in pair for pair in ends)
-        ports[node] = chance.sample(range(degree), degree)
-    return nodes, [[one, ports[one].pop(), two, ports[two].pop()] for one, two in ends]
+        ports[node] = rng.sample(range(degree), degree)
+    return nodes, [[end, ports[end].pop(), two, ports[two].pop()] for end, two in ends]
 
 
-def two_parts(chance: random.Random) -> Made:
+def two_parts(rng: random.Random) -> LinkList:
     """Two networks that stand apart, or that share a node."""
-    (size, links) = whole(chance)
-    (other, more) = whole(chance)
-    if chance.random() < 0.5:
-        return size + other, links + [
-            [one + size, p, two + size, q] for one, p, two, q in more
+    (size, links) = whole(rng)
+    (second, extra) = whole(rng)
+    if rng.random() < 0.5:
+        return size + second, links + [
+            [first + size, p, two + size, q] for first, p, two, q in extra
         ]
-    shared = sum(size - 1 in (one, two) for one, _, two, _ in links)
-    moved = [
+    shared_value = sum(size - 1 in (link, two) for link, _, two, _ in links)
+    moved_value = [
         [
-            one + size - 1,
-            p + (shared if one == 0 else 0),
+            first + size - 1,
+            p + (shared_value if first == 0 else 0),
             two + size - 1,
-            q + (shared if two == 0 else 0),
+            q + (shared_value if two == 0 else 0),
         ]
-        for one, p, two, q in more
+        for first, p, two, q in extra
     ]
-    return size + other - 1, links + moved
+    return size + second - 1, links + moved_value
 
 
-def break_once(chance: random.Random, made: Made) -> Made:
+def break_once(rng: random.Random, made: LinkList) -> LinkList:
     """A list that differs in one place, which need not be a fault."""
     nodes, links = made
     links = [list(link) for link in links]
-    way = chance.randrange(6)
-    if way == 0:
-        return nodes + chance.choice((-nodes, -1, 1, 2, 300)), links
-    place = chance.randrange(len(links))
-    if way == 1:
-        links[place][chance.randrange(4)] += chance.choice((-1, 1, 2, nodes, 60_000))
-    elif way == 2:
-        links[place][chance.choice((1, 3))] = chance.choice((0, 1, nodes, 65_535))
-    elif way == 3:
-        links[place][chance.choice((0, 2))] = chance.randrange(max(nodes, 1))
-    elif way == 4:
-        del links[place]
+    variant = rng.randrange(6)
+    if variant == 0:
+        return nodes + rng.choice((-nodes, -1, 1, 2, 300)), links
+    index = rng.randrange(len(links))
+    if variant == 1:
+        links[index][rng.randrange(4)] += rng.choice((-1, 1, 2, nodes, 60_000))
+    elif variant == 2:
+        links[index][rng.choice((1, 3))] = rng.choice((0, 1, nodes, 65_535))
+    elif variant == 3:
+        links[index][rng.choice((0, 2))] = rng.randrange(max(nodes, 1))
+    elif variant == 4:
+        del links[index]
     else:
-        links.insert(chance.randrange(len(links) + 1), list(links[place]))
+        links.insert(rng.randrange(len(links) + 1), list(links[index]))
     return nodes, [[min(max(number, 0), 65_535) for number in link] for link in links]
 
 
-def drawn(number: int) -> Made:
-    chance = random.Random(number)
+def draw_links(number: int) -> LinkList:
+    rng = random.Random(number)
     if number % 2 == 0:
-        return whole(chance)
-    made = two_parts(chance) if chance.random() < 0.3 else whole(chance)
-    for _ in range(chance.choice((0, 1, 1, 2, 3))):
+        return whole(rng)
+    made = two_parts(rng) if rng.random() < 0.3 else whole(rng)
+    for _ in range(rng.choice((0, 1, 1, 2, 3))):
         if made[1]:
-            made = break_once(chance, made)
+            made = break_once(rng, made)
     return max(made[0], 0), made[1]
 
 
 # What the programs say.
 
 
-def said(program: str, folder: pathlib.Path) -> Tuple[int, str]:
+def run_check(program: str, folder: pathlib.Path) -> Tuple[int, str]:
     words = [program, "check", "t.toml"]
-    ran = subprocess.run(words, cwd=folder, capture_output=True)
+    result = subprocess.run(words, cwd=folder, capture_output=True)
     # a line of what helps begins with two spaces
-    lines = without_notes(ran.stderr, words).decode().splitlines(keepends=True)
-    return ran.returncode, "".join(line for line in lines if not line.startswith("  "))
+    lines = without_notes(result.stderr, words).decode().splitlines(keepends=True)
+    return result.returncode, "".join(
+        line for line in lines if not line.startswith("  ")
+    )
 
 
-def tried(programs: Sequence[str], number: int) -> Tuple[str, List[str]]:
-    """The fault of a list by the rules, and how the programs differ from that."""
-    nodes, links = drawn(number)
+def compare(programs: Sequence[str], number: int) -> Tuple[str, List[str]]:
+    """Returns the expected fault of a list, and how the programs differ from it."""
+    nodes, links = draw_links(number)
     fault = fault_of(nodes, links)
-    wanted = (0, "") if fault == "none" else (REFUSED, f"n.toml: {fault}\n")
+    expectation = (0, "") if fault == "none" else (REFUSED, f"n.toml: {fault}\n")
     with tempfile.TemporaryDirectory() as name:
         folder = pathlib.Path(name)
         text = (
@@ -216,11 +218,11 @@ def tried(programs: Sequence[str], number: int) -> Tuple[str, List[str]]:
         )
         (folder / "n.toml").write_text(text)
         (folder / "t.toml").write_text(tournament("n.toml", 1, 1, 8, 1))
-        found = [said(program, folder) for program in programs]
+        results = [run_check(program, folder) for program in programs]
     return fault, [
-        f"list {number}: {program} says {told} with status {status}, but should say {wanted}"
-        for program, (status, told) in zip(programs, found)
-        if (status, told) != wanted
+        f"list {number}: {program} says {message} with status {status}, but should say {expectation}"
+        for program, (status, message) in zip(programs, results)
+        if (status, message) != expectation
     ]
 
 
@@ -231,22 +233,22 @@ def main() -> int:
     parser.add_argument("program", metavar="PROGRAM")
     parser.add_argument("other", metavar="OTHER", nargs="?")
     parser.add_argument("--lists", metavar="N", type=int, default=LISTS)
-    given = parser.parse_args()
+    args = parser.parse_args()
     programs = [
         str(pathlib.Path(program).resolve())
-        for program in (given.program, given.other)
+        for program in (args.program, args.other)
         if program
     ]
     with concurrent.futures.ThreadPoolExecutor(WORKERS) as pool:
-        found = list(
-            pool.map(lambda number: tried(programs, number), range(given.lists))
+        results = list(
+            pool.map(lambda number: compare(programs, number), range(args.lists))
         )
-    counts = collections.Counter(fault.rstrip("0123456789 ") for fault, _ in found)
+    counts = collections.Counter(fault.rstrip("0123456789 ") for fault, _ in results)
     print(", ".join(f"{name} {count}" for name, count in counts.most_common()))
-    for line in [line for _, lines in found for line in lines]:
+    for line in [line for _, lines in results for line in lines]:
         print(line)
-    differ = sum(bool(lines) for _, lines in found)
-    return concluded(len(found) - differ, differ)
+    differ = sum(bool(lines) for _, lines in results)
+    return report_counts(len(results) - differ, differ)
 
 
 if __name__ == "__main__":

@@ -20,16 +20,19 @@ from tests.support.program_rows import FAILED_STREAM, Stage, expect
 @case("names in fault lines are shown")
 def names_are_shown(stage: Stage) -> None:
     expect(stage.run(["check", ""]), b"", b"'': read\n" + ABSENT, FAILED_STREAM)
-    told = b"x\\ncup.toml: toml\\r\\u{1b}[2J: read\n" + ABSENT
+    message = b"x\\ncup.toml: toml\\r\\u{1b}[2J: read\n" + ABSENT
     expect(
-        stage.run(["rehearse", "x\ncup.toml: toml\r\x1b[2J"]), b"", told, FAILED_STREAM
+        stage.run(["rehearse", "x\ncup.toml: toml\r\x1b[2J"]),
+        b"",
+        message,
+        FAILED_STREAM,
     )
 
 
 @case("words are UTF-8")
 def words_are_utf_8(stage: Stage) -> None:
-    told = b"arena: word 2 is no UTF-8\n"
-    expect(stage.run([b"check", b"cup\xff.toml", b"\xff"]), b"", told, REFUSED_WORDS)
+    message = b"arena: word 2 is no UTF-8\n"
+    expect(stage.run([b"check", b"cup\xff.toml", b"\xff"]), b"", message, REFUSED_WORDS)
     long = "é" * 500
     expect(stage.run(["check", long]), b"", f"{long}: read\n".encode(), FAILED_STREAM)
 
@@ -62,10 +65,10 @@ PARTS = {
 @case("the long help of a command has its usage, an example and the exit status")
 def long_help(stage: Stage) -> None:
     for words, parts in PARTS.items():
-        ran = stage.run(words.split())
-        expect(ran, ran.printed)
+        result = stage.run(words.split())
+        expect(result, result.stdout)
         for part in (*parts, HELP_LINE):
-            require(part in ran.printed.decode(), f"{words}: nothing reads {part!r}")
+            require(part in result.stdout.decode(), f"{words}: nothing reads {part!r}")
 
 
 # Streams that fail.
@@ -115,10 +118,10 @@ def narrow_output(stage: Stage) -> None:
         for room in (0, 1, 3, 7, 36, 49, 50, 100):
             with open(stage.folder / "output", "w+b") as output:
                 front = [sys.executable, "-c", NARROW, str(room)]
-                ran = stage.run(words, script.encode(), front=front, stdout=output)
+                result = stage.run(words, script.encode(), front=front, stdout=output)
                 output.seek(0)
-                ran = ran._replace(printed=output.read())
-            if room < len(whole.printed):
-                expect(ran, whole.printed[:room], b"output: write\n", FAILED_STREAM)
+                result = result._replace(stdout=output.read())
+            if room < len(whole.stdout):
+                expect(result, whole.stdout[:room], b"output: write\n", FAILED_STREAM)
             else:
-                expect(ran, whole.printed)
+                expect(result, whole.stdout)

@@ -1,11 +1,15 @@
 """Cases of `bhs_player --module`: what an agent says that runs a module, line by line,
 of what a server says, and how it ends. They are skipped where the agents' program is
 not built."""
+import resource
+import subprocess
+import time
 import unittest
-from typing import List, NamedTuple
+from typing import List, NamedTuple, Sequence
 
-from tests.program.module_cases import BOARD, CALL, DROP, END, running
+from tests.program.module_cases import AGAIN, BOARD, CALL, DROP, END, LOOP, running
 from tests.program.program_cases import TOP, case
+from tests.support.counts import require, wants
 from tests.support.program_rows import DONE, Stage, difference, expect
 from tests.support.wasm_encoding import I32, constant
 
@@ -37,18 +41,18 @@ IMPORTS = (
 
 
 class Talk(NamedTuple):
-    """What a server says, and what an agent with these words is to say of it."""
+    """Lines of a server, and the lines expected from an agent with this module."""
 
     hears: List[str]
     says: List[str]
-    told: str = ""
+    stderr: str = ""
     status: int = DONE
 
 
 def call(name: str, *operands: int) -> bytes:
     """Calls a function of `arena` with these numbers."""
     return (
-        b"".join(constant(I32, it) for it in operands)
+        b"".join(constant(I32, operand) for operand in operands)
         + CALL
         + bytes([IMPORTS.index(name)])
     )
@@ -62,17 +66,27 @@ def text_of(lines: List[str]) -> bytes:
     return "".join(line + "\n" for line in lines).encode()
 
 
-def plays(stage: Stage, file: bytes, talk: Talk, arguments: str = "") -> None:
-    """An agent that runs this file talks so."""
+def require_player() -> None:
     if not PLAYER.exists():
         raise unittest.SkipTest("the agents' program is not built: `rt ci` builds it")
+
+
+def plays(
+    stage: Stage,
+    file: bytes,
+    talk: Talk,
+    arguments: str = "",
+    options: Sequence[str] = (),
+) -> None:
+    """Checks what an agent that runs this file says, and how it ends."""
+    require_player()
     (stage.folder / "agent.wasm").write_bytes(file)
     word = f"agent.wasm:{arguments}" if arguments else "agent.wasm"
-    told = f"bhs_player: {talk.told}\n".encode() if talk.told else b""
-    ran = Stage(str(PLAYER), stage.folder).run(
-        ["-", "0", "k", "--module", word], text_of(talk.hears)
+    errors = f"bhs_player: {talk.stderr}\n".encode() if talk.stderr else b""
+    result = Stage(str(PLAYER), stage.folder).run(
+        ["-", "0", "k", *options, "--module", word], text_of(talk.hears)
     )
-    expect(ran, text_of(talk.says), told, talk.status)
+    expect(result, text_of(talk.says), errors, talk.status)
 
 
 # An agent that departs by the last port but one, writes the whiteboard's text with one
@@ -111,16 +125,16 @@ ACCUSES = (
 
 
 @case("an agent that runs a module says what the module says of what it hears")
-def said(stage: Stage) -> None:
+def play_lines(stage: Stage) -> None:
     departs = '{"do":"depart","port":1}'
     for text in ("ab", "é→", "\U0001d11e"):
-        arrived = ARRIVED.replace("ab", text)
+        arrival = ARRIVED.replace("ab", text)
         write = f'{{"do":"write","expect":"{text}","put":"{text}\\u0000"}}'
         plays(
             stage,
             agent(GOES + WRITES + ACCUSES),
             Talk(
-                [HERE, GONE, arrived, '{"ok":"written"}', arrived, NOTED],
+                [HERE, GONE, arrival, '{"ok":"written"}', arrival, NOTED],
                 [ENTER, departs, write, LOOK, '{"do":"accuse","port":8}'],
             ),
             "5,7",
@@ -139,7 +153,7 @@ def said(stage: Stage) -> None:
 
 
 @case("an agent that runs a module hears refusals, and goes on")
-def refused(stage: Stage) -> None:
+def refuse_agents(stage: Stage) -> None:
     for why, number in (("spent", 65_531), ("line", 65_529)):
         mask = constant(I32, 65_535) + b"\x71"
         body = call("enter") + DROP + call("look") + mask + CALL + b"\x04" + DROP
@@ -164,8 +178,115 @@ def slept(stage: Stage) -> None:
     )
 
 
+@case("an agent hears thousands of replies, and what it has forgotten takes no memory")
+def many_replies(stage: Stage) -> None:
+    body = call("enter") + DROP + LOOP + call("look") + DROP + AGAIN + END
+    count = 6_000
+    hears = [HERE] * (count + 1) + [OVER]
+    talk = Talk(hears, [ENTER, *[LOOK] * (count + 1)])
+    before = resource.getrusage(resource.RUSAGE_CHILDREN).ru_maxrss
+    plays(stage, agent(body), talk)
+    after = resource.getrusage(resource.RUSAGE_CHILDREN).ru_maxrss
+    # each memory of the agent has 64 KiB
+    require(after <= max(before, 100_000), f"the player took {after} KiB")
+
+
+@case("an agent says a line of nearly 65,536 bytes")
+def long_line(stage: Stage) -> None:
+    length = 10_000
+    body = call("enter") + DROP + call("write", 0, 0, 0, length) + DROP
+    text = "\\u0000" * length
+    plays(
+        stage,
+        agent(body),
+        Talk(
+            [HERE, '{"ok":"written"}', OVER],
+            [ENTER, f'{{"do":"write","expect":"","put":"{text}"}}'],
+        ),
+    )
+
+
+@case("an agent hears a line that comes byte by byte")
+def in_pieces(stage: Stage) -> None:
+    require_player()
+    (stage.folder / "agent.wasm").write_bytes(agent(call("enter") + DROP))
+    child = subprocess.Popen(
+        [PLAYER, "-", "0", "k", "--module", "agent.wasm"],
+        cwd=stage.folder,
+        stdin=subprocess.PIPE,
+        stdout=subprocess.PIPE,
+    )
+    assert child.stdin is not None
+    for byte in text_of([HERE.replace("ab", "x" * 600), OVER]):
+        child.stdin.write(bytes([byte]))
+        child.stdin.flush()
+        time.sleep(0.001)
+    stdout, _ = child.communicate()
+    difference("what the agent says", text_of([ENTER]), stdout)
+    wants("the exit status", child.returncode, DONE)
+
+
+# what the player reports once an agent has woken too often in a row
+ASLEEP = (
+    "the agent has woken {} times in a row and read nothing new. It sleeps until its match "
+    "is over. --spurious-wakeups lets it wake more often; explore it with the same number"
+)
+
+
+@case("an agent sleeps until its match is over once it has woken too often in a row")
+def overslept(stage: Stage) -> None:
+    sleep = call("sleep") + DROP
+    departs = call("depart", 0) + DROP
+    options = ["--spurious-wakeups", "0"]
+    plays(
+        stage,
+        agent(call("enter") + DROP + sleep + sleep + departs),
+        Talk([HERE, OVER], [ENTER], ASLEEP.format(1)),
+        options=options,
+    )
+    # a new text lowers the count to the wake-ups since the reply before it
+    look = call("look") + DROP
+    for text, says, stderr in (
+        ("abc", [ENTER, LOOK, LOOK, '{"do":"depart","port":0}'], ""),
+        ("ab", [ENTER, LOOK, LOOK], ASLEEP.format(2)),
+    ):
+        start = time.monotonic()
+        plays(
+            stage,
+            agent(call("enter") + DROP + 2 * (sleep + look) + sleep + departs),
+            Talk([HERE, HERE, HERE.replace("ab", text), OVER], says, stderr),
+            options=["--spurious-wakeups", "1"],
+        )
+        # two sleeps end after 1 and 2 seconds, and after the new text it sleeps 2 seconds again
+        if text == "abc":
+            seconds = time.monotonic() - start
+            require(4.9 < seconds < 16, f"the agent slept {seconds:.1f} seconds")
+    # a departure begins the count anew
+    plays(
+        stage,
+        agent(call("enter") + DROP + sleep + departs + sleep + look),
+        Talk(
+            [HERE, GONE, ARRIVED, OVER],
+            [ENTER, '{"do":"depart","port":0}', LOOK],
+        ),
+        options=options,
+    )
+    # another reply than the end of the match wakes nobody
+    plays(
+        stage,
+        agent(call("enter") + DROP + sleep + sleep + departs),
+        Talk(
+            [HERE, HERE],
+            [ENTER],
+            f"{ASLEEP.format(1)}\nbhs_player: a line of the server is no reply",
+            BROKEN,
+        ),
+        options=options,
+    )
+
+
 @case("an agent whose module returns says nothing more")
-def returned(stage: Stage) -> None:
+def module_returns(stage: Stage) -> None:
     body = agent(call("enter") + DROP)
     plays(stage, body, Talk([HERE, OVER], [ENTER]))
     plays(stage, body, Talk([HERE], [ENTER], "the connection is lost", BROKEN))
@@ -177,24 +298,24 @@ def returned(stage: Stage) -> None:
 
 
 @case("an agent breaks off whose module fails, also at its end, and tells how")
-def failed(stage: Stage) -> None:
+def fail_agents(stage: Stage) -> None:
     first = len(IMPORTS)
     for cause, body in (
         ("trap", b"\x00"),
         ("fuel", b"\x03\x40\x0c\x00" + END),
         ("command", call("depart", 65_536) + DROP),
     ):
-        told = f"agent.wasm: {cause} in function {first}"
-        plays(stage, agent(body), Talk([HERE, OVER], [], told, BROKEN))
+        text = f"agent.wasm: {cause} in function {first}"
+        plays(stage, agent(body), Talk([HERE, OVER], [], text, BROKEN))
         plays(
             stage,
             agent(call("enter") + DROP + body),
-            Talk([HERE, OVER], [ENTER], told, BROKEN),
+            Talk([HERE, OVER], [ENTER], text, BROKEN),
         )
         plays(
             stage,
             agent(call("accuse", 1) + DROP + body),
-            Talk([NOTED], ['{"do":"accuse","port":1}'], told, BROKEN),
+            Talk([NOTED], ['{"do":"accuse","port":1}'], text, BROKEN),
         )
 
 
@@ -212,20 +333,20 @@ def not_played(stage: Stage) -> None:
         "agent.wasm:-1",
         "agent.wasm:4294967296",
     ):
-        ran = Stage(str(PLAYER), stage.folder).run(
+        result = Stage(str(PLAYER), stage.folder).run(
             ["-", "0", "k", "--module", word], b""
         )
         difference(
             "the first line",
-            b"usage: bhs_player HOST PORT KEY PROTOCOL NODES SIDE",
-            ran.told.splitlines()[0],
+            b"usage: bhs_player HOST PORT KEY [--spurious-wakeups N] PROTOCOL NODES SIDE",
+            result.stderr.splitlines()[0],
         )
-        expect(ran, b"", ran.told, REFUSED_WORDS)
-    ran = Stage(str(PLAYER), stage.folder).run(
+        expect(result, b"", result.stderr, REFUSED_WORDS)
+    result = Stage(str(PLAYER), stage.folder).run(
         ["-", "0", "k", "--module", "nowhere.wasm"], b""
     )
     expect(
-        ran,
+        result,
         b"",
         b"bhs_player: nowhere.wasm: No such file or directory (os error 2)\n",
         BROKEN,

@@ -6,7 +6,7 @@ import random
 import socket
 from typing import Callable, Dict, Sequence, Tuple
 
-from arena_lab.rules.limits import MOST_LINE
+from arena_lab.rules.limits import MAX_LINE
 from tests.support.counts import require
 from tests.support.program_rows import (
     DONE,
@@ -44,7 +44,7 @@ keys = ["{key}a", "{key}b"]
 """
 CUP = SEED + MATCH.format(network="tri.toml", key="k")
 TABLE_HEAD = "  # team             outcome     moves lost"
-# behind the fault of a file that is not there
+# help text after the fault of a missing file
 ABSENT = b"  there is no such file\n"
 
 Trial = Callable[[Stage], None]
@@ -62,13 +62,13 @@ def case(title: str) -> Callable[[Trial], Trial]:
 
 
 def rehearses(
-    stage: Stage, script: str, printed: str, told: str = "", status: int = DONE
+    stage: Stage, script: str, output: str, text: str = "", status: int = DONE
 ) -> None:
     """A script on the built-in tournament prints this, or is refused so."""
     expect(
         stage.run(["rehearse"], script.encode()),
-        printed.encode(),
-        told.encode(),
+        output.encode(),
+        text.encode(),
         status,
     )
 
@@ -85,7 +85,7 @@ def writes(stage: Stage, **texts: str) -> None:
 def spends(stage: Stage, first: Sequence[Tuple[str, str]], looks: int) -> None:
     """An agent enters, is answered so, looks this many times, and has then spent its
     quota."""
-    told = [
+    message = [
         (ENTER, HERE),
         *first,
         *[(LOOK, HERE)] * looks,
@@ -95,8 +95,8 @@ def spends(stage: Stage, first: Sequence[Tuple[str, str]], looks: int) -> None:
     ]
     rehearses(
         stage,
-        "".join(f"0 {line}\n" for line, _ in told),
-        "".join(answer for _, answer in told),
+        "".join(f"0 {line}\n" for line, _ in message),
+        "".join(answer for _, answer in message),
     )
 
 
@@ -118,7 +118,7 @@ def quota_and_port(stage: Stage) -> None:
 
 @case("wrong lines use up a quota")
 def quota_and_lines(stage: Stage) -> None:
-    spends(stage, [('{"do":"jump"}', BAD), ("x" * (MOST_LINE + 1), BAD)], 8)
+    spends(stage, [('{"do":"jump"}', BAD), ("x" * (MAX_LINE + 1), BAD)], 8)
 
 
 @case("bytes may come one by one")
@@ -186,14 +186,14 @@ def feeds_are_cut(seeds: Sequence[int], stage: Stage) -> None:
     longest = 0
     for seed in seeds:
         whole, cut = drawn_script(seed)
-        ran = stage.run(["rehearse"], whole.encode())
-        expect(ran, ran.printed)
+        result = stage.run(["rehearse"], whole.encode())
+        expect(result, result.stdout)
         difference(
             f"seed {seed}, cut",
-            ran.printed,
-            stage.run(["rehearse"], cut.encode()).printed,
+            result.stdout,
+            stage.run(["rehearse"], cut.encode()).stdout,
         )
-        longest = max(longest, len(ran.printed))
+        longest = max(longest, len(result.stdout))
     require(longest > LONG, f"the longest prints {longest} bytes")
 
 
@@ -209,25 +209,27 @@ for first_seed in range(0, 200, 25):
 @case("what keeps a contest from beginning is told")
 def refused_contests(stage: Stage) -> None:
     writes(stage, cup=CUP, tri=TRIANGLE)
-    with socket.create_server(("127.0.0.1", 0)) as taken:
-        given = ["--port", str(taken.getsockname()[1])]
-        told = b"serve: listen\n  another program listens on this port: end it, or give another --port\n"
-        expect(stage.run(["serve", "cup.toml", *given]), b"", told, FAILED_STREAM)
+    with socket.create_server(("127.0.0.1", 0)) as duration:
+        conditions = ["--port", str(duration.getsockname()[1])]
+        message = b"serve: listen\n  another program listens on this port: end it, or give another --port\n"
         expect(
-            stage.run(["serve", "none.toml", *given]),
+            stage.run(["serve", "cup.toml", *conditions]), b"", message, FAILED_STREAM
+        )
+        expect(
+            stage.run(["serve", "none.toml", *conditions]),
             b"",
             b"none.toml: read\n" + ABSENT,
             FAILED_STREAM,
         )
         expect(
-            stage.run(["serve", "tri.toml", *given]),
+            stage.run(["serve", "tri.toml", *conditions]),
             b"",
             b"tri.toml: missing seed\n  seed: a text of 64 hexadecimal digits\n",
             REFUSED_TEXT,
         )
 
 
-# what an agent is answered that enters before the close, and after it
+# replies to an agent that enters before and after the close
 SIGHT = HERE.partition(" ")[2].encode()
 OVER = b'{"ok":"over"}\n'
 
@@ -239,7 +241,7 @@ def contest(stage: Stage) -> None:
         stage.program, stage.folder, turns=0, pause=0, sessions=1, prefix="hosted"
     ) as server:
         heard = server.hears(enter("ka"))
-        run = server.ended()
+        run = server.wait_for_end()
     row = "  1 red              silent          0    0"
     expect(run, f"{TABLE_HEAD}\n{row}\n".encode())
     require(heard in (SIGHT, OVER), f"the client heard {heard!r}")

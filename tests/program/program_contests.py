@@ -1,5 +1,4 @@
-"""A contest of two matches that is played on the program over TCP, and what must be
-true of it.
+"""Plays a contest of two matches on the program over TCP, and checks its files.
 
 Both matches have one seed. In each, several agents are on links at the same time, one
 of them on a link that is held, and one is destroyed. Which turn a delivery was made at
@@ -23,14 +22,14 @@ from arena_lab.rules.model import (
     Match,
     Object,
     Place,
-    begun,
+    begin_match,
     judge,
     objects_of,
-    spelled,
+    spell,
 )
 from arena_lab.rules.networks import ring
 from tests.program.program_cases import case
-from tests.support.counts import Wrong, require
+from tests.support.counts import FailedCheckError, require
 from tests.support.program_rows import Stage, expect
 from tests.support.servers import Run, Server, enter, serve
 from tests.support.tournaments import match, write_cup
@@ -70,8 +69,8 @@ class Side(NamedTuple):
         )
 
 
-# 0 and 1 are departures by that port, a is an accusation of the link of port 0, l is
-# leave. The last agent is the one that is held, and the one before it is destroyed.
+# 0 and 1 depart by that port, a accuses the link of port 0, l leaves. The last agent is
+# held, and the one before it is destroyed.
 SIDES = [
     Side("red", 6, 3, (0, 1), ["00a", *["0011l", "01010l", "0l"] * 3, "000", "1"]),
     Side("blue", 5, 2, (0, 0), [*["1100l", "10101l", "1l"] * 3, "111", "0"]),
@@ -87,79 +86,97 @@ STEPS = {
 # What the words say of a replay.
 
 
-def kept(match: Match, held: Set[Place], picked: int) -> Optional[int]:
+def delivered_agent(
+    match: Match, held_links: Set[Place], picked_value: int
+) -> Optional[int]:
     """The agent that a turn picks, if its Deliver is kept."""
-    agent = match.agents[picked]
-    place = (agent.node, agent.port)
-    return None if place in held or (agent.lost and match.doomed(*place)) else picked
-
-
-def drawn(match: Match, held: Set[Place], number: int) -> Optional[int]:
-    """The agent whose Deliver is kept if a turn draws this word out of the pool, if
-    there is one."""
+    agent = match.agents[picked_value]
+    position = (agent.node, agent.port)
     return (
-        kept(match, held, match.pool[number % len(match.pool)]) if match.pool else None
+        None
+        if position in held_links or (agent.lost and match.destroys(*position))
+        else picked_value
     )
 
 
-def picked_blindly(match: Match, held: Set[Place], number: int) -> Optional[int]:
+def drawn_delivery(match: Match, held_links: Set[Place], number: int) -> Optional[int]:
+    """Returns the agent delivered in a turn that draws this number, or None."""
+    return (
+        delivered_agent(match, held_links, match.pool[number % len(match.pool)])
+        if match.pool
+        else None
+    )
+
+
+def picked_blindly(match: Match, held_links: Set[Place], number: int) -> Optional[int]:
     """The same if a turn picks one of all agents by this word, and links have no
     delay."""
-    picked = number % len(match.agents)
-    return kept(match, held, picked) if picked in match.pool else None
+    picked_value = number % len(match.agents)
+    return (
+        delivered_agent(match, held_links, picked_value)
+        if picked_value in match.pool
+        else None
+    )
 
 
 class Rule(NamedTuple):
-    """A schedule: its delays, if it has some, whom a word delivers, and whether the
-    turns of events are written."""
+    """A schedule: optional delays, the agent delivered for a number, and whether turns
+    are recorded."""
 
     delays: Optional[Delays]
     delivered: Callable[[Match, Set[Place], int], Optional[int]]
     has_turns: bool
 
 
-ADAPTIVE = Rule(None, drawn, False)
+ADAPTIVE = Rule(None, drawn_delivery, False)
 OBLIVIOUS = Rule(Delays(0, 1), picked_blindly, True)
 
 
 def may_be(
-    rule: Rule, match: Match, held: Set[Place], words: Sequence[int], turns: Set[int]
+    rule: Rule,
+    match: Match,
+    held_links: Set[Place],
+    words: Sequence[int],
+    turns: Set[int],
 ) -> Set[int]:
-    """The numbers of turns that may have been taken before the next event, by those
-    before the last one."""
-    found = set(turns)
+    """Returns the possible numbers of turns before the next event, given those before
+    the previous one."""
+    results = set(turns)
     new = set(turns)
     while new:
         new = {
             turn + 1
             for turn in new
-            if turn < len(words) and rule.delivered(match, held, words[turn]) is None
-        } - found
-        found |= new
-    return found
+            if turn < len(words)
+            and rule.delivered(match, held_links, words[turn]) is None
+        } - results
+        results |= new
+    return results
 
 
-def made_by(rule: Rule, replay: str, held: Set[Place], words: Sequence[int]) -> bool:
-    """Whether turns with these words, all of them and in their order, can have made the
-    deliveries of a replay, and no others."""
+def made_by(
+    rule: Rule, replay: str, held_links: Set[Place], words: Sequence[int]
+) -> bool:
+    """Returns whether turns with these numbers, in order, produce exactly the
+    deliveries of a replay."""
     head, *events = objects_of(replay)
-    match = begun(head)
+    match = begin_match(head)
     turns = {0}
     for event in events:
-        turns = may_be(rule, match, held, words, turns)
+        turns = may_be(rule, match, held_links, words, turns)
         if event["do"] == "deliver":
             turns = {
                 turn + 1
                 for turn in turns
                 if turn < len(words)
-                and rule.delivered(match, held, words[turn]) == event["agent"]
+                and rule.delivered(match, held_links, words[turn]) == event["agent"]
             }
         match.play(event)
     return len(words) in turns
 
 
-def words_of(stream: int) -> List[int]:
-    return [word(SEED, stream, place) for place in range(TURNS)]
+def draws_of(stream: int) -> List[int]:
+    return [word(SEED, stream, index) for index in range(TURNS)]
 
 
 # The contest.
@@ -184,12 +201,12 @@ def client(server: Server, key: str, steps: str) -> socket.socket:
     return made
 
 
-def all_heard(made: socket.socket) -> str:
-    with made, made.makefile("rb") as answers:
+def all_heard(connection: socket.socket) -> str:
+    with connection, connection.makefile("rb") as answers:
         return answers.read().decode()
 
 
-def played(stage: Stage) -> Tuple[Run, List[List[str]]]:
+def serve_all(stage: Stage) -> Tuple[Run, List[List[str]]]:
     """Serves the contest to its agents, which all come at once."""
     sessions = sum(len(side.agents) for side in SIDES)
     with serve(
@@ -208,16 +225,16 @@ def played(stage: Stage) -> Tuple[Run, List[List[str]]]:
             ]
             for side in SIDES
         ]
-        heard = [[all_heard(one) for one in of_side] for of_side in clients]
-        return server.ended(), heard
+        heard = [[all_heard(first) for first in of_side] for of_side in clients]
+        return server.wait_for_end(), heard
 
 
 def contest(stage: Stage, rule: Rule) -> Heard:
     write_cup(stage.folder, [side.fixture() for side in SIDES], rule.delays, SEED.hex())
     for old in stage.folder.glob("*.jsonl"):
         old.unlink()
-    run, heard = played(stage)
-    expect(run, run.printed)
+    run, heard = serve_all(stage)
+    expect(run, run.stdout)
     names = sorted(path.name for path in stage.folder.glob("*.jsonl"))
     require(
         names == [f"hosted{number}.jsonl" for number in range(len(SIDES))],
@@ -226,21 +243,22 @@ def contest(stage: Stage, rule: Rule) -> Heard:
     return Heard(run, heard, [(stage.folder / name).read_text() for name in names])
 
 
-# What must be true of it.
+# Checks of a contest.
 
 
 def match_of(side: Side, replay: str) -> Match:
-    """The match of a replay, which is that of its side, with the replies of the
-    rules."""
+    """Replays a side's match, and checks its setup and replies."""
     head, *events = objects_of(replay)
-    match = begun(head)
+    match = begin_match(head)
     setup = match.setup
     if (setup.nodes, setup.holes, setup.agents) != (
         side.nodes,
         [side.hole],
         len(side.agents),
     ):
-        raise Wrong(f"the replay of {side.team} is of another match: {spelled(head)}")
+        raise FailedCheckError(
+            f"the replay of {side.team} is of another match: {spell(head)}"
+        )
     for event in events:
         match.play(event)
     require(
@@ -251,8 +269,8 @@ def match_of(side: Side, replay: str) -> Match:
 
 
 def told_to(match: Match, agent: int) -> str:
-    """What the client of an agent hears: the replies to it in the log, and that the
-    match is over, if it waits then."""
+    """Returns the lines that an agent's client must hear: its replies, and the end of
+    the match if it waits."""
     replies: List[Object] = [
         event["reply"]
         for event in match.log
@@ -260,50 +278,57 @@ def told_to(match: Match, agent: int) -> str:
     ]
     if match.agents[agent].standing == AWAY:
         replies.append(OVER)
-    return "".join(f"{spelled(reply)}\n" for reply in replies)
+    return "".join(f"{spell(reply)}\n" for reply in replies)
 
 
 def check_side(
     rule: Rule, number: int, side: Side, replay: str, heard: Sequence[str]
 ) -> Match:
-    """The match of a side, with what its clients heard and who arrived in it."""
+    """Checks a side's replay against its schedule and its clients' lines, and returns
+    the match."""
     match = match_of(side, replay)
-    if not made_by(rule, replay, {side.held}, words_of(number)):
-        raise Wrong(
+    if not made_by(rule, replay, {side.held}, draws_of(number)):
+        raise FailedCheckError(
             f"the words of stream {number} do not make the deliveries of {side.team}"
         )
     lost = len(side.agents) - 2
-    held = len(side.agents) - 1
-    if any(event["do"] == "deliver" and event["agent"] == held for event in match.log):
-        raise Wrong(f"{side.key(held)} was delivered over the link that is held")
+    held_links = len(side.agents) - 1
+    if any(
+        event["do"] == "deliver" and event["agent"] == held_links for event in match.log
+    ):
+        raise FailedCheckError(
+            f"{side.key(held_links)} was delivered over the link that is held"
+        )
     require(match.agents[lost].lost, f"{side.key(lost)} was not destroyed")
-    waiting = {agent for agent, one in enumerate(match.agents) if one.standing == AWAY}
+    waiting = {
+        agent for agent, first in enumerate(match.agents) if first.standing == AWAY
+    }
     require(
-        waiting == {lost, held},
+        waiting == {lost, held_links},
         f"in the match of {side.team} agents {sorted(waiting)} are on links at the end",
     )
     for agent, text in enumerate(heard):
         if text != told_to(match, agent):
-            raise Wrong(
+            raise FailedCheckError(
                 f"{side.key(agent)} heard {text!r}, and its replay has {told_to(match, agent)!r}"
             )
     return match
 
 
 def is_telling(rule: Rule, replays: Sequence[str]) -> bool:
-    """Whether other words do not make the deliveries: those of another match's stream,
-    and equal ones."""
-    others = [[words_of(1 - number), [0] * TURNS] for number in range(len(SIDES))]
+    """Returns whether other words do not make the deliveries: those of another match's
+    stream, and equal ones."""
+    rest = [[draws_of(1 - number), [0] * TURNS] for number in range(len(SIDES))]
     return not any(
         made_by(rule, replay, {side.held}, words)
-        for side, replay, wrong in zip(SIDES, replays, others)
+        for side, replay, wrong in zip(SIDES, replays, rest)
         for words in wrong
     )
 
 
-def check_table(stage: Stage, printed: bytes, matches: Sequence[Match]) -> None:
-    """The table has the verdict on each match beside its team, and so has its
-    replay."""
+def check_table(stage: Stage, output: bytes, matches: Sequence[Match]) -> None:
+    """Checks that the table has the verdict of each match, also when it is computed
+    from replays."""
     verdicts = [judge(match) for match in matches]
     require(
         [verdict.outcome for verdict in verdicts] == ["guess 4", "silent"],
@@ -315,7 +340,7 @@ def check_table(stage: Stage, printed: bytes, matches: Sequence[Match]) -> None:
             f"{outcome} moves {moves} lost {lost}\n".encode(),
         )
     rows = [(side.team, verdict) for side, verdict in zip(SIDES, verdicts)]
-    expect(Run(0, printed, b""), table(rows).encode())
+    expect(Run(0, output, b""), table(rows).encode())
 
 
 def judged_by_turns(stage: Stage, replay: str, number: int, turns: str) -> Run:
@@ -339,28 +364,39 @@ def text_of(turns: Sequence[int]) -> str:
     return "".join(f"{turn}\n" for turn in turns)
 
 
-def without(replay: str, turns: Sequence[int], place: int) -> Tuple[str, List[int]]:
+def without(replay: str, turns: Sequence[int], index: int) -> Tuple[str, List[int]]:
     """A replay and its turns without the event at a place."""
     head, *events, _end = replay.splitlines()
-    left = [*events[:place], *events[place + 1 :]]
+    remaining = [*events[:index], *events[index + 1 :]]
     text = (
-        "\n".join([head, *left, json.dumps({"end": len(left)}, separators=(",", ":"))])
+        "\n".join(
+            [
+                head,
+                *remaining,
+                json.dumps({"end": len(remaining)}, separators=(",", ":")),
+            ]
+        )
         + "\n"
     )
-    return text, [*turns[:place], *turns[place + 1 :]]
+    return text, [*turns[:index], *turns[index + 1 :]]
 
 
 def check_left_out(
-    stage: Stage, number: int, replay: str, turns: Sequence[int], place: int, told: str
+    stage: Stage,
+    number: int,
+    replay: str,
+    turns: Sequence[int],
+    index: int,
+    text_given: str,
 ) -> None:
     """A replay from which the last delivery of an agent that stays on its link is left
     out stands no appeal."""
-    text, left = without(replay, turns, place)
+    text, remaining = without(replay, turns, index)
     (stage.folder / "left.jsonl").write_text(text)
     expect(
-        judged_by_turns(stage, "left.jsonl", number, text_of(left)),
+        judged_by_turns(stage, "left.jsonl", number, text_of(remaining)),
         b"",
-        f"left.jsonl: {told}\n".encode(),
+        f"left.jsonl: {text_given}\n".encode(),
         4,
     )
 
@@ -368,46 +404,49 @@ def check_left_out(
 def last_destructions(events: Sequence[dict]) -> List[int]:
     """The places of the deliveries that destroy their agents."""
     return [
-        place
-        for place, event in enumerate(events)
+        index
+        for index, event in enumerate(events)
         if event["do"] == "deliver" and event["reply"] is None
     ]
 
 
 def check_turns(stage: Stage, number: int, replay: str) -> None:
-    """A replay stands an appeal by the turns that are served beside it, and by no
-    others."""
+    """Checks that `judge` accepts a replay with its own turns, and with no others."""
     own = f"hosted{number}.jsonl"
     text = (stage.folder / f"hosted{number}.turns").read_text()
     turns = [int(line) for line in text.splitlines()]
     events = objects_of(replay)[1:]
-    verdict = stage.run(["judge", own]).printed
+    verdict = stage.run(["judge", own]).stdout
     expect(judged_by_turns(stage, own, number, text), verdict)
     deliveries = [
-        place for place, event in enumerate(events) if event["do"] == "deliver"
+        index for index, event in enumerate(events) if event["do"] == "deliver"
     ]
-    for place in deliveries[:3]:
+    for delivery in deliveries[:3]:
         # those behind are as much later, so that none falls
-        bent = [turn + (at >= place) for at, turn in enumerate(turns)]
-        told = f"agent {events[place]['agent']} arrives in turn {turns[place]}, before place {place}"
+        bent = [turn + (at >= delivery) for at, turn in enumerate(turns)]
+        summary = f"agent {events[delivery]['agent']} arrives in turn {turns[delivery]}, before place {delivery}"
         expect(
             judged_by_turns(stage, own, number, text_of(bent)),
             b"",
-            f"{own}: {told}\n".encode(),
+            f"{own}: {summary}\n".encode(),
             4,
         )
-        if place + 1 < len(turns):
+        if delivery + 1 < len(turns):
             # what follows an arrival happens in its turn
-            crowded = [*turns[: place + 1], turns[place], *turns[place + 2 :]]
+            crowded_value = [
+                *turns[: delivery + 1],
+                turns[delivery],
+                *turns[delivery + 2 :],
+            ]
             expect(
-                judged_by_turns(stage, own, number, text_of(crowded)),
+                judged_by_turns(stage, own, number, text_of(crowded_value)),
                 b"",
-                f"bent.turns: turn of place {place + 1}\n".encode(),
+                f"bent.turns: turn of place {delivery + 1}\n".encode(),
                 4,
             )
-    for place in last_destructions(events)[:1]:
-        told = f"agent {events[place]['agent']} arrives in turn {turns[place]}, before place {place}"
-        check_left_out(stage, number, replay, turns, place, told)
+    for delivery in last_destructions(events)[:1]:
+        summary = f"agent {events[delivery]['agent']} arrives in turn {turns[delivery]}, before place {delivery}"
+        check_left_out(stage, number, replay, turns, delivery, summary)
     count = len(turns)
     expect(
         judged_by_turns(stage, own, number, text + f"{turns[-1]}\n"),
@@ -419,19 +458,23 @@ def check_turns(stage: Stage, number: int, replay: str) -> None:
 
 def check_contest(stage: Stage, rule: Rule) -> None:
     for _ in range(TRIES):
-        found = contest(stage, rule)
-        sides = zip(SIDES, found.replays, found.heard)
+        result = contest(stage, rule)
+        sides = zip(SIDES, result.replays, result.heard)
         matches = [check_side(rule, number, *each) for number, each in enumerate(sides)]
-        check_table(stage, found.run.printed, matches)
-        written = [path.name for path in stage.folder.glob("hosted*.turns")]
+        check_table(stage, result.run.stdout, matches)
+        writing = [path.name for path in stage.folder.glob("hosted*.turns")]
         if rule.has_turns:
-            for number, replay in enumerate(found.replays):
+            for number, replay in enumerate(result.replays):
                 check_turns(stage, number, replay)
-        elif written:
-            raise Wrong(f"turns were written under the adaptive schedule: {written}")
-        if is_telling(rule, found.replays):
+        elif writing:
+            raise FailedCheckError(
+                f"turns were written under the adaptive schedule: {writing}"
+            )
+        if is_telling(rule, result.replays):
             return
-    raise Wrong("other words make the deliveries, too: the machine is too slow")
+    raise FailedCheckError(
+        "other words make the deliveries, too: the machine is too slow"
+    )
 
 
 @case(

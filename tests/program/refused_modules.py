@@ -13,7 +13,7 @@ from tests.program.module_cases import (
     explores,
     refuses,
     running,
-    tried,
+    run_module,
 )
 from tests.program.program_cases import case
 from tests.support.counts import require
@@ -23,12 +23,12 @@ from tests.support.wasm_encoding import (
     I64,
     Function,
     constant,
-    joined,
+    join_sections,
     module,
     name,
     sections_of,
     type_of,
-    unsigned,
+    unsigned_leb128,
     vector,
 )
 
@@ -37,7 +37,7 @@ CHANGED = 200
 
 
 @case("a file that is no module of agents is refused by what is wrong and where")
-def refused(stage: Stage) -> None:
+def refuse_modules(stage: Stage) -> None:
     for agent, fault in (
         (b"", "head at byte 0"),
         (b"\0asm\2\0\0\0", "head at byte 0"),
@@ -81,7 +81,7 @@ def many_parameters(stage: Stage) -> None:
 )
 def invalid(stage: Stage) -> None:
     run = name("run") + b"\0\0"
-    largest = b"\1" + unsigned(1) + unsigned(65_537)
+    largest = b"\1" + unsigned_leb128(1) + unsigned_leb128(65_537)
     lacking = [
         name("x") + item for item in (b"\0\1", b"\1\0", b"\2\1", b"\3\0", b"\4\0")
     ]
@@ -90,7 +90,7 @@ def invalid(stage: Stage) -> None:
         refuses(stage, agent, f"{fault} at byte {agent.rindex(export)}")
     agent = with_section(5, vector([largest]))
     refuses(stage, agent, f"size at byte {agent.index(largest)}")
-    agent = with_section(12, unsigned(1))
+    agent = with_section(12, unsigned_leb128(1))
     refuses(stage, agent, f"segment at byte {len(agent)}")
     block = b"\2\x41" + END
     agent = module([*[Function([], [], b"")] * 65, Function([], [], block, "run")])
@@ -99,8 +99,8 @@ def invalid(stage: Stage) -> None:
 
 @case("a table of branches in code that is not reached leads to labels of any types")
 def unlike_labels(stage: Stage) -> None:
-    nested = b"\x02\x7f" + b"\x02\x7e" + TRAP + b"\x0e\x01\x00\x01" + END + DROP
-    agent = running(nested + constant(I32, 1) + END + DROP)
+    nested_value = b"\x02\x7f" + b"\x02\x7e" + TRAP + b"\x0e\x01\x00\x01" + END + DROP
+    agent = running(nested_value + constant(I32, 1) + END + DROP)
     explores(stage, agent, BREAKS, FAILING, ',"failure":"trap","function":0')
 
 
@@ -108,22 +108,22 @@ def unlike_labels(stage: Stage) -> None:
 def imports_in_tables(stage: Stage) -> None:
     first = constant(I32, 0)
     direct = found_by(stage, running(CALL + b"\0" + DROP, "enter"))
-    called = running(first + b"\x11\0\0" + DROP, "enter")
+    caller = running(first + b"\x11\0\0" + DROP, "enter")
     for segment in (
         b"\0" + first + END + vector([b"\0"]),
         b"\2" + b"\0" + first + END + b"\0" + vector([b"\0"]),
         b"\4" + first + END + vector([b"\xd2\0" + END]),
     ):
-        require(found_by(stage, with_table(called, segment)) == direct, repr(segment))
+        require(found_by(stage, with_table(caller, segment)) == direct, repr(segment))
 
 
 @case("an element segment lies in its table, also an empty one")
 def segments_in_tables(stage: Stage) -> None:
-    for place, count in ((2, 0), (1, 1), (-1, 0)):
-        segment = b"\0" + constant(I32, place) + END + vector([b"\0"] * count)
+    for position, count in ((2, 0), (1, 1), (-1, 0)):
+        segment = b"\0" + constant(I32, position) + END + vector([b"\0"] * count)
         agent = with_table(running(b""), segment)
-        fault = tried(stage, agent)
-        require(fault.told.startswith(b"agent.wasm: segment at byte "), f"{fault}")
+        fault = run_module(stage, agent)
+        require(fault.stderr.startswith(b"agent.wasm: segment at byte "), f"{fault}")
     empty = b"\0" + constant(I32, 1) + END + vector([])
     explores(stage, with_table(running(b""), empty), SILENT, FAILING)
 
@@ -131,34 +131,36 @@ def segments_in_tables(stage: Stage) -> None:
 def with_table(file: bytes, segment: bytes) -> bytes:
     """A module with a table of one element, and with this element segment."""
     table = vector([b"\x70\0\1"])
-    return joined({**sections_of(file), 4: table, 9: vector([segment])})
+    return join_sections({**sections_of(file), 4: table, 9: vector([segment])})
 
 
 def found_by(stage: Stage, agent: bytes) -> bytes:
     """What is found of agents that run this module, without the module's line."""
-    ran = tried(stage, agent)
-    require(ran.told == b"", f"{ran}")
-    return ran.printed[: ran.printed.index(b'{"module"')]
+    run = run_module(stage, agent)
+    require(run.stderr == b"", f"{run}")
+    return run.stdout[: run.stdout.index(b'{"module"')]
 
 
 def with_section(kind: int, body: bytes) -> bytes:
     """A module that ends at once, with this section instead of its own."""
-    return joined({**sections_of(running(b"")), kind: body})
+    return join_sections({**sections_of(running(b"")), kind: body})
 
 
 @case("files with changed bytes are explored or refused")
-def changed(stage: Stage) -> None:
+def explore_changed(stage: Stage) -> None:
     for seed in range(CHANGED):
         require(is_harmless(stage, seed), f"seed {seed}")
 
 
 def is_harmless(stage: Stage, seed: int) -> bool:
-    """Whether the sample module with bytes that are changed by a seed is explored, or
-    refused in a line."""
+    """Returns whether the sample module with bytes that are changed by a seed is
+    explored, or refused in a line."""
     draw = random.Random(seed)
     agent = bytearray(RING.read_bytes())
     for _ in range(draw.randrange(1, 4)):
         agent[draw.randrange(len(agent))] = draw.randrange(256)
     whole_or_cut = agent[: draw.randrange(len(agent))] if seed % 5 == 0 else agent
-    ran = tried(stage, bytes(whole_or_cut), "--max-states", "2000", arguments="3")
-    return ran.status in (DONE, FAILING, REFUSED_TEXT) and bool(ran.printed or ran.told)
+    run = run_module(stage, bytes(whole_or_cut), "--max-states", "2000", arguments="3")
+    return run.status in (DONE, FAILING, REFUSED_TEXT) and bool(
+        run.stdout or run.stderr
+    )

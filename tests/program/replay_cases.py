@@ -9,7 +9,7 @@ from typing import List, Sequence
 
 from tests.program.program_cases import MATCH, SEED, TABLE_HEAD, TRIANGLE, case, writes
 from tests.support.counts import require
-from tests.support.program_rows import Stage, Wrong, expect
+from tests.support.program_rows import Stage, FailedCheckError, expect
 
 ENTER = '{"do":"enter","key":"ka"}'
 LOOK = '{"do":"look"}'
@@ -17,11 +17,11 @@ LOOK = '{"do":"look"}'
 LONG = 70_000
 
 
-def rehearsed(stage: Stage, cup: str, script: str) -> None:
+def rehearse(stage: Stage, cup: str, script: str) -> None:
     """Replays m0.jsonl, m1.jsonl and so on of a script."""
     writes(stage, cup=cup, tri=TRIANGLE)
-    ran = stage.run(["rehearse", "cup.toml", "--replay", "m"], script.encode())
-    expect(ran, ran.printed)
+    result = stage.run(["rehearse", "cup.toml", "--replay", "m"], script.encode())
+    expect(result, result.stdout)
 
 
 @case("each of twelve matches has a replay with its own number")
@@ -29,7 +29,7 @@ def twelve_replays(stage: Stage) -> None:
     cup = SEED + "".join(
         MATCH.format(network="tri.toml", key=f"k{match}-") for match in range(12)
     )
-    rehearsed(stage, cup, "".join(f"close {match}\n" for match in range(12)))
+    rehearse(stage, cup, "".join(f"close {match}\n" for match in range(12)))
     names = sorted(path.name for path in stage.folder.glob("m*.jsonl"))
     require(
         names == sorted(f"m{match}.jsonl" for match in range(12)), f"there are {names}"
@@ -38,10 +38,10 @@ def twelve_replays(stage: Stage) -> None:
 
 @case("a table takes a hundred replays")
 def many_words(stage: Stage) -> None:
-    rehearsed(stage, SEED + MATCH.format(network="tri.toml", key="k"), "close 0\n")
+    rehearse(stage, SEED + MATCH.format(network="tri.toml", key="k"), "close 0\n")
     rows = "".join(
-        f"{place:3} {f't{place - 1:03}':16} silent          0    0\n"
-        for place in range(1, 101)
+        f"{index:3} {f't{index - 1:03}':16} silent          0    0\n"
+        for index in range(1, 101)
     )
     words = ["table", *(f"t{number:03}=m0.jsonl" for number in range(100))]
     expect(stage.run(words), f"{TABLE_HEAD}\n{rows}".encode())
@@ -67,7 +67,7 @@ def long_replays(stage: Stage) -> None:
         "quota = 10", "quota = 1000"
     )
     last = '0 {"do":"accuse","port":1}\n'
-    rehearsed(stage, cup, f"0 {ENTER}\n" + f"0 {LOOK}\n" * 999 + last + "close 0\n")
+    rehearse(stage, cup, f"0 {ENTER}\n" + f"0 {LOOK}\n" * 999 + last + "close 0\n")
     text = (stage.folder / "m0.jsonl").read_bytes()
     require(len(text) >= LONG, f"the replay has {len(text)} bytes alone")
     lines = text.splitlines(keepends=True)
@@ -78,7 +78,7 @@ def long_replays(stage: Stage) -> None:
     expect(stage.run(["table", "red=m0.jsonl"]), table.encode())
     expect(
         stage.run(["explain", "m0.jsonl", "0"]),
-        b"".join(b"%d %b" % (place, line) for place, line in enumerate(lines[1:-2])),
+        b"".join(b"%d %b" % (index, line) for index, line in enumerate(lines[1:-2])),
     )
     expect(
         stage.run(["twin", "m0.jsonl", "1"]),
@@ -86,8 +86,8 @@ def long_replays(stage: Stage) -> None:
     )
 
 
-# Characters that control a terminal or turn the direction of a text, first and last of
-# each kind, and those beside them that do not, as far as a text may have them.
+# Control characters and bidirectional controls: first and last of each range, with the
+# neighbours outside that a text may contain.
 CONTROLS = [
     (0x00, 0x1F),
     (0x7F, 0x9F),
@@ -115,13 +115,17 @@ def replay_of_controls(stage: Stage) -> List[str]:
         if code >= 0
     ]
     texts = ["", *(f"{chr(code)}b" for code in codes)]
-    said = [f"0 {ENTER}"]
-    for expect_, put in zip(texts, texts[1:]):
-        said.append("0 " + json.dumps({"do": "write", "expect": expect_, "put": put}))
-    rehearsed(stage, cup, "\n".join([*said, f"0 {LOOK}", "close 0"]) + "\n")
+    line_list = [f"0 {ENTER}"]
+    for expect_, text in zip(texts, texts[1:]):
+        line_list.append(
+            "0 " + json.dumps({"do": "write", "expect": expect_, "put": text})
+        )
+    rehearse(stage, cup, "\n".join([*line_list, f"0 {LOOK}", "close 0"]) + "\n")
     lines = (stage.folder / "m0.jsonl").read_text().split("\n")[1:-3]
     if not any(map(controls, "".join(lines))) or len(lines) != len(texts) + 1:
-        raise Wrong("the replay lacks such a character, so this shows nothing")
+        raise FailedCheckError(
+            "the replay lacks such a character, so this shows nothing"
+        )
     return lines
 
 
@@ -131,24 +135,24 @@ def shown_on_terminal(stage: Stage, words: Sequence[str]) -> bytes:
     # so line feeds stay line feeds
     tty.setraw(terminal)
     with concurrent.futures.ThreadPoolExecutor(1) as pool:
-        taken = pool.submit(all_of_terminal, reader)
+        duration = pool.submit(all_of_terminal, reader)
         try:
             stage.run(words, stdout=terminal)
         finally:
             os.close(terminal)
-            shown = taken.result()
+            view = duration.result()
             os.close(reader)
-    return shown
+    return view
 
 
 def all_of_terminal(reader: int) -> bytes:
     """What programs write to a terminal, until none has it open: reading fails then."""
-    taken = b""
+    duration = b""
     while True:
         try:
-            taken += os.read(reader, LONG)
+            duration += os.read(reader, LONG)
         except OSError:
-            return taken
+            return duration
 
 
 @case("a program that reads a causal past gets the lines of the replay, byte for byte")
@@ -156,7 +160,7 @@ def explained_exactly(stage: Stage) -> None:
     lines = replay_of_controls(stage)
     expect(
         stage.run(["explain", "m0.jsonl", "0"]),
-        "".join(f"{place} {line}\n" for place, line in enumerate(lines)).encode(),
+        "".join(f"{index} {line}\n" for index, line in enumerate(lines)).encode(),
     )
 
 
@@ -165,28 +169,47 @@ def explained_exactly(stage: Stage) -> None:
 )
 def explained_controls(stage: Stage) -> None:
     lines = replay_of_controls(stage)
-    shown = (
+    view = (
         shown_on_terminal(stage, ["explain", "m0.jsonl", "0"]).decode().split("\n")[:-1]
     )
-    for line in shown:
+    for line in view:
         require(
             not any(map(controls, line)),
             f"{line!r} has a character that controls a terminal",
         )
-    parts = [line.split(" ", 1) for line in shown]
-    if [int(place) for place, _ in parts] != list(range(len(lines))):
-        raise Wrong(
-            f"the places of {len(parts)} lines of {len(lines)} are {[place for place, _ in parts]}"
+    parts = [line.split(" ", 1) for line in view]
+    if [int(part) for part, _ in parts] != list(range(len(lines))):
+        raise FailedCheckError(
+            f"the places of {len(parts)} lines of {len(lines)} are {[part for part, _ in parts]}"
         )
     if [json.loads(line) for _, line in parts] != [json.loads(line) for line in lines]:
-        raise Wrong("the lines are not the JSON of the replay")
+        raise FailedCheckError("the lines are not the JSON of the replay")
     for (_, line), own in zip(parts, lines):
         if not any(map(controls, own)) and line != own:
-            raise Wrong(f"{line!r} is not {own!r}, which controls no terminal")
+            raise FailedCheckError(
+                f"{line!r} is not {own!r}, which controls no terminal"
+            )
 
 
 @case("words that are refused control no terminal")
 def refused_controls(stage: Stage) -> None:
     run = stage.run(["judge", "a", "b\u009b\u202e\x1b[31m"])
-    if rb"'b\u009b\u202e\u001b[31m' found" not in run.told or run.status != 2:
-        raise Wrong(f"{run}")
+    if rb"'b\u009b\u202e\u001b[31m' found" not in run.stderr or run.status != 2:
+        raise FailedCheckError(f"{run}")
+
+
+@case("a replay of 25,000 events has a twin")
+def twin_of_many_events(stage: Stage) -> None:
+    looks = 25_000
+    head = SEED.replace("version = 2", "version = 3")
+    cup = head + MATCH.format(network="tri.toml", key="k").replace(
+        "quota = 10", "quota = 60000"
+    )
+    script = f"0 {ENTER}\n" + f"0 {LOOK}\n" * looks + "close 0\n"
+    rehearse(stage, cup, script)
+    text = (stage.folder / "m0.jsonl").read_bytes()
+    require(text.count(b"look") == looks, "the replay lacks a command")
+    expect(
+        stage.run(["twin", "m0.jsonl", "1"]),
+        text.replace(b'"holes":[2]', b'"holes":[1]'),
+    )

@@ -10,10 +10,10 @@ import socket
 import time
 from typing import Iterator, List
 
-from tests.program.contest_cases import LONG, served
+from tests.program.contest_cases import LONG, start_server
 from tests.program.contest_files import full_disk, wait_for
 from tests.program.program_cases import MATCH, SEED, case
-from tests.support.counts import Wrong, require
+from tests.support.counts import FailedCheckError, require
 from tests.support.program_rows import PATIENCE, Stage
 from tests.support.servers import Server, enter
 from tests.support.session_lines import BYE, DEPART, GONE, HERE, LEAVE, LOOK, OVER
@@ -28,28 +28,26 @@ HELD = SEED + MATCH.format(network="tri.toml", key="r") + "held = [[0, 0]]\n"
 
 def told_lines(server: Server) -> List[str]:
     """What a server told until it ended, line by line."""
-    return server.ended().told.decode().splitlines()
+    return server.wait_for_end().stderr.decode().splitlines()
 
 
-def wants(lines: List[str], *wanted: str) -> None:
-    """Each of these is the end of some line."""
-    missing = [
-        text for text in wanted if not any(line.endswith(text) for line in lines)
-    ]
+def wants(lines: List[str], *texts: str) -> None:
+    """Requires a line that ends with each of these texts."""
+    missing = [text for text in texts if not any(line.endswith(text) for line in lines)]
     require(not missing, f"{missing} is not told, but {lines}")
 
 
 def told_so_far(server: Server, text: bytes) -> bytes:
     """What a server has told once it has told this text, or at the end of patience."""
     os.set_blocking(server.child.stderr.fileno(), False)
-    told = bytearray()
+    message = bytearray()
 
     def is_there() -> bool:
-        told.extend(server.child.stderr.read() or b"")
-        return text in told
+        message.extend(server.child.stderr.read() or b"")
+        return text in message
 
     wait_for(is_there)
-    return bytes(told)
+    return bytes(message)
 
 
 # Matches by themselves.
@@ -62,19 +60,19 @@ def closed_line(match: int) -> bytes:
 def begins_alone(stage: Stage, match: int, keys: str) -> None:
     """The match whose agents enter takes its turns and is closed; the other one still
     waits for its agents."""
-    with served(
+    with start_server(
         stage, "--gather", str(1000 * PATIENCE), "--log", turns=1, grace=0
     ) as server:
         for agent in "ab":
             server.hears(enter(keys + agent) + LEAVE)
-        told = told_so_far(server, closed_line(match))
+        message = told_so_far(server, closed_line(match))
     require(
-        closed_line(match) in told,
-        f"match {match} waits for more than its own agents: {told!r}",
+        closed_line(match) in message,
+        f"match {match} waits for more than its own agents: {message!r}",
     )
     require(
-        closed_line(1 - match) not in told,
-        f"match {1 - match} does not wait for its own agents: {told!r}",
+        closed_line(1 - match) not in message,
+        f"match {1 - match} does not wait for its own agents: {message!r}",
     )
 
 
@@ -90,20 +88,22 @@ def second_gathers(stage: Stage) -> None:
 
 @case("--gather ends by the clock, also where the server has slept for longer")
 def gathers_by_the_clock(stage: Stage) -> None:
-    with served(stage, "--gather", "8000", turns=0, grace=0) as server:
+    with start_server(stage, "--gather", "8000", turns=0, grace=0) as server:
         time.sleep(1)
         server.child.send_signal(signal.SIGSTOP)
         time.sleep(8)
         server.child.send_signal(signal.SIGCONT)
-        begun = time.monotonic()
+        start = time.monotonic()
         server.child.wait(PATIENCE)
-    took = time.monotonic() - begun
+    took = time.monotonic() - start
     require(took < 5, f"it gathered for {took:.1f} seconds more")
 
 
 @case("a match takes as many turns as it is given")
 def all_turns(stage: Stage) -> None:
-    with served(stage, "--log", turns=1200, pause=0, sessions=1, grace=0) as server:
+    with start_server(
+        stage, "--log", turns=1200, pause=0, sessions=1, grace=0
+    ) as server:
         lines = told_lines(server)
     for match in (0, 1):
         require(
@@ -114,7 +114,7 @@ def all_turns(stage: Stage) -> None:
 
 @case("with --early a match goes on while an agent is on a link")
 def not_early_on_a_link(stage: Stage) -> None:
-    with served(stage, "--early", cup=HELD, turns=LONG) as server, server.connect(
+    with start_server(stage, "--early", cup=HELD, turns=LONG) as server, server.connect(
         enter("ra") + DEPART
     ) as client:
         server.hears(enter("rb") + LEAVE)
@@ -125,7 +125,7 @@ def not_early_on_a_link(stage: Stage) -> None:
                 heard += answers.readline()
         has_ended = server.child.poll() is not None
     if heard != HERE + GONE or has_ended:
-        raise Wrong(
+        raise FailedCheckError(
             f"the agent on the link heard {heard!r}; the contest has {'' if has_ended else 'not '}ended"
         )
 
@@ -135,7 +135,7 @@ def not_early_on_a_link(stage: Stage) -> None:
 
 @case("with --log the agent is told that a session plays")
 def log_second_agent(stage: Stage) -> None:
-    with served(stage, "--log", sessions=1) as server:
+    with start_server(stage, "--log", sessions=1) as server:
         server.hears(enter("rb") + LEAVE)
         wants(
             told_lines(server),
@@ -146,7 +146,7 @@ def log_second_agent(stage: Stage) -> None:
 
 @case("with --log each ending of a session has its own words")
 def log_endings(stage: Stage) -> None:
-    with served(stage, "--log", turns=30, sessions=3) as server:
+    with start_server(stage, "--log", turns=30, sessions=3) as server:
         server.hears(enter("ra"))
         with server.connect(enter("ba")) as late, late.makefile("rb") as answers:
             answers.readline()
@@ -168,14 +168,14 @@ def last_agent(stage: Stage) -> None:
     cup = SEED + re.sub(
         r"keys = .*", f"keys = [{keys}]", MATCH.format(network="tri.toml", key="r")
     )
-    with served(stage, cup=cup, turns=LONG) as server:
+    with start_server(stage, cup=cup, turns=LONG) as server:
         heard = server.hears(enter("k63") + LEAVE)
     require(heard == HERE + BYE, f"the last agent heard {heard!r}")
 
 
 @case("the first who enters after the close is told that the match is over")
 def enters_after_the_close(stage: Stage) -> None:
-    with served(stage, turns=1, grace=PATIENCE) as server:
+    with start_server(stage, turns=1, grace=PATIENCE) as server:
         time.sleep(0.5)
         heard = server.hears(enter("ra"))
     require(heard == OVER, f"it heard {heard!r}")
@@ -185,7 +185,7 @@ FEW_DESCRIPTORS = 12
 
 
 def descriptors(server: Server) -> int:
-    """How many descriptors a server has open."""
+    """Returns how many descriptors a server has open."""
     return len(os.listdir(f"/proc/{server.child.pid}/fd"))
 
 
@@ -195,10 +195,12 @@ def descriptors_used_up(stage: Stage) -> None:
         resource.setrlimit(resource.RLIMIT_NOFILE, (FEW_DESCRIPTORS, FEW_DESCRIPTORS))
 
     many = FEW_DESCRIPTORS + 2
-    with served(stage, "--log", turns=LONG, limit=limit, sessions=2 * many) as server:
+    with start_server(
+        stage, "--log", turns=LONG, limit=limit, sessions=2 * many
+    ) as server:
         before = descriptors(server)
         clients = [server.connect() for _ in range(many)]
-        # each was accepted, the last ones in the place of others, which were cut off
+        # all were accepted; the last ones replaced others, which were disconnected
         told_so_far(server, b"session %d from " % (many - 1))
         for client in clients:
             client.close()
@@ -214,7 +216,7 @@ def descriptors_used_up(stage: Stage) -> None:
 
 @case("a session is answered as many lines as its quota has")
 def long_session(stage: Stage) -> None:
-    with served(stage, cup=ROOMY, turns=LONG) as server:
+    with start_server(stage, cup=ROOMY, turns=LONG) as server:
         heard = server.hears(enter("ra") + LOOK * 1000 + LEAVE)
     require(
         heard == HERE * 1001 + BYE,
@@ -234,8 +236,8 @@ def answers_in_order(stage: Stage) -> None:
         + (LOOK + wrong_port + wrong_write) * rounds
     )
     sight = HERE.replace(b'"board":""', b'"board":"%b"' % text)
-    shown = b'{"board":"%b","ok":"changed"}\n' % text
-    with served(stage, cup=ROOMY, turns=LONG) as server, server.connect(
+    view = b'{"board":"%b","ok":"changed"}\n' % text
+    with start_server(stage, cup=ROOMY, turns=LONG) as server, server.connect(
         lines + LEAVE
     ) as client:
         time.sleep(0.5)
@@ -245,15 +247,15 @@ def answers_in_order(stage: Stage) -> None:
         heard
         != HERE
         + b'{"ok":"written"}\n'
-        + (sight + b'{"no":"port"}\n' + shown) * rounds
+        + (sight + b'{"no":"port"}\n' + view) * rounds
         + BYE
     ):
-        raise Wrong(f"it heard {len(heard)} bytes, in another order")
+        raise FailedCheckError(f"it heard {len(heard)} bytes, in another order")
 
 
 @case("an agent that departs is told so before it arrives")
 def told_before_it_waits(stage: Stage) -> None:
-    with served(stage, cup=HELD, turns=LONG) as server, server.connect(
+    with start_server(stage, cup=HELD, turns=LONG) as server, server.connect(
         enter("ra") + DEPART
     ) as client:
         client.settimeout(5.0)
@@ -261,20 +263,20 @@ def told_before_it_waits(stage: Stage) -> None:
             try:
                 heard = answers.readline() + answers.readline()
             except OSError as fault:
-                raise Wrong(f"it was not told: {fault}") from fault
+                raise FailedCheckError(f"it was not told: {fault}") from fault
     require(heard == HERE + GONE, f"it heard {heard!r}")
 
 
 @case("an agent that moves fifty times is told of each arrival")
 def many_arrivals(stage: Stage) -> None:
-    with served(stage, cup=ROOMY, turns=LONG, pause=1) as server:
+    with start_server(stage, cup=ROOMY, turns=LONG, pause=1) as server:
         heard = server.hears(enter("ra") + DEPART * 50 + LEAVE)
     if (
         heard.count(GONE) != 50
         or heard.count(b'"from":0') != 50
         or not heard.endswith(BYE)
     ):
-        raise Wrong(f"it heard {heard!r}")
+        raise FailedCheckError(f"it heard {heard!r}")
 
 
 # Addresses.
@@ -282,23 +284,23 @@ def many_arrivals(stage: Stage) -> None:
 
 @case("a server on one address of this machine is not on another")
 def one_address(stage: Stage) -> None:
-    with served(stage, "--address", "127.0.0.1", turns=LONG) as server:
+    with start_server(stage, "--address", "127.0.0.1", turns=LONG) as server:
         with contextlib.suppress(ConnectionRefusedError):
             socket.create_connection(
                 ("127.0.0.2", server.port), timeout=PATIENCE
             ).close()
-            raise Wrong("it listens on 127.0.0.2 too")
+            raise FailedCheckError("it listens on 127.0.0.2 too")
 
 
 @case("a server on 127.0.0.2 is there, and not on 127.0.0.1")
 def other_address(stage: Stage) -> None:
-    with served(stage, "--address", "127.0.0.2", turns=LONG) as server:
+    with start_server(stage, "--address", "127.0.0.2", turns=LONG) as server:
         socket.create_connection(("127.0.0.2", server.port), timeout=PATIENCE).close()
         with contextlib.suppress(ConnectionRefusedError):
             socket.create_connection(
                 ("127.0.0.1", server.port), timeout=PATIENCE
             ).close()
-            raise Wrong("it listens on 127.0.0.1 too")
+            raise FailedCheckError("it listens on 127.0.0.1 too")
 
 
 # Parts.
@@ -312,7 +314,7 @@ def events_of_part(stage: Stage, match: int) -> int:
 def playing_red(stage: Stage, lines: bytes) -> Iterator[Server]:
     """A server that goes on after an agent of red has said this, and was answered each
     line."""
-    with served(stage, cup=ROOMY, turns=LONG) as server:
+    with start_server(stage, cup=ROOMY, turns=LONG) as server:
         server.hears(lines)
         yield server
 
@@ -329,14 +331,14 @@ def many_events_at_a_look(stage: Stage) -> None:
 
 @case("a part is written again and again")
 def part_goes_on(stage: Stage) -> None:
-    with served(stage, cup=ROOMY, turns=LONG) as server, server.connect(
+    with start_server(stage, cup=ROOMY, turns=LONG) as server, server.connect(
         enter("ra")
     ) as client:
         for events in range(1, 4):
             if not wait_for(
                 lambda: events_of_part(stage, 0) == events
             ):  # noqa: B023  asked at once
-                raise Wrong(
+                raise FailedCheckError(
                     f"the part has {events_of_part(stage, 0)} events, and not {events}"
                 )
             client.sendall(LOOK)
@@ -344,7 +346,7 @@ def part_goes_on(stage: Stage) -> None:
 
 @case("a part that could not be written on is told once")
 def failed_part(stage: Stage) -> None:
-    with served(stage, grace=0, turns=150, limit=full_disk) as server:
+    with start_server(stage, grace=0, turns=150, limit=full_disk) as server:
         server.hears(enter("ba") + LOOK * 9 + LEAVE)
-        told = server.ended().told
-    require(told.count(b"the part of match 1 stops") == 1, f"told was {told!r}")
+        errors = server.wait_for_end().stderr
+    require(errors.count(b"the part of match 1 stops") == 1, f"told was {errors!r}")

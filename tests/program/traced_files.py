@@ -8,7 +8,7 @@ import unittest
 from typing import Dict, Iterator, List, NamedTuple, Tuple
 
 from tests.program.program_cases import MATCH, SEED, TRIANGLE, case, writes
-from tests.support.counts import Wrong, require
+from tests.support.counts import FailedCheckError, require
 from tests.support.program_rows import DONE, Stage
 from tests.support.servers import enter, serve
 from tests.support.session_lines import LEAVE, LOOK
@@ -22,7 +22,7 @@ CALL = re.compile(r"\d+ +(\w+)\((.*)\) += (-?\d+)")
 BEGUN = re.compile(r"(\d+) +(\w+\(.*) <unfinished \.\.\.>")
 RESUMED = re.compile(r"(\d+) +<\.\.\. \w+ resumed>(.*)")
 NAMED = re.compile(r'"([^"]*)"|\d+<([^>]*)>')
-# what each call is for, by its name
+# system call -> purpose
 STEPS = {
     "write": "write",
     "writev": "write",
@@ -36,8 +36,7 @@ STEPS = {
     "unlinkat": "remove",
 }
 
-# what a call is for, and the names of its files, as they are from the folder of the
-# server
+# (purpose, file names relative to the server's folder)
 Step = Tuple[str, ...]
 
 
@@ -50,15 +49,15 @@ class Call(NamedTuple):
 
 
 def whole_calls(trace: str) -> Iterator[str]:
-    """The lines of a trace, a call in each."""
-    begun: Dict[str, str] = {}
+    """Yields complete calls of a trace; interrupted calls are joined."""
+    start: Dict[str, str] = {}
     for line in trace.splitlines():
         first = BEGUN.match(line)
         last = RESUMED.match(line)
         if first:
-            begun[first[1]] = f"{first[1]} {first[2]}"
+            start[first[1]] = f"{first[1]} {first[2]}"
         elif last:
-            yield begun.pop(last[1], "") + last[2]
+            yield start.pop(last[1], "") + last[2]
         else:
             yield line
 
@@ -66,11 +65,14 @@ def whole_calls(trace: str) -> Iterator[str]:
 def calls_in(trace: str, folder: str) -> Iterator[Call]:
     """The calls in a trace of a server in this folder."""
     for line in whole_calls(trace):
-        found = CALL.match(line)
-        if not found or int(found[3]) < 0:
+        match = CALL.match(line)
+        if not match or int(match[3]) < 0:
             continue
-        names = [quoted or of_number for quoted, of_number in NAMED.findall(found[2])]
-        kind = STEPS[found[1]]
+        names = [
+            quoted_value or of_number
+            for quoted_value, of_number in NAMED.findall(match[2])
+        ]
+        kind = STEPS[match[1]]
         files = names if kind in ("rename", "remove") else names[:1]
         yield Call(
             (
@@ -80,16 +82,16 @@ def calls_in(trace: str, folder: str) -> Iterator[Call]:
                     for name in files
                 ),
             ),
-            int(found[3]),
+            int(match[3]),
         )
 
 
 def steps_of(calls: List[Call]) -> List[Step]:
-    """What the calls are for. Of calls in a row that are for the same there is one."""
+    """Returns the purposes of calls, with repetitions merged."""
     return [step for step, _ in itertools.groupby(call.step for call in calls)]
 
 
-def traced(
+def trace_server(
     stage: Stage, cup: str, turns: int, *says: bytes, prefix: str = "match"
 ) -> List[Call]:
     """The calls of a server of this tournament, to which clients say this at the same
@@ -110,11 +112,11 @@ def traced(
     ) as server:
         with contextlib.ExitStack() as stack:
             clients = [stack.enter_context(server.connect()) for _ in says]
-            for client, said in zip(clients, says):
-                client.sendall(said)
+            for client, message in zip(clients, says):
+                client.sendall(message)
             for client in clients:
                 stack.enter_context(client.makefile("rb")).read()
-        run = server.ended()
+        run = server.wait_for_end()
     require(run.status == DONE, f"the server ended with {run}")
     return list(calls_in((stage.folder / "trace").read_text(), str(stage.folder)))
 
@@ -126,10 +128,10 @@ RED, BLUE = (MATCH.format(network="tri.toml", key=key) for key in "rb")
     "a part gets the name of its replay, and the replay its own, once its text is on the disk"
 )
 def put_in_place(stage: Stage) -> None:
-    steps = steps_of(traced(stage, SEED + RED, 1))
+    steps = steps_of(trace_server(stage, SEED + RED, 1))
     part = "match0.jsonl.part"
     new = "match0.jsonl.new"
-    wanted = [
+    expectation = [
         ("write", part),
         ("sync", part),
         ("rename", part, "match0.jsonl"),
@@ -139,10 +141,10 @@ def put_in_place(stage: Stage) -> None:
         ("rename", new, "match0.jsonl"),
         ("sync", "."),
     ]
-    if [step for step in steps if step in wanted or "match0.jsonl" in step][
-        -len(wanted) :
-    ] != wanted:
-        raise Wrong(f"the calls were {steps}")
+    if [step for step in steps if step in expectation or "match0.jsonl" in step][
+        -len(expectation) :
+    ] != expectation:
+        raise FailedCheckError(f"the calls were {steps}")
 
 
 def steps_in_turns(stage: Stage) -> List[Step]:
@@ -150,7 +152,7 @@ def steps_in_turns(stage: Stage) -> List[Step]:
     leaves."""
     schedule = 'version = 3\nschedule = "oblivious"\ndelay_scales = 0\ndelay_odds = 1\n'
     cup = schedule + SEED.replace("version = 2\n", "") + RED
-    return steps_of(traced(stage, cup, 60, enter("ra") + LEAVE))
+    return steps_of(trace_server(stage, cup, 60, enter("ra") + LEAVE))
 
 
 @case(
@@ -158,7 +160,7 @@ def steps_in_turns(stage: Stage) -> List[Step]:
 )
 def turns_in_place(stage: Stage) -> None:
     steps = steps_in_turns(stage)
-    wanted = [
+    expectation = [
         ("write", "match0.turns.new"),
         ("sync", "match0.turns.new"),
         ("rename", "match0.turns.new", "match0.turns"),
@@ -169,9 +171,11 @@ def turns_in_place(stage: Stage) -> None:
         ("rename", "match0.jsonl.part", "match0.jsonl"),
     ]
     if [
-        step for step in steps if step in (*wanted, *parts) or "match0.turns" in step
-    ] != [*parts, *wanted]:
-        raise Wrong(f"the calls were {steps}")
+        step
+        for step in steps
+        if step in (*expectation, *parts) or "match0.turns" in step
+    ] != [*parts, *expectation]:
+        raise FailedCheckError(f"the calls were {steps}")
 
 
 @case("the turns of events are on the disk before these are written to the part")
@@ -179,25 +183,25 @@ def turns_come_first(stage: Stage) -> None:
     steps = steps_in_turns(stage)
     turns = "match0.turns.part"
     part = "match0.jsonl.part"
-    kept = [
+    record = [
         step
         for step in steps
         if step[0] in ("write", "sync") and step[1] in (turns, part)
     ]
     # the head is written first, and the end line last
     _, *events, _ = [
-        place for place, step in enumerate(kept) if step == ("write", part)
+        index for index, step in enumerate(record) if step == ("write", part)
     ]
     if not events or any(
-        kept[place - 2 : place] != [("write", turns), ("sync", turns)]
-        for place in events
+        record[event - 2 : event] != [("write", turns), ("sync", turns)]
+        for event in events
     ):
-        raise Wrong(f"the calls were {steps}")
+        raise FailedCheckError(f"the calls were {steps}")
 
 
 @case("what is written to the part of each match is on the disk before more is written")
 def parts_are_synced(stage: Stage) -> None:
-    steps = steps_of(traced(stage, SEED + RED + BLUE, 60, enter("ba") + LEAVE))
+    steps = steps_of(trace_server(stage, SEED + RED + BLUE, 60, enter("ba") + LEAVE))
     for match, least in ((0, 2), (1, 4)):
         part = [
             kind
@@ -205,7 +209,9 @@ def parts_are_synced(stage: Stage) -> None:
             if names == [f"match{match}.jsonl.part"] and kind != "remove"
         ]
         if len(part) < least or part != ["write", "sync"] * (len(part) // 2):
-            raise Wrong(f"the calls on the part of match {match} were {part}")
+            raise FailedCheckError(
+                f"the calls on the part of match {match} were {part}"
+            )
 
 
 # how many events of a match are written before another match has its turn, and the line
@@ -221,7 +227,7 @@ LOOK_LINE = (
 )
 def parts_take_turns(stage: Stage) -> None:
     cup = (SEED + RED + BLUE).replace("quota = 10", "quota = 1000")
-    calls = traced(
+    calls = trace_server(
         stage, cup, 100, *(enter(key) + LOOK * 998 + LEAVE for key in ("ra", "ba"))
     )
     parts = [call for call in calls if call.step[1].endswith(".part")]
@@ -229,16 +235,17 @@ def parts_take_turns(stage: Stage) -> None:
         call.step if call.given >= EVENTS_A_TURN * len(LOOK_LINE) else ()
         for call in parts
     ]
-    wanted = [("write", f"match{match}.jsonl.part") for match in (0, 1, 0, 1)]
+    expectation = [("write", f"match{match}.jsonl.part") for match in (0, 1, 0, 1)]
     if not any(
-        turns[place : place + len(wanted)] == wanted for place in range(len(turns))
+        turns[index : index + len(expectation)] == expectation
+        for index in range(len(turns))
     ):
-        raise Wrong(f"no two matches took turns: {parts}")
+        raise FailedCheckError(f"no two matches took turns: {parts}")
 
 
 @case("the folder that replays stand in is on the disk")
 def folder_is_synced(stage: Stage) -> None:
     (stage.folder / "out").mkdir()
-    steps = steps_of(traced(stage, SEED + RED, 1, prefix="out/match"))
+    steps = steps_of(trace_server(stage, SEED + RED, 1, prefix="out/match"))
     if ("sync", "out") not in steps or ("sync", ".") in steps:
-        raise Wrong(f"the calls were {steps}")
+        raise FailedCheckError(f"the calls were {steps}")

@@ -27,7 +27,7 @@ import tempfile
 from typing import Any, Dict, Iterator, List, NamedTuple
 
 from arena_lab.rules.networks import Network
-from tests.support.counts import concluded
+from tests.support.counts import report_counts
 from tests.support.matches import TOP
 from tests.support.tournaments import match, write_cup
 
@@ -54,12 +54,12 @@ class Search(NamedTuple):
 
     @property
     def degree(self) -> int:
-        """How many links the black hole has."""
+        """Returns how many links the black hole has."""
         return self.network.degrees()[self.hole]
 
     @property
     def ends(self) -> int:
-        """How many ports the other nodes have."""
+        """Returns how many ports the other nodes have."""
         return 2 * len(self.network.links) - self.degree
 
     @property
@@ -81,8 +81,8 @@ def networks_of(nodes: int) -> Iterator[Network]:
         if len(graph) == nodes and networkx.is_biconnected(graph):
             ports = {it: draw.sample(list(graph[it]), len(graph[it])) for it in graph}
             links = [
-                (one, ports[one].index(two), two, ports[two].index(one))
-                for one, two in graph.edges
+                (first, ports[first].index(two), two, ports[two].index(first))
+                for first, two in graph.edges
             ]
             yield Network(nodes, links)
 
@@ -90,79 +90,86 @@ def networks_of(nodes: int) -> Iterator[Network]:
 def searches_of(network: Network) -> Iterator[Search]:
     """The matches on a network."""
     links = len(network.links)
-    told = [links, 0] if max(network.degrees()) <= CUBIC else [links]
+    message = [links, 0] if max(network.degrees()) <= CUBIC else [links]
     for home, hole in itertools.permutations(range(network.nodes), 2):
-        for known in told:
-            yield Search(network, home, hole, known)
+        for facts in message:
+            yield Search(network, home, hole, facts)
 
 
-def explored(program: str, search: Search, agents: int, board: int) -> Dict[str, Any]:
+def explore(program: str, search: Search, agents: int, board: int) -> Dict[str, Any]:
     """What `explore` finds of this many agents, with whiteboards of this size; nothing
     if there are too many states."""
     words = ["--spurious-wakeups", "0", "--max-states", str(STATES)]
     words += ["--module", f"{CHART}:{search.network.nodes},{search.links}"]
     limits = {"home": search.home, "quota": QUOTA, "board": board}
-    given = match("red", search.network, [search.hole], agents, **limits)
+    conditions = match("red", search.network, [search.hole], agents, **limits)
     with tempfile.TemporaryDirectory(prefix="unmapped-") as folder:
-        write_cup(pathlib.Path(folder), [given])
-        ran = subprocess.run(
+        write_cup(pathlib.Path(folder), [conditions])
+        result = subprocess.run(
             [program, "explore", "cup.toml", "0", *words],
             cwd=folder,
             capture_output=True,
             text=True,
         )
-    found: Dict[str, Any] = json.loads(ran.stdout.splitlines()[0]) if ran.stdout else {}
-    return found
+    report: Dict[str, Any] = (
+        json.loads(result.stdout.splitlines()[0]) if result.stdout else {}
+    )
+    return report
 
 
-def fault_in(search: Search, found: Dict[str, Any]) -> str:
+def fault_in(search: Search, values: Dict[str, Any]) -> str:
     """What is wrong with what was found of agents enough: not every schedule solves the
     match, or not within the bounds."""
-    if found.get("found") != "solves":
-        return str(found or "too many states")
-    most = search.most_moves(search.degree + 1)
-    is_within = found["lost"] <= search.degree and found["moves"] <= most
-    return "" if is_within else f"{found}, and the most moves are to be {most}"
+    if values.get("found") != "solves":
+        return str(values or "too many states")
+    limit = search.most_moves(search.degree + 1)
+    is_within = values["lost"] <= search.degree and values["moves"] <= limit
+    return "" if is_within else f"{values}, and the most moves are to be {limit}"
 
 
-def tried(nodes: int) -> List[Search]:
+def match_searches(nodes: int) -> List[Search]:
     """The matches on networks of this size that are explored."""
     if nodes <= SMALL:
-        return [it for network in networks_of(nodes) for it in searches_of(network)]
-    cubic = [it for it in networks_of(nodes) if max(it.degrees()) <= CUBIC]
-    return [it for network in cubic for it in searches_of(network)][::STRIDE]
+        return [
+            search for network in networks_of(nodes) for search in searches_of(network)
+        ]
+    cubic = [
+        network for network in networks_of(nodes) if max(network.degrees()) <= CUBIC
+    ]
+    return [search for network in cubic for search in searches_of(network)][::STRIDE]
 
 
 def is_solved(program: str, search: Search) -> bool:
-    """Whether agents enough solve a match as they should; a line says so if not."""
-    found = explored(program, search, search.degree + 1, search.board)
-    fault = fault_in(search, found)
+    """Returns whether agents enough solve a match as they should; a line says so if
+    not."""
+    result = explore(program, search, search.degree + 1, search.board)
+    fault = fault_in(search, result)
     if fault:
         print(f"FAILED {search}: {fault}", flush=True)
     return not fault
 
 
 def fails(program: str, search: Search) -> bool:
-    """Whether one agent less fails under some schedule."""
-    found = explored(program, search, search.degree, search.board)
-    return bool(found.get("found") == "fails")
+    """Returns whether one agent less fails under some schedule."""
+    result = explore(program, search, search.degree, search.board)
+    return bool(result.get("found") == "fails")
 
 
 def main() -> int:
     if len(sys.argv) < 2 or sys.argv[1] in ("-h", "--help"):
         sys.exit((__doc__ or "").strip())
     program = str(pathlib.Path(sys.argv[1]).resolve())
-    solved = []
+    solved_count = []
     for nodes in map(int, sys.argv[2:] or ("3", "4", "5")):
-        searches = tried(nodes)
-        solved += [is_solved(program, search) for search in searches]
+        searches = match_searches(nodes)
+        solved_count += [is_solved(program, search) for search in searches]
         if nodes <= SMALL:
             failing = sum(fails(program, search) for search in searches)
             print(
                 f"{failing} of {len(searches)} fail with an agent less: {nodes} nodes"
             )
-            solved.append(failing > 0)
-    return concluded(sum(solved), len(solved) - sum(solved))
+            solved_count.append(failing > 0)
+    return report_counts(sum(solved_count), len(solved_count) - sum(solved_count))
 
 
 if __name__ == "__main__":

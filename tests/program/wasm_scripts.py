@@ -33,7 +33,7 @@ from typing import Any, Counter, Dict, List, NamedTuple, Optional, Sequence
 from tests.program.module_cases import SILENT
 from tests.program.program_cases import CUP, TRIANGLE, writes
 from tests.support.counts import SKIPPED
-from tests.support.program_rows import REFUSED_TEXT, Stage, Wrong
+from tests.support.program_rows import REFUSED_TEXT, Stage, FailedCheckError
 from tests.support.wasm_encoding import with_run
 from tools import packages
 
@@ -45,11 +45,11 @@ EXPORT = re.compile(r'^  \(export "(.*)" \((\w+) (\d+)\)\)', re.MULTILINE)
 START = re.compile(r"^  \(start (\d+)\)", re.MULTILINE)
 FLOAT = re.compile(r"\bf(32|64)\b")
 COMPUTES = re.compile(r"\bf(?:32|64)\.|_f(?:32|64)")
-# how a text is changed before the functions in it that compute with floating-point
-# numbers are, and behind that
+# substitutions applied before functions with floating-point instructions are removed,
+# and after
 IMPORTS = tuple(
-    (re.compile(pattern, re.MULTILINE), put)
-    for pattern, put in (
+    (re.compile(pattern, re.MULTILINE), new_text)
+    for pattern, new_text in (
         (r'\(import "spectest" "print\w*" (\(func .*)\)$', r"\1"),
         (r'\(import "spectest" "memory" .*', "(memory 1 2)"),
         (r'\(import "spectest" "table" .*', "(table 10 20 funcref)"),
@@ -64,8 +64,7 @@ OTHERS = (
     (re.compile(r"^(  \(global .*\(f(?:32|64)\.const) .*", re.MULTILINE), r"\1 0))"),
     (FLOAT, r"i\1"),
 )
-# what the text of a valid module has if it is outside, and begins the fault of one that
-# is refused as outside
+# pattern of valid modules outside of the subset, and the beginning of their fault
 OUTSIDE = re.compile(
     r"\bf(?:32|64)\b|v128|externref|ref\.|\btable\.|memory\.init|data\.drop|\((?:import|start) |"
     r"\((?:param|result|local).* funcref|\(table \(;1;\)|\(elem \(;\d+;\) (?:declare )?func|"
@@ -84,9 +83,9 @@ DIFFERS = "known to differ"
 Command = Dict[str, Any]
 
 
-class Told(NamedTuple):
-    """What the program says of a module: why it is refused, or how its agents fail, and
-    in which function."""
+class ModuleVerdict(NamedTuple):
+    """The program's verdict on a module: reason for a rejection, or fault of its agents
+    with the function."""
 
     fault: str = ""
     failure: str = ""
@@ -94,8 +93,8 @@ class Told(NamedTuple):
 
     @property
     def is_whole(self) -> bool:
-        """Whether all of a file is read, and nothing is wrong but that it exports no
-        `run`."""
+        """Returns whether all of a file is read, and nothing is wrong but that it
+        exports no `run`."""
         return not self.fault or self.fault.startswith("run at ")
 
     def __str__(self) -> str:
@@ -114,15 +113,17 @@ class Module:
         start = START.search(text)
         self.first = [f"call {start[1]}"] if start else []
         self.exports = {
-            unescaped(it[1]): (it[2], it[3]) for it in EXPORT.finditer(text)
+            unescape(match[1]): (match[2], match[3]) for match in EXPORT.finditer(text)
         }
         self.has_floats = bool(FLOAT.search(text))
         text = text.rstrip()[:-1]
-        for pattern, put in IMPORTS:
-            text = pattern.sub(put, text)
-        functions = [it[0] for it in FUNCTION.finditer(text)]
+        for pattern, new_text in IMPORTS:
+            text = pattern.sub(new_text, text)
+        functions = [match[0] for match in FUNCTION.finditer(text)]
         self.stubs = [
-            place for place, it in enumerate(functions) if COMPUTES.search(it)
+            index
+            for index, function in enumerate(functions)
+            if COMPUTES.search(function)
         ]
         text = FUNCTION.sub(
             lambda it: f"  {it[1]}\n    unreachable)"
@@ -130,20 +131,19 @@ class Module:
             else it[0],
             text,
         )
-        for pattern, put in OTHERS:
-            text = pattern.sub(put, text)
+        for pattern, new_text in OTHERS:
+            text = pattern.sub(new_text, text)
         self.text = text
         self.functions = len(functions)
         self.calls: List[Command] = []
-        # whether other modules may change it
+        # whether other modules can modify it
         self.is_shared = False
 
     def running(self, checks: Sequence[str]) -> str:
-        """The text of a module that makes these checks, each in a function behind those
-        of the module."""
+        """Returns a module that runs these checks as functions after its own."""
         functions = "".join(f"  (func {check})\n" for check in checks)
         calls = " ".join(
-            f"call {self.functions + place}" for place in range(len(checks))
+            f"call {self.functions + index}" for index in range(len(checks))
         )
         return f'{self.text}\n{functions}  (func (export "run") {calls}))\n'
 
@@ -151,13 +151,13 @@ class Module:
         """The instructions that make a call, and trap if it returns something else than
         the script says: none if it is outside."""
         action = command["action"]
-        given = action.get("args", ())
+        conditions = action.get("args", ())
         if action["field"] not in self.exports or any(
-            it["type"] not in INTEGERS for it in (*given, *command["expected"])
+            it["type"] not in INTEGERS for it in (*conditions, *command["expected"])
         ):
             return None
         kind, number = self.exports[action["field"]]
-        push = [f"{it['type']}.const {it['value']}" for it in given]
+        push = [f"{it['type']}.const {it['value']}" for it in conditions]
         compare = [
             f"{it['type']}.const {it['value']} {it['type']}.ne if unreachable end"
             if "value" in it
@@ -173,16 +173,16 @@ class Module:
         )
 
 
-def unescaped(name: str) -> str:
-    """A name as it is written in a text."""
+def unescape(name: str) -> str:
+    """Decodes the escapes of a name."""
     return re.sub(
         rb"\\([0-9a-f]{2})", lambda it: bytes.fromhex(it[1].decode()), name.encode()
     ).decode()
 
 
-def wabt(tool: str, file: pathlib.Path, made: Optional[pathlib.Path] = None) -> bool:
-    """Whether a tool of wabt takes a file, and makes another of it."""
-    words = [tool, str(file), *(["-o", str(made)] if made else [])]
+def wabt(tool: str, file: pathlib.Path, path: Optional[pathlib.Path] = None) -> bool:
+    """Returns whether a tool of wabt takes a file, and makes another of it."""
+    words = [tool, str(file), *(["-o", str(path)] if path else [])]
     return subprocess.run(words, stderr=subprocess.DEVNULL).returncode == 0
 
 
@@ -195,32 +195,34 @@ class Scripts:
         self.text = stage.folder / "agent.wat"
         self.counts: Counter[str] = collections.Counter()
 
-    def told(self, file: pathlib.Path) -> Told:
+    def verdict_of(self, file: pathlib.Path) -> ModuleVerdict:
         """What the program says of agents that run this module."""
         try:
-            ran = self.stage.run(
+            result = self.stage.run(
                 ["explore", "cup.toml", "0", "--module", str(file)], b""
             )
-        except Wrong as error:
-            return Told(str(error))
-        if ran.status == REFUSED_TEXT:
-            return Told(ran.told.decode().splitlines()[-1].removeprefix(f"{file}: "))
-        if ran.printed.startswith(SILENT.encode()):
-            return Told()
-        said = json.loads(ran.printed.splitlines()[-1])
-        return Told("", said["failure"], said["function"])
+        except FailedCheckError as error:
+            return ModuleVerdict(str(error))
+        if result.status == REFUSED_TEXT:
+            return ModuleVerdict(
+                result.stderr.decode().splitlines()[-1].removeprefix(f"{file}: ")
+            )
+        if result.stdout.startswith(SILENT.encode()):
+            return ModuleVerdict()
+        lines = json.loads(result.stdout.splitlines()[-1])
+        return ModuleVerdict("", lines["failure"], lines["function"])
 
     def count(
         self,
-        place: str,
+        position: str,
         command: Command,
         is_right: bool,
-        said: object = "",
+        text_given: object = "",
         is_outside: bool = False,
     ) -> None:
         """Counts an assertion, and says which failed, with what the script says of
         it."""
-        line = f"{place}: {command['type']} {command.get('text', '')}"
+        line = f"{position}: {command['type']} {command.get('text', '')}"
         kind = (
             f"{command['type']} outside"
             if is_outside
@@ -232,7 +234,10 @@ class Scripts:
         )
         self.counts[kind] += 1
         if kind in (FAILED, DIFFERS):
-            print(f"{'FAILED' if kind == FAILED else kind} {line}: {said}", flush=True)
+            print(
+                f"{'FAILED' if kind == FAILED else kind} {line}: {text_given}",
+                flush=True,
+            )
 
     def play(self, script: pathlib.Path) -> None:
         """Plays a script."""
@@ -249,9 +254,11 @@ class Scripts:
         # the last module has no name
         by_name: Dict[str, Module] = {}
         for command in json.loads((folder / "script.json").read_text())["commands"]:
-            place = f"{script.stem}:{command['line']}"
+            position = f"{script.stem}:{command['line']}"
             if command["type"] == "module":
-                modules.append(self.read(folder / command["filename"], place, command))
+                modules.append(
+                    self.read_module(folder / command["filename"], position, command)
+                )
                 by_name[""] = by_name[command.get("name", "")] = modules[-1]
             elif command["type"] == "register":
                 by_name[command.get("name", "")].is_shared = True
@@ -261,9 +268,9 @@ class Scripts:
             ):
                 by_name[command["action"].get("module", "")].calls.append(command)
             elif command["type"] in REFUSALS and command.get("module_type") == "binary":
-                self.refuse(folder / command["filename"], place, command)
+                self.refuse(folder / command["filename"], position, command)
             else:
-                self.count(place, command, False, is_outside=True)
+                self.count(position, command, False, is_outside=True)
         for module in modules:
             self.call(script.stem, module)
         print(
@@ -271,57 +278,58 @@ class Scripts:
             flush=True,
         )
 
-    def read(self, file: pathlib.Path, place: str, command: Command) -> Module:
+    def read_module(
+        self, file: pathlib.Path, position: str, command: Command
+    ) -> Module:
         """A valid module is read, unless it is outside."""
         text = self.text.read_text() if wabt("wasm2wat", file, self.text) else ""
-        said = self.told(file)
+        verdict = self.verdict_of(file)
         self.count(
-            place,
+            position,
             command,
-            said.is_whole,
-            said,
-            not said.is_whole and (not text or bool(OUTSIDE.search(text))),
+            verdict.is_whole,
+            verdict,
+            not verdict.is_whole and (not text or bool(OUTSIDE.search(text))),
         )
         return Module(text)
 
-    def refuse(self, file: pathlib.Path, place: str, command: Command) -> None:
-        """A module that is malformed or invalid is refused, and not only since it has
-        no `run`. Is it taken, and by wabt too, then the script is older than what both
-        know."""
-        said = self.told(file)
-        if said.is_whole:
+    def refuse(self, file: pathlib.Path, position: str, command: Command) -> None:
+        """Checks that a malformed or invalid module is rejected for more than its
+        missing `run`. If wabt accepts it as well, the script is older than both."""
+        verdict = self.verdict_of(file)
+        if verdict.is_whole:
             self.made.write_bytes(with_run(file.read_bytes()))
-            said = self.told(self.made)
+            verdict = self.verdict_of(self.made)
         is_outside = (
-            bool(REFUSED_AS_OUTSIDE.match(said.fault))
-            if said.fault
+            bool(REFUSED_AS_OUTSIDE.match(verdict.fault))
+            if verdict.fault
             else wabt("wasm-validate", file)
         )
-        self.count(place, command, bool(said.fault), said, is_outside)
+        self.count(position, command, bool(verdict.fault), verdict, is_outside)
 
-    def run(self, module: Module, checks: Sequence[str]) -> Told:
+    def run(self, module: Module, checks: Sequence[str]) -> ModuleVerdict:
         """What comes of these checks."""
         self.text.write_text(module.running(checks))
         return (
-            self.told(self.made)
+            self.verdict_of(self.made)
             if wabt("wat2wasm", self.text, self.made)
-            else Told("no module")
+            else ModuleVerdict("no module")
         )
 
     def call(self, script: str, module: Module) -> None:
         """Makes the calls of a module."""
-        checks = [module.check(it) for it in module.calls]
+        checks = [module.check(call) for call in module.calls]
         returns = [
             it
             for it, command in zip(checks, module.calls)
             if it and command["type"] in RETURNS
         ]
-        is_right = self.run(module, [*module.first, *returns]) == Told()
+        is_right = self.run(module, [*module.first, *returns]) == ModuleVerdict()
         before = list(module.first)
         for check, command in zip(checks, module.calls):
             is_return = command["type"] in RETURNS
-            said = (
-                Told()
+            output = (
+                ModuleVerdict()
                 if check is None or is_right and is_return
                 else self.run(module, [*before, check])
             )
@@ -329,24 +337,26 @@ class Scripts:
             is_lost = (
                 module.has_floats
                 and "type mismatch" in command.get("text", "")
-                and said == Told()
+                and output == ModuleVerdict()
             )
             is_outside = (
                 check is None
-                or said.function in module.stubs
+                or output.function in module.stubs
                 or is_lost
-                or bool(said.fault and (not module.text or OUTSIDE.search(module.text)))
+                or bool(
+                    output.fault and (not module.text or OUTSIDE.search(module.text))
+                )
             )
             self.count(
                 f"{script}:{command['line']} {command['action']['field']}",
                 command,
-                said == Told()
+                output == ModuleVerdict()
                 if is_return
-                else bool(said.failure) and said.function < module.functions,
-                said,
+                else bool(output.failure) and output.function < module.functions,
+                output,
                 is_outside,
             )
-            if check and is_return and said == Told():
+            if check and is_return and output == ModuleVerdict():
                 before.append(check)
 
 
@@ -354,10 +364,10 @@ def scripts_in(archive: pathlib.Path, folder: pathlib.Path) -> pathlib.Path:
     """Writes the scripts in an archive to a folder."""
     with tarfile.open(archive) as members:
         for member in members:
-            named = SCRIPTS.fullmatch(member.name)
+            match = SCRIPTS.fullmatch(member.name)
             content = members.extractfile(member)
-            if named and content:
-                (folder / named[1]).write_bytes(content.read())
+            if match and content:
+                (folder / match[1]).write_bytes(content.read())
     return folder
 
 
@@ -386,7 +396,7 @@ def main() -> int:
     words = parser.parse_intermixed_args()
     with tempfile.TemporaryDirectory(prefix="scripts-") as name:
         temporary = pathlib.Path(name)
-        archive = None if words.folder else packages.fetched(PACKAGE, temporary)
+        archive = None if words.folder else packages.fetch_source(PACKAGE, temporary)
         if not words.folder and not archive:
             print(
                 f"{SKIPPED}wasm_scripts: the sources of Debian's {PACKAGE} cannot be fetched\n0 passed, 0 failed"
@@ -394,12 +404,12 @@ def main() -> int:
             return 0
         folder = scripts_in(archive, temporary) if archive else words.folder
         (temporary / "played").mkdir()
-        played = Scripts(Stage(words.program, temporary / "played"))
-        writes(played.stage, tri=TRIANGLE, cup=CUP)
+        scripts = Scripts(Stage(words.program, temporary / "played"))
+        writes(scripts.stage, tri=TRIANGLE, cup=CUP)
         for script in sorted(folder.glob("*.wast")):
             if not words.scripts or script.stem in words.scripts:
-                played.play(script)
-    counts = played.counts
+                scripts.play(script)
+    counts = scripts.counts
     print(
         ", ".join(
             f"{count} {kind}"

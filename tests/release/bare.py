@@ -25,12 +25,12 @@ import sys
 from typing import List
 
 from tests.support import roots
-from tests.support.counts import concluded
+from tests.support.counts import report_counts
 from tools.parts import FAILURE
 from tools.prove.prover import KIT, TOP
 from tools.prove.record import PROGRAMS
 
-# where the repository is in the root, and what is taken of this one besides the commit
+# the repository's path in the root, and untracked files to copy
 HOME = "home/arena"
 BUILT = (*(f"crates/{name}/out" for name in (*PROGRAMS, "bhs_bench")), "tests/out")
 PROGRAM = "crates/bhs_main/out/bhs_main"
@@ -41,18 +41,18 @@ LOGS = TOP / "out" / "bare"
 LINES = 60
 
 
-def clone(place: pathlib.Path, program: str) -> None:
-    """Puts the commit of this repository there, with what is built here."""
-    shutil.rmtree(place, ignore_errors=True)
+def clone(path: pathlib.Path, program: str) -> None:
+    """Clones the current commit, and copies what was built here."""
+    shutil.rmtree(path, ignore_errors=True)
     subprocess.run(
-        ["git", "clone", "-q", "--no-hardlinks", str(TOP), str(place)], check=True
+        ["git", "clone", "-q", "--no-hardlinks", str(TOP), str(path)], check=True
     )
     for name in BUILT:
         if (TOP / name).is_dir():
-            shutil.copytree(TOP / name, place / name, symlinks=True, dirs_exist_ok=True)
+            shutil.copytree(TOP / name, path / name, symlinks=True, dirs_exist_ok=True)
     if program:
-        (place / PROGRAM).parent.mkdir(parents=True, exist_ok=True)
-        shutil.copy(program, place / PROGRAM)
+        (path / PROGRAM).parent.mkdir(parents=True, exist_ok=True)
+        shutil.copy(program, path / PROGRAM)
 
 
 def passes(title: str, words: List[str]) -> bool:
@@ -60,7 +60,7 @@ def passes(title: str, words: List[str]) -> bool:
     LOGS.mkdir(parents=True, exist_ok=True)
     log = LOGS / f"{title.replace(' ', '-')}.log"
     with log.open("wb") as file:
-        ran = subprocess.run(
+        result = subprocess.run(
             words, stdin=subprocess.DEVNULL, stdout=file, stderr=subprocess.STDOUT
         )
     lines = log.read_text(errors="replace").splitlines()
@@ -69,22 +69,22 @@ def passes(title: str, words: List[str]) -> bool:
         *before,
         *lines[-LINES:],
         f"all lines are in {log.relative_to(TOP)}",
-        f"{'FAILED' if ran.returncode else 'ok'}: {title}",
+        f"{'FAILED' if result.returncode else 'ok'}: {title}",
         sep="\n",
         flush=True,
     )
-    return ran.returncode == 0
+    return result.returncode == 0
 
 
 def results(root: pathlib.Path, program: str) -> List[bool]:
-    """Whether each command passes."""
+    """Returns whether each command passes."""
     roots.make(root, ["python3"])
     clone(root / HOME, program)
     within = roots.inside(root, f"/{HOME}")
     sources = root / SOURCES
-    with roots.mounted(root, {KIT: str(KIT).lstrip("/")}):
+    with roots.mount_root(root, {KIT: str(KIT).lstrip("/")}):
         archives = sources.read_text()
-        found = [
+        results = [
             passes(
                 "the tests without a package", [*within, "python3", "-m", "unittest"]
             )
@@ -94,7 +94,7 @@ def results(root: pathlib.Path, program: str) -> List[bool]:
             subprocess.run(
                 [*within, "apt-get", "update", "-q"], stdout=subprocess.DEVNULL
             )
-            found.append(
+            results.append(
                 passes(
                     "the gate without an archive",
                     [*within, "python3", "tools/gate", "--played"],
@@ -102,19 +102,19 @@ def results(root: pathlib.Path, program: str) -> List[bool]:
             )
         finally:
             sources.write_text(archives)
-        found.append(
+        results.append(
             passes(
                 "the gate with an archive",
                 [*within, "python3", "tools/gate", "--played"],
             )
         )
-        contained = roots.inside(root, f"/{HOME}", is_machine=False)
+        contained_value = roots.inside(root, f"/{HOME}", is_machine=False)
         return [
-            *found,
+            *results,
             passes(
                 "the lab without walls",
                 [
-                    *contained,
+                    *contained_value,
                     "python3",
                     "-m",
                     "tests.runners.integration_tests",
@@ -147,8 +147,8 @@ def main() -> int:
         root = folder / "root"
         if words.root:
             subprocess.run(["cp", "-a", words.root, root], check=True)
-        found = results(root, words.program)
-    return concluded(found.count(True), found.count(False))
+        result = results(root, words.program)
+    return report_counts(result.count(True), result.count(False))
 
 
 if __name__ == "__main__":

@@ -17,8 +17,8 @@ import tempfile
 import time
 from typing import Callable, List, Sequence
 
-from arena_lab.support.built import SAID
-from tests.support.counts import concluded
+from arena_lab.support.built import UNPROVED_LINE
+from tests.support.counts import report_counts
 from tools.prove import version
 
 TOP = pathlib.Path(__file__).resolve().parents[2]
@@ -26,10 +26,10 @@ CONTEST = "examples/contest.py"
 SCRIPT = "examples/triangle.script"
 PRINTED = "examples/triangle.printed"
 TEAMS = 4
-Ran = subprocess.CompletedProcess
+RunResult = subprocess.CompletedProcess
 
 
-def ran(words: Sequence[object], folder: pathlib.Path) -> "Ran[str]":
+def run(words: Sequence[object], folder: pathlib.Path) -> "RunResult[str]":
     """Runs a command without an input, as who has named no program."""
     variables = {
         name: value
@@ -46,85 +46,92 @@ def ran(words: Sequence[object], folder: pathlib.Path) -> "Ran[str]":
     )
 
 
-def wants(is_right: bool, found: "Ran[str]") -> None:
+def wants(is_right: bool, result: "RunResult[str]") -> None:
     """Fails with what a command said, if that is not right."""
     if not is_right:
         raise AssertionError(
-            f"status {found.returncode}, {found.stdout!r}, {found.stderr[-500:]!r}"
+            f"status {result.returncode}, {result.stdout!r}, {result.stderr[-500:]!r}"
         )
 
 
 def plays(folder: pathlib.Path) -> None:
     """A contest in which all teams solve their networks, by a program that says once
     that it is not proved."""
-    found = ran([sys.executable, CONTEST], folder)
-    solved = found.stdout.count(" solved its network\n")
+    result = run([sys.executable, CONTEST], folder)
+    solved_count = result.stdout.count(" solved its network\n")
     wants(
-        (found.returncode, solved, found.stderr.count(f"{SAID}\n")) == (0, TEAMS, 1),
-        found,
+        (result.returncode, solved_count, result.stderr.count(f"{UNPROVED_LINE}\n"))
+        == (0, TEAMS, 1),
+        result,
     )
-    wants(f"arena: {version.version()}, unproved; commit " in found.stderr, found)
+    wants(f"arena: {version.version()}, unproved; commit " in result.stderr, result)
 
 
 def answers(clone: pathlib.Path) -> None:
     """Two starts at once, and a third: each plays the script, and the program is
     compiled once."""
-    printed = (clone / PRINTED).read_text()
+    text = (clone / PRINTED).read_text()
     words = ["./arena", "rehearse"]
-    begun = time.monotonic()
+    start_time = time.monotonic()
     pipes = {
         "stdout": subprocess.PIPE,
         "stderr": subprocess.PIPE,
         "text": True,
         "cwd": clone,
     }
-    with open(clone / SCRIPT) as one, open(clone / SCRIPT) as other:
+    with open(clone / SCRIPT) as first, open(clone / SCRIPT) as second:
         starts = [
-            subprocess.Popen(words, stdin=script, **pipes) for script in (one, other)
+            subprocess.Popen(words, stdin=script, **pipes) for script in (first, second)
         ]
-        found = [Ran(words, 0, *start.communicate()) for start in starts]
-    seconds = time.monotonic() - begun
-    begun = time.monotonic()
+        results = [RunResult(words, 0, *start.communicate()) for start in starts]
+    seconds = time.monotonic() - start_time
+    start_time = time.monotonic()
     with open(clone / SCRIPT) as script:
         again = subprocess.run(words, stdin=script, **pipes)
     print(
-        f"the first answer came after {seconds:.0f} s, the next after {time.monotonic() - begun:.2f} s",
+        f"the first answer came after {seconds:.0f} s, the next after {time.monotonic() - start_time:.2f} s",
         flush=True,
     )
-    for start in found:
-        wants(start.stdout == printed and start.stderr.endswith(f"{SAID}\n"), start)
+    for start in results:
+        wants(
+            start.stdout == text and start.stderr.endswith(f"{UNPROVED_LINE}\n"),
+            start,
+        )
     wants(
-        sum("compiled without a proof in" in start.stderr for start in found) == 1,
-        found[0],
+        sum("compiled without a proof in" in start.stderr for start in results) == 1,
+        results[0],
     )
-    wants((again.stdout, again.stderr) == (printed, f"{SAID}\n"), again)
+    wants((again.stdout, again.stderr) == (text, f"{UNPROVED_LINE}\n"), again)
 
 
 def is_released(clone: pathlib.Path) -> None:
     """A release is unpacked; its checksums are right, it says that it is not proved,
     and it plays."""
     folder = clone.parent
-    found = ran([sys.executable, "tools/release", "--unproved", "--out", folder], clone)
-    wants(found.returncode == 0, found)
-    (made,) = folder.glob("*-unproved.tar.gz")
-    with tarfile.open(made) as archive:
-        archive.extractall(folder)
-    unpacked = folder / made.name[: -len(".tar.gz")]
-    found = ran(["sha256sum", "--quiet", "-c", "SHA256SUMS"], unpacked)
-    wants(found.returncode == 0, found)
-    found = ran(["./arena", "--version"], unpacked)
-    wants(
-        found.stdout.startswith(f"arena {version.version()}, unproved\ncommit "), found
+    result = run(
+        [sys.executable, "tools/release", "--unproved", "--out", folder], clone
     )
-    plays(unpacked)
+    wants(result.returncode == 0, result)
+    (path,) = folder.glob("*-unproved.tar.gz")
+    with tarfile.open(path) as archive:
+        archive.extractall(folder)
+    unpacked_value = folder / path.name[: -len(".tar.gz")]
+    result = run(["sha256sum", "--quiet", "-c", "SHA256SUMS"], unpacked_value)
+    wants(result.returncode == 0, result)
+    result = run(["./arena", "--version"], unpacked_value)
+    wants(
+        result.stdout.startswith(f"arena {version.version()}, unproved\ncommit "),
+        result,
+    )
+    plays(unpacked_value)
 
 
-def main(given: List[str]) -> int:
-    if given:
+def main(arguments: List[str]) -> int:
+    if arguments:
         print(__doc__.strip())
-        return 0 if given in (["-h"], ["--help"]) else 2
+        return 0 if arguments in (["-h"], ["--help"]) else 2
     cases: List[Callable[[pathlib.Path], None]] = [answers, plays, is_released]
-    failed = 0
+    failure_count = 0
     with tempfile.TemporaryDirectory() as name:
         clone = pathlib.Path(name) / "clone"
         subprocess.run(["git", "clone", "-q", TOP, clone], check=True)
@@ -132,9 +139,9 @@ def main(given: List[str]) -> int:
             try:
                 case(clone)
             except AssertionError as fault:
-                failed += 1
+                failure_count += 1
                 print(f"FAILED first look: {case.__name__.replace('_', ' ')}: {fault}")
-    return concluded(len(cases) - failed, failed)
+    return report_counts(len(cases) - failure_count, failure_count)
 
 
 if __name__ == "__main__":

@@ -1,5 +1,5 @@
-"""Builds the Debian package of a clone in a bare Debian. It must have the bytes of the
-package that is made here.
+"""Builds the Debian package from a clone in a bare Debian, and compares its bytes with
+the package built here.
 
     sudo python3 -m tests.release.from_clone [--unproved] [--root FOLDER]
 
@@ -17,14 +17,14 @@ import sys
 from typing import List
 
 from tests.release.bare import clone
-from tests.release.installed import made, ran
+from tests.release.installed import make_release, run
 from tests.support import roots
-from tests.support.counts import Wrong, concluded, require
+from tests.support.counts import FailedCheckError, report_counts, require
 from tools.prove.prover import KIT, TOP
 
-# where the repository is in the root: as deep as here, since records of what is built
-# name the toolchain from there
-HOME = pathlib.PurePath(*(f"folder{place}" for place in range(len(TOP.parts) - 1)))
+# the repository's path in the root; it has the same depth as here, because build
+# records contain relative paths to the toolchain
+HOME = pathlib.PurePath(*(f"folder{index}" for index in range(len(TOP.parts) - 1)))
 UNPROVED = "out/unproved"
 
 
@@ -35,11 +35,11 @@ def build(root: pathlib.Path, options: List[str]) -> pathlib.Path:
     if options and (TOP / UNPROVED).is_dir():
         shutil.copytree(TOP / UNPROVED, root / HOME / UNPROVED)
     inside = roots.inside(root, f"/{HOME}")
-    with roots.mounted(root, {KIT: str(KIT).lstrip("/")}):
-        ran([*inside, "apt-get", "update"], TOP)
-        ran([*inside, "apt-get", "build-dep", "-y", "./"], TOP)
+    with roots.mount_root(root, {KIT: str(KIT).lstrip("/")}):
+        run([*inside, "apt-get", "update"], TOP)
+        run([*inside, "apt-get", "build-dep", "-y", "./"], TOP)
         words = ["unshare", "--net", "dpkg-buildpackage", "-b", "-us", "-uc"]
-        ran([*inside, "env", f"DEB_BUILD_OPTIONS={' '.join(options)}", *words], TOP)
+        run([*inside, "env", f"DEB_BUILD_OPTIONS={' '.join(options)}", *words], TOP)
     (package,) = (root / HOME).parent.glob("arena_*.deb")
     return package
 
@@ -55,21 +55,23 @@ def main() -> int:
         "--root", metavar="FOLDER", type=pathlib.Path, help="where the Debian is made"
     )
     words = parser.parse_args()
-    failed = 0
+    failure_count = 0
     with roots.temporary() as folder:
         try:
             package = build(
                 words.root or folder / "root", ["unproved"] if words.unproved else []
             )
-            here = made(folder / "here", ["--unproved"] if words.unproved else [])
+            here = make_release(
+                folder / "here", ["--unproved"] if words.unproved else []
+            )
             require(
                 here[".deb"].read_bytes() == package.read_bytes(),
                 f"{package.name} has other bytes than the one that is made here",
             )
-        except Wrong as fault:
-            failed = 1
+        except FailedCheckError as fault:
+            failure_count = 1
             print(f"FAILED a package from a clone: {fault}")
-    return concluded(1 - failed, failed)
+    return report_counts(1 - failure_count, failure_count)
 
 
 if __name__ == "__main__":

@@ -20,7 +20,7 @@ import tempfile
 from typing import Callable, Dict, List, Sequence
 
 from tests.support import roots
-from tests.support.counts import Wrong, concluded, require
+from tests.support.counts import FailedCheckError, report_counts, require
 
 TOP = pathlib.Path(__file__).resolve().parents[2]
 DEBIANS_PYTHON = "/usr/bin/python3"
@@ -52,9 +52,9 @@ TUTORIAL = (
 )
 
 
-def ran(words: Sequence[object], folder: pathlib.Path, status: int = 0) -> str:
+def run(words: Sequence[object], folder: pathlib.Path, status: int = 0) -> str:
     """What a command says, which is to end with this status."""
-    found = subprocess.run(
+    result = subprocess.run(
         [str(word) for word in words],
         cwd=folder,
         stdin=subprocess.DEVNULL,
@@ -62,31 +62,33 @@ def ran(words: Sequence[object], folder: pathlib.Path, status: int = 0) -> str:
         stdout=subprocess.PIPE,
         stderr=subprocess.STDOUT,
     )
-    if found.returncode != status:
-        raise Wrong(
-            f"{' '.join(map(str, words))}: status {found.returncode}: {found.stdout[-1500:]}"
+    if result.returncode != status:
+        raise FailedCheckError(
+            f"{' '.join(map(str, words))}: status {result.returncode}: {result.stdout[-1500:]}"
         )
-    return found.stdout
+    return result.stdout
 
 
-def wants(said: str, wanted: str) -> None:
-    require(wanted in said, f"{wanted!r} is not in {said[-1500:]!r}")
+def wants(text: str, expectation: str) -> None:
+    require(expectation in text, f"{expectation!r} is not in {text[-1500:]!r}")
 
 
-def made(out: pathlib.Path, words: Sequence[str]) -> Dict[str, pathlib.Path]:
+def make_release(out: pathlib.Path, words: Sequence[str]) -> Dict[str, pathlib.Path]:
     """A release that is made there: its files by their endings."""
-    ran([sys.executable, TOP / "tools" / "release", "--out", out, *words], TOP)
+    run([sys.executable, TOP / "tools" / "release", "--out", out, *words], TOP)
     for sums in out.glob("*.sha256"):
-        ran(["sha256sum", "--quiet", "-c", sums.name], out)
+        run(["sha256sum", "--quiet", "-c", sums.name], out)
     return {path.suffix: path for path in out.iterdir() if path.suffix != ".sha256"}
 
 
-def are_alike(one: Dict[str, pathlib.Path], other: Dict[str, pathlib.Path]) -> None:
-    if sorted(one) != [".deb", ".gz", ".whl"] or sorted(other) != sorted(one):
-        raise Wrong(f"the release has {sorted(path.name for path in one.values())}")
-    for ending, path in one.items():
+def are_alike(first: Dict[str, pathlib.Path], second: Dict[str, pathlib.Path]) -> None:
+    if sorted(first) != [".deb", ".gz", ".whl"] or sorted(second) != sorted(first):
+        raise FailedCheckError(
+            f"the release has {sorted(path.name for path in first.values())}"
+        )
+    for ending, path in first.items():
         require(
-            path.read_bytes() == other[ending].read_bytes(),
+            path.read_bytes() == second[ending].read_bytes(),
             f"{path.name} has other bytes when it is made again",
         )
 
@@ -97,24 +99,23 @@ def plays(
     folder: pathlib.Path,
     is_proved: bool,
 ) -> None:
-    """The version, the tutorial and a page, by these commands, in this folder of the
-    system where they are."""
-    said = ran([*arena, "--version"], folder)
-    for wanted in (
+    """Tries the version, the tutorial and a page with installed commands."""
+    result = run([*arena, "--version"], folder)
+    for expectation in (
         f", {'proved' if is_proved else 'unproved'}\n",
         "commit ",
         "toolchain ",
     ):
-        wants(said, wanted)
+        wants(result, expectation)
     (folder / "first.toml").write_text((TOP / "experiments" / "first.toml").read_text())
-    for words, status, wanted in TUTORIAL:
-        said = ran([*lab, *words], folder, status)
-        wants(said, wanted)
+    for words, status, expectation in TUTORIAL:
+        result = run([*lab, *words], folder, status)
+        wants(result, expectation)
         if words[0] == "hunt":
-            wants(said, "again by `arena-lab replay small`")
+            wants(result, "again by `arena-lab replay small`")
     if is_proved:
-        wants(said, "40 runs on the proved program: solved 40")
-    ran([*lab, "page", "small/match0.jsonl", "--out", "page.html"], folder)
+        wants(result, "40 runs on the proved program: solved 40")
+    run([*lab, "page", "small/match0.jsonl", "--out", "page.html"], folder)
     for page in ("page.html", "small/match0.html", "first/report.html"):
         wants((folder / page).read_text(), "</html>")
 
@@ -124,7 +125,7 @@ def wheel_plays(wheel: pathlib.Path, is_proved: bool, is_system: bool) -> None:
     is seen."""
     with tempfile.TemporaryDirectory() as name:
         folder = pathlib.Path(name)
-        ran(
+        run(
             [
                 DEBIANS_PYTHON,
                 "-m",
@@ -135,7 +136,7 @@ def wheel_plays(wheel: pathlib.Path, is_proved: bool, is_system: bool) -> None:
             folder,
         )
         binaries = folder / "own" / "bin"
-        ran([binaries / "pip", "install", "-q", f"{wheel}[{EXTRAS}]"], folder)
+        run([binaries / "pip", "install", "-q", f"{wheel}[{EXTRAS}]"], folder)
         plays([binaries / "arena-lab"], [binaries / "arena"], folder, is_proved)
         for path in (
             "man/man1/arena-serve.1",
@@ -154,9 +155,9 @@ def package_plays(package: pathlib.Path, root: pathlib.Path, is_proved: bool) ->
     home = root / "home"
     (home / package.name).write_bytes(package.read_bytes())
     inside = roots.inside(root, "/home")
-    with roots.mounted(root):
-        ran([*inside, "apt-get", "update"], TOP)
-        ran(
+    with roots.mount_root(root):
+        run([*inside, "apt-get", "update"], TOP)
+        run(
             [
                 *inside,
                 "apt-get",
@@ -168,13 +169,13 @@ def package_plays(package: pathlib.Path, root: pathlib.Path, is_proved: bool) ->
             ],
             TOP,
         )
-        contest = ran(
+        contest = run(
             [*inside, "python3", "/usr/share/doc/arena/examples/contest.py"], TOP
         )
         require(contest.count(" solved its network\n") == 4, contest)
         # commands run inside, and files are looked at from outside
         for path in ("small", "first"):
-            ran([*inside, "rm", "-rf", path], TOP)
+            run([*inside, "rm", "-rf", path], TOP)
         plays_inside([*inside], home, is_proved)
         for path in (
             "usr/share/man/man1/arena-serve.1.gz",
@@ -184,7 +185,7 @@ def package_plays(package: pathlib.Path, root: pathlib.Path, is_proved: bool) ->
             "usr/share/doc/arena/html/index.html",
         ):
             require((root / path).exists(), f"the package installs no {path}")
-        ran([*inside, "apt-get", "remove", "-y", "arena"], TOP)
+        run([*inside, "apt-get", "remove", "-y", "arena"], TOP)
         require(
             not (root / "usr" / "lib" / "arena").exists(),
             "/usr/lib/arena is left when the package is removed",
@@ -196,25 +197,25 @@ def plays_inside(inside: List[object], home: pathlib.Path, is_proved: bool) -> N
 
 
 def cases_of(
-    words: argparse.Namespace, folder: pathlib.Path
+    args: argparse.Namespace, folder: pathlib.Path
 ) -> Dict[str, Callable[[], None]]:
     """What is tried, by name. The release is made twice before."""
-    options = ["--unproved"] if words.unproved else []
-    first = made(folder / "one", options)
-    second = made(folder / "two", options)
-    root = words.root or folder / "root"
-    found: Dict[str, Callable[[], None]] = {
+    options = ["--unproved"] if args.unproved else []
+    first = make_release(folder / "one", options)
+    second = make_release(folder / "two", options)
+    root = args.root or folder / "root"
+    results: Dict[str, Callable[[], None]] = {
         "the same bytes twice": lambda: are_alike(first, second)
     }
-    if words.only != "debian":
-        found["the wheel"] = lambda: wheel_plays(
-            first[".whl"], not words.unproved, words.system
+    if args.only != "debian":
+        results["the wheel"] = lambda: wheel_plays(
+            first[".whl"], not args.unproved, args.system
         )
-    if words.only != "wheel":
-        found["the Debian package"] = lambda: package_plays(
-            first[".deb"], root, not words.unproved
+    if args.only != "wheel":
+        results["the Debian package"] = lambda: package_plays(
+            first[".deb"], root, not args.unproved
         )
-    return found
+    return results
 
 
 def main() -> int:
@@ -244,17 +245,17 @@ def main() -> int:
     words = parser.parse_args()
     # what is installed must not find this repository
     os.environ.pop("PYTHONPATH", None)
-    failed = 0
-    with roots.temporary() as place:
-        cases = cases_of(words, place)
+    failure_count = 0
+    with roots.temporary() as path:
+        cases = cases_of(words, path)
         for title, case in cases.items():
             try:
                 case()
                 print(f"ok: {title}", flush=True)
-            except Wrong as fault:
-                failed += 1
+            except FailedCheckError as fault:
+                failure_count += 1
                 print(f"FAILED {title}: {fault}", flush=True)
-    return concluded(len(cases) - failed, failed)
+    return report_counts(len(cases) - failure_count, failure_count)
 
 
 if __name__ == "__main__":

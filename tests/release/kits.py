@@ -14,21 +14,25 @@ import tempfile
 from typing import List
 
 from arena_lab.play.kits import KITS
-from tests.support.counts import SKIPPED, concluded
-from tests.support.kits_played import Played
+from tests.support.counts import SKIPPED, report_counts
+from tests.support.kits_played import PlayedKit
 from tools import packages
 
 # Debian's crates that the kit in Rust needs on a machine which reaches no other
 CRATES = ("librust-serde-json-dev",)
 
 
-def main(given: List[str]) -> int:
-    if not given or given[0] in ("-h", "--help") or not set(given[1:]) <= set(KITS):
+def main(arguments: List[str]) -> int:
+    if (
+        not arguments
+        or arguments[0] in ("-h", "--help")
+        or not set(arguments[1:]) <= set(KITS)
+    ):
         print((__doc__ or "").strip())
-        return 0 if given and given[0] in ("-h", "--help") else 2
-    program = str(pathlib.Path(given[0]).resolve())
-    chosen = given[1:] or list(KITS)
-    passed = failed = 0
+        return 0 if arguments and arguments[0] in ("-h", "--help") else 2
+    program = str(pathlib.Path(arguments[0]).resolve())
+    chosen = arguments[1:] or list(KITS)
+    pass_count = failure_count = 0
     for language in chosen:
         absent = packages.missing(
             [*KITS[language].packages, *(CRATES if language == "rust" else ())]
@@ -40,14 +44,14 @@ def main(given: List[str]) -> int:
             continue
         with tempfile.TemporaryDirectory() as folder:
             try:
-                seconds = Played(language, pathlib.Path(folder), program).all()
+                seconds = PlayedKit(language, pathlib.Path(folder), program).all()
             except Exception as fault:
                 print(f"FAILED {language}: {fault}", flush=True)
-                failed += 1
+                failure_count += 1
                 continue
         print(f"{language}: built, tested and played in {seconds:.0f} s", flush=True)
-        passed += 1
-    return concluded(passed, failed)
+        pass_count += 1
+    return report_counts(pass_count, failure_count)
 
 
 if __name__ == "__main__":

@@ -18,7 +18,7 @@ import time
 from typing import Dict, List
 
 from arena_lab.support.missing import DEBIANS_PYTHON
-from tests.support.counts import SKIPPED, Counts, concluded, counts_in
+from tests.support.counts import SKIPPED, Counts, report_counts, counts_in
 from tools import packages
 
 TOP = pathlib.Path(__file__).resolve().parents[2]
@@ -41,17 +41,17 @@ def counts_of(name: str, variables: Dict[str, str]) -> Counts:
     """Runs the tests of a file, prints what they said, and gives how many passed and
     failed. A file that has no tests, or whose tests end the process, counts as one that
     failed."""
-    begun = time.monotonic()
+    start = time.monotonic()
     absent = lacking(name)
     if absent:
-        more = f" and {len(absent) - 1} more" if len(absent) > 1 else ""
+        extra = f" and {len(absent) - 1} more" if len(absent) > 1 else ""
         print(
-            f"{SKIPPED}tests.integration.{name}: not installed are Debian's {absent[0]}{more}",
+            f"{SKIPPED}tests.integration.{name}: not installed are Debian's {absent[0]}{extra}",
             flush=True,
         )
         return 0, 0
     words = [DEBIANS_PYTHON, "-c", RUN, f"tests.integration.{name}"]
-    ran = subprocess.run(
+    result = subprocess.run(
         words,
         cwd=TOP,
         env=variables,
@@ -60,14 +60,14 @@ def counts_of(name: str, variables: Dict[str, str]) -> Counts:
         stdout=subprocess.PIPE,
         stderr=subprocess.STDOUT,
     )
-    said, _, last = ran.stdout.rstrip("\n").rpartition("\n")
-    found = counts_in(last)
-    passed, failed = found or (0, 1)
+    output, _, last = result.stdout.rstrip("\n").rpartition("\n")
+    counts = counts_in(last)
+    passes, failures = counts or (0, 1)
     print(
-        f"{said if found else ran.stdout.rstrip()}\n{name}: {time.monotonic() - begun:.0f} s",
+        f"{output if counts else result.stdout.rstrip()}\n{name}: {time.monotonic() - start:.0f} s",
         flush=True,
     )
-    return passed, max(failed, int(ran.returncode != 0))
+    return passes, max(failures, int(result.returncode != 0))
 
 
 def main() -> int:
@@ -80,9 +80,9 @@ def main() -> int:
         for path in (TOP / "tests" / "integration").glob("*/test_*.py")
     )
     with concurrent.futures.ThreadPoolExecutor(len(os.sched_getaffinity(0))) as pool:
-        found = list(pool.map(lambda name: counts_of(name, variables), names))
-    passed, failed = map(sum, zip(*found))
-    return concluded(passed, failed)
+        results = list(pool.map(lambda name: counts_of(name, variables), names))
+    passes, failures = map(sum, zip(*results))
+    return report_counts(passes, failures)
 
 
 if __name__ == "__main__":

@@ -23,7 +23,7 @@ import sys
 import tempfile
 from typing import Iterator, List, Tuple
 
-from tests.support.counts import concluded
+from tests.support.counts import report_counts
 from tools.prove.prover import (
     CRATES,
     KIT,
@@ -37,15 +37,14 @@ from tools.prove.prover import (
 TESTS = TOP / "tests" / "library"
 NAME = "library_tests"
 SHIM = TOP / "tests" / "hostile" / "refusals_shim.c"
-# one program runs all of them
+# seconds for the one program that contains all tests
 SECONDS = 600
 USED = re.compile(r"^\s*use (\w+)::", re.M)
 RESULT = re.compile(r"test result: \w+\. (\d+) passed; (\d+) failed")
 
 
 def files() -> Iterator[Tuple[pathlib.Path, pathlib.Path]]:
-    """The files of the tests, and where each stands in the crate that is made of
-    them."""
+    """Yields each test file with its path in the generated crate."""
     for path in sorted(TESTS.rglob("*.rs")):
         yield path, pathlib.Path("src") / path.relative_to(TESTS).with_suffix(".rt")
 
@@ -55,17 +54,17 @@ def make(folder: pathlib.Path) -> Libraries:
     one too."""
     libraries = libraries_of()
     texts = []
-    for path, place in files():
-        (folder / place).parent.mkdir(parents=True, exist_ok=True)
-        shutil.copy(path, folder / place)
+    for path, position in files():
+        (folder / position).parent.mkdir(parents=True, exist_ok=True)
+        shutil.copy(path, folder / position)
         texts.append(path.read_text())
-    used = {name for text in texts for name in USED.findall(text)} & set(libraries)
-    return {**libraries, NAME: sorted(used)}
+    usage = {name for text in texts for name in USED.findall(text)} & set(libraries)
+    return {**libraries, NAME: sorted(usage)}
 
 
 def make_beside_all(room: pathlib.Path) -> pathlib.Path:
-    """Copies the crates to a folder, beside one of the tests, and gives the folder of
-    that one."""
+    """Copies all crates and a test crate to a folder; returns the test crate's
+    folder."""
     folder = room / "crates" / NAME
     libraries = make(folder)
     for name in libraries_of():
@@ -78,10 +77,10 @@ def make_beside_all(room: pathlib.Path) -> pathlib.Path:
     return folder
 
 
-def refusing(room: pathlib.Path, kept: pathlib.Path) -> pathlib.Path:
+def refusing(room: pathlib.Path, path: pathlib.Path) -> pathlib.Path:
     """What is linked to the program so that it can be refused memory, and leaves itself
     in a file."""
-    made = room / "refusing.o"
+    new_path = room / "refusing.o"
     subprocess.run(
         [
             "gcc",
@@ -89,24 +88,24 @@ def refusing(room: pathlib.Path, kept: pathlib.Path) -> pathlib.Path:
             "-nostdlib",
             "-fPIC",
             "-O2",
-            f'-DKEPT="{kept}"',
+            f'-DKEPT="{path}"',
             "-Wl,--wrap=malloc,--wrap=realloc",
             "-o",
-            made,
+            new_path,
             SHIM,
             "-Wl,--whole-archive",
             KIT / "c" / "liblibc_c.a",
         ],
         check=True,
     )
-    return made
+    return new_path
 
 
 def run(words: List[str], folder: pathlib.Path) -> Tuple[int, int]:
     """Runs a command on the crate of the tests, and gives how many passed and how many
     failed."""
-    passed = 0
-    failed = 0
+    pass_count = 0
+    failure_count = 0
     with subprocess.Popen(
         words,
         cwd=folder,
@@ -121,9 +120,9 @@ def run(words: List[str], folder: pathlib.Path) -> Tuple[int, int]:
             print(line, end="", flush=True)
             result = RESULT.match(line)
             if result:
-                passed = int(result[1])
-                failed = int(result[2])
-    return passed, max(failed, int(child.returncode != 0 or not passed))
+                pass_count = int(result[1])
+                failure_count = int(result[2])
+    return pass_count, max(failure_count, int(child.returncode != 0 or not pass_count))
 
 
 def run_unproved(room: pathlib.Path, program: str) -> Tuple[int, int]:
@@ -131,15 +130,15 @@ def run_unproved(room: pathlib.Path, program: str) -> Tuple[int, int]:
     counts."""
     folder = room / NAME
     libraries = make(folder)
-    kept = room / "kept"
-    linked = []
+    kept_folder = room / "kept"
+    linked_value = []
     if program:
         pathlib.Path(program).unlink(missing_ok=True)
-        linked.append(refusing(room, kept))
-    counts = run(words_to_try(libraries, NAME, SECONDS, linked), folder)
-    if kept.exists():
+        linked_value.append(refusing(room, kept_folder))
+    counts = run(words_to_try(libraries, NAME, SECONDS, linked_value), folder)
+    if kept_folder.exists():
         pathlib.Path(program).parent.mkdir(parents=True, exist_ok=True)
-        shutil.move(kept, program)
+        shutil.move(kept_folder, program)
     return counts
 
 
@@ -153,14 +152,14 @@ def main(words: List[str]) -> int:
         if words == ["--format"]:
             folder = make_beside_all(room)
             status = subprocess.run([KIT / "bin" / "rt", "fmt"], cwd=folder).returncode
-            for path, place in files():
-                shutil.copy(folder / place, path)
+            for path, position in files():
+                shutil.copy(folder / position, path)
             return status
         if words == ["--prove"]:
             counts = run([str(KIT / "bin" / "rt"), "test"], make_beside_all(room))
         else:
             counts = run_unproved(room, program)
-    return concluded(*counts)
+    return report_counts(*counts)
 
 
 if __name__ == "__main__":

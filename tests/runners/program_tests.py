@@ -20,7 +20,7 @@ import unittest
 from typing import Iterator, NamedTuple, Sequence, Union
 
 from tests.program.program_cases import CASES, Trial
-from tests.support.counts import SKIPPED, concluded
+from tests.support.counts import SKIPPED, report_counts
 from tests.support.program_rows import fault_of, play, rows_of
 
 # each adds its cases to CASES
@@ -49,9 +49,9 @@ WORKERS = 4
 
 
 class Test(NamedTuple):
-    """What is tried, and where it stands."""
+    """A test: location, title and function."""
 
-    place: str
+    location: str
     title: str
     trial: Trial
 
@@ -83,16 +83,16 @@ def found_by(program: str, trial: Trial) -> Union[str, unittest.SkipTest]:
 def try_all(program: str, tests: Sequence[Test]) -> int:
     """Tries the program, prints what failed and how many did, and gives that number."""
     with concurrent.futures.ThreadPoolExecutor(WORKERS) as pool:
-        found = list(pool.map(lambda test: found_by(program, test.trial), tests))
-    skipped = [isinstance(it, unittest.SkipTest) for it in found]
-    for test, it, is_skipped in zip(tests, found, skipped):
+        results = list(pool.map(lambda test: found_by(program, test.trial), tests))
+    skipped_value = [isinstance(result, unittest.SkipTest) for result in results]
+    for test, it, is_skipped in zip(tests, results, skipped_value):
         if is_skipped or it:
             print(
-                f"{SKIPPED if is_skipped else 'FAILED '}{test.place}: {test.title}: {it}"
+                f"{SKIPPED if is_skipped else 'FAILED '}{test.location}: {test.title}: {it}"
             )
-    failed = sum(map(bool, found)) - sum(skipped)
-    concluded(len(found) - failed - sum(skipped), failed)
-    return failed
+    failures = sum(map(bool, results)) - sum(skipped_value)
+    report_counts(len(results) - failures - sum(skipped_value), failures)
+    return failures
 
 
 def main() -> int:

@@ -17,7 +17,7 @@ import sys
 import tempfile
 from typing import List, NamedTuple
 
-from tests.support.counts import concluded
+from tests.support.counts import report_counts
 
 TOP = pathlib.Path(__file__).resolve().parents[2]
 DEBIANS_PYTHON = "/usr/bin/python3"
@@ -27,8 +27,8 @@ SECONDS = 300
 
 
 class Mutant(NamedTuple):
-    """A change to a file, and the tests that must find it. However the lines of its
-    text are broken, it stands once in the file."""
+    """A mutation of a file, and the tests that must detect it. The text to replace
+    occurs once, regardless of line breaks."""
 
     file: str
     before: str
@@ -60,8 +60,8 @@ MUTANTS = (
     ),
     Mutant(
         "arena_lab/rules/model.py",
-        'return f"guess {left[0]}"',
-        'return f"guess {left[-1]}"',
+        'return f"guess {missing_nodes[0]}"',
+        'return f"guess {missing_nodes[-1]}"',
         MODEL,
     ),
     Mutant(
@@ -70,11 +70,16 @@ MUTANTS = (
         "agent.standing == AWAY for agent",
         MODEL,
     ),
-    Mutant("arena_lab/rules/model.py", "not accused or not named", "not named", MODEL),
+    Mutant(
+        "arena_lab/rules/model.py",
+        "not accusations or not holes_accused",
+        "not holes_accused",
+        MODEL,
+    ),
     Mutant(
         "arena_lab/rules/printed.py",
-        "enumerate(ranked, 1)",
-        "enumerate(ranked)",
+        "enumerate(ranking, 1)",
+        "enumerate(ranking)",
         "tests.test_bench",
     ),
     Mutant(
@@ -91,14 +96,14 @@ MUTANTS = (
     ),
     Mutant(
         "arena_lab/pages/contest_pages.py",
-        "(len(RANKS), 0, 0, shown.team)",
-        "(0, 0, 0, shown.team)",
+        "(len(RANKS), 0, 0, row.team)",
+        "(0, 0, 0, row.team)",
         "tests.integration.pages.test_contest_pages",
     ),
     Mutant(
         "arena_lab/play/schedulers.py",
-        "paces.setdefault((agent.node, agent.port), chance.choice(PACES))",
-        "chance.choice(PACES)",
+        "paces.setdefault((agent.node, agent.port), rng.choice(PACES))",
+        "rng.choice(PACES)",
         MATCHES,
     ),
     Mutant(
@@ -109,8 +114,8 @@ MUTANTS = (
     ),
     Mutant(
         "arena_lab/rules/networks.py",
-        "(one, two), (two, one)",
-        "(one, two)",
+        "(one_node, other_node), (other_node, one_node)",
+        "(one_node, other_node)",
         "tests.lab.rules.test_networks",
     ),
     Mutant(
@@ -133,8 +138,8 @@ MUTANTS = (
     ),
     Mutant(
         "arena_lab/course/league.py",
-        'sum(int(row["lost"]) for row in solved)',
-        'sum(int(row["lost"]) for row in own)',
+        'sum(int(row["lost"]) for row in solved_rows)',
+        'sum(int(row["lost"]) for row in team_rows)',
         LEAGUE,
     ),
     Mutant(
@@ -172,10 +177,10 @@ MUTANTS = (
 
 
 def run(folder: pathlib.Path, tests: List[str]) -> bool:
-    """Whether these tests pass."""
+    """Returns whether these tests pass."""
     words = [DEBIANS_PYTHON, "-m", "unittest", "-f", *tests]
     try:
-        ran = subprocess.run(
+        result = subprocess.run(
             words,
             cwd=folder,
             stdout=subprocess.DEVNULL,
@@ -184,11 +189,11 @@ def run(folder: pathlib.Path, tests: List[str]) -> bool:
         )
     except subprocess.TimeoutExpired:
         return False
-    return ran.returncode == 0
+    return result.returncode == 0
 
 
 def is_found(folder: pathlib.Path, mutant: Mutant) -> bool:
-    """Whether the nearest tests fail on a mutant."""
+    """Returns whether the nearest tests fail on a mutant."""
     path = folder / mutant.file
     text = path.read_text(encoding="utf-8")
     places = mutant.places(text)
@@ -206,14 +211,14 @@ def is_found(folder: pathlib.Path, mutant: Mutant) -> bool:
         path.write_text(text, encoding="utf-8")
 
 
-def main(given: List[str]) -> int:
-    if any(not word.isdecimal() or int(word) >= len(MUTANTS) for word in given):
+def main(arguments: List[str]) -> int:
+    if any(not word.isdecimal() or int(word) >= len(MUTANTS) for word in arguments):
         print(__doc__.strip())
-        return 0 if given in (["-h"], ["--help"]) else 2
-    chosen = [int(word) for word in given] or list(range(len(MUTANTS)))
+        return 0 if arguments in (["-h"], ["--help"]) else 2
+    chosen = [int(word) for word in arguments] or list(range(len(MUTANTS)))
     with tempfile.TemporaryDirectory() as name:
         folder = pathlib.Path(name)
-        left = 0
+        remaining = 0
         for it in FOLDERS:
             shutil.copytree(
                 TOP / it,
@@ -224,12 +229,12 @@ def main(given: List[str]) -> int:
             sys.exit("the tests fail on the files as they are: mend that first")
         for number in chosen:
             mutant = MUTANTS[number]
-            found = is_found(folder, mutant)
-            left += not found
-            told = "found" if found else "NOT FOUND"
-            shown = mutant.after.strip() or mutant.before
-            print(f"{number} {told}: {mutant.file}: {shown}", flush=True)
-    return concluded(len(chosen) - left, left)
+            result = is_found(folder, mutant)
+            remaining += not result
+            text = "found" if result else "NOT FOUND"
+            view = mutant.after.strip() or mutant.before
+            print(f"{number} {text}: {mutant.file}: {view}", flush=True)
+    return report_counts(len(chosen) - remaining, remaining)
 
 
 if __name__ == "__main__":

@@ -19,15 +19,17 @@ def main(names: List[str]) -> int:
         return 0
     loader = unittest.defaultTestLoader
     tests = loader.loadTestsFromNames(names) if names else loader.discover(".")
-    ran = unittest.TextTestRunner(stream=sys.stdout).run(tests)
-    for test, why in ran.skipped:
+    result = unittest.TextTestRunner(stream=sys.stdout).run(tests)
+    for test, why in result.skipped:
         print(f"{SKIPPED}{test.id()}: {why}")
-    failed = len(ran.failures) + len(ran.errors) + len(ran.unexpectedSuccesses)
+    failures = (
+        len(result.failures) + len(result.errors) + len(result.unexpectedSuccesses)
+    )
     print(
-        f"{max(0, ran.testsRun - len(ran.skipped) - failed)} passed, {failed} failed",
+        f"{max(0, result.testsRun - len(result.skipped) - failures)} passed, {failures} failed",
         flush=True,
     )
-    return 1 if failed or not (ran.testsRun or ran.skipped) else 0
+    return 1 if failures or not (result.testsRun or result.skipped) else 0
 
 
 if __name__ == "__main__":

@@ -22,14 +22,14 @@ from typing import Iterator, List, NamedTuple, Optional, Sequence, Tuple
 
 from arena_lab import with_one_order
 from arena_lab.commands import check
-from arena_lab.course.checked import Checked, conditions_of
+from arena_lab.course.checked import CheckJob, conditions_of
 from arena_lab.course.course import course_of
-from arena_lab.play.agent_files import AGENTS, NoAgent
+from arena_lab.play.agent_files import AGENTS, AgentError
 from arena_lab.play.games import play_seed
 from arena_lab.play.teams import INSIDE, OUTSIDE, AgentWords, Game
 from arena_lab.rules import networks
-from arena_lab.support.faults import Fault
-from tests.support.counts import SKIPPED, concluded
+from arena_lab.support.faults import ArenaError
+from tests.support.counts import SKIPPED, report_counts
 from tests.support.wrong_agents import Mutant, of_python, of_text
 
 COURSE = """title = "t"
@@ -108,36 +108,38 @@ class Job(NamedTuple):
         return f"{self.base} {self.number}, {it.rule} in line {it.line}: {it.before}"
 
 
-class Came(NamedTuple):
+class MutantResult(NamedTuple):
     """What came of a mutant: how many gradings it fails, or None if it is at once seen
     to be wrong; and what `check` says."""
 
-    failed: Optional[int]
+    failures: Optional[int]
     is_right: bool = False
-    said: str = ""
+    advice: str = ""
 
 
-def came_of(job: Job) -> Came:
+def came_of(job: Job) -> MutantResult:
     """Plays, grades and checks a mutant."""
     base = BASES[job.base]
     with tempfile.TemporaryDirectory() as name, open(os.devnull, "w") as null:
         folder = pathlib.Path(name)
         with contextlib.redirect_stdout(null), contextlib.redirect_stderr(null):
-            agent = made(base, job.mutant, folder)
+            agent = build_mutant(base, job.mutant, folder)
             if agent is None or not looks_right(base, agent):
-                return Came(None)
-            failed = sum(fails(base, agent, secret) for secret in range(SECRETS))
-            if failed <= SECRETS // 2:
-                return Came(failed)
-            return checked(base, agent, failed)
+                return MutantResult(None)
+            failures = sum(fails(base, agent, secret) for secret in range(SECRETS))
+            if failures <= SECRETS // 2:
+                return MutantResult(failures)
+            return check_mutant(base, agent, failures)
 
 
-def made(base: Base, mutant: Mutant, folder: pathlib.Path) -> Optional[AgentWords]:
-    """The mutant in a folder, built if it has to be."""
+def build_mutant(
+    base: Base, mutant: Mutant, folder: pathlib.Path
+) -> Optional[AgentWords]:
+    """Writes the mutant to a folder and builds it if needed."""
     source = AGENTS / base.file
-    for other in source.parent.iterdir():
-        if other.is_file():
-            shutil.copy(other, folder)
+    for path in source.parent.iterdir():
+        if path.is_file():
+            shutil.copy(path, folder)
     shutil.copy(AGENTS / "client.py", folder)
     (folder / source.name).write_text(mutant.text, encoding="utf-8")
     if (
@@ -153,38 +155,42 @@ def made(base: Base, mutant: Mutant, folder: pathlib.Path) -> Optional[AgentWord
 
 
 def looks_right(base: Base, agent: AgentWords) -> bool:
-    """Whether a student may take it for right: it solves one of two matches."""
+    """Returns whether a student may take it for right: it solves one of two matches."""
     name = base.networks[-1]
-    game = Game(name, networks.named(name), [agent] * base.agents, limit=LIMIT)
+    game = Game(name, networks.network_named(name), [agent] * base.agents, limit=LIMIT)
     try:
         return not all(
             play_seed(game, "fair", seed, None).has_failed for seed in range(2)
         )
-    except (Fault, NoAgent):
+    except (ArenaError, AgentError):
         return False
 
 
 def fails(base: Base, agent: AgentWords, secret: int) -> bool:
-    """Whether it fails a match of a course, by the course's own draws."""
+    """Returns whether it fails a match of a course, by the course's own draws."""
     text = COURSE.format(networks=list(base.networks), agents=base.agents)
-    asked = course_of(text.replace("'", '"'), pathlib.Path(), f"secret number {secret}")
-    one = Checked(agent, asked.conditions, LIMIT, None, SECONDS, False)
-    return any(one.asked(case).play().has_failed for case in asked.cases())
+    course = course_of(
+        text.replace("'", '"'), pathlib.Path(), f"secret number {secret}"
+    )
+    job = CheckJob(agent, course.conditions, LIMIT, None, SECONDS, False)
+    return any(job.request(case).play().has_failed for case in course.cases())
 
 
-def checked(base: Base, agent: AgentWords, failed: int) -> Came:
+def check_mutant(base: Base, agent: AgentWords, failures: int) -> MutantResult:
     """What `check` says of it."""
     nets = check.NETWORKS if "ring:8" in base.networks else base.networks
-    found = {**check.USUAL, "networks": list(nets)}
-    given = conditions_of(found, pathlib.Path(), agent, base.agents)
-    _, wrong = check.checked(Checked(agent, given, LIMIT, None, SECONDS, True))
-    return Came(failed, wrong is None, " ".join(wrong.said) if wrong else "")
+    results = {**check.DEFAULT_CONDITIONS, "networks": list(nets)}
+    conditions = conditions_of(results, pathlib.Path(), agent, base.agents)
+    _, wrong = check.check_agent(
+        CheckJob(agent, conditions, LIMIT, None, SECONDS, True)
+    )
+    return MutantResult(failures, wrong is None, " ".join(wrong.lines) if wrong else "")
 
 
 def jobs(names: Sequence[str], every: int) -> Iterator[Job]:
     """The mutants of some bases, as far as the machine has what they need."""
     for name in names:
-        absent = [it for it in BASES[name].needs if not shutil.which(it)]
+        absent = [need for need in BASES[name].needs if not shutil.which(need)]
         if absent:
             print(f"{SKIPPED}wrong agents in {name}: {absent[0]} is not installed")
             continue
@@ -193,7 +199,7 @@ def jobs(names: Sequence[str], every: int) -> Iterator[Job]:
                 yield Job(name, number, mutant)
 
 
-def main(given: Sequence[str]) -> int:
+def main(argv: Sequence[str]) -> int:
     parser = argparse.ArgumentParser(
         "python3 -m tests.runners.wrong_agents",
         description=__doc__,
@@ -202,27 +208,27 @@ def main(given: Sequence[str]) -> int:
     parser.add_argument("bases", metavar="BASE", nargs="*", help="the sample agents")
     parser.add_argument("--every", metavar="N", type=int, default=1, help="each Nth")
     parser.add_argument("--workers", metavar="N", type=int, default=os.cpu_count())
-    words = parser.parse_args(given)
+    words = parser.parse_args(argv)
     names: List[str] = words.bases or list(BASES)
     if not set(names) <= set(BASES):
         parser.error(f"a base is one of {', '.join(BASES)}")
     all_jobs = list(jobs(names, words.every))
     sys.setrecursionlimit(3000)
-    passed = right = 0
-    # a worker ends after each, as a mutant may have changed what it runs in
+    pass_count = right = 0
+    # a new worker for each mutant, because mutants can change global state
     with multiprocessing.Pool(words.workers, maxtasksperchild=1) as pool:
-        for job, came in zip(all_jobs, pool.imap(came_of, all_jobs)):
-            if came.is_right:
+        for job, outcome in zip(all_jobs, pool.imap(came_of, all_jobs)):
+            if outcome.is_right:
                 print(
-                    f"{job}: it fails {came.failed} gradings of {SECRETS}, and `check` calls it right",
+                    f"{job}: it fails {outcome.failures} gradings of {SECRETS}, and `check` calls it right",
                     flush=True,
                 )
-            right += came.is_right
-            passed += bool(came.said)
+            right += outcome.is_right
+            pass_count += bool(outcome.advice)
     print(
-        f"{len(all_jobs)} mutants, of which {passed + right} look right at first and fail most gradings"
+        f"{len(all_jobs)} mutants, of which {pass_count + right} look right at first and fail most gradings"
     )
-    return concluded(passed, right)
+    return report_counts(pass_count, right)
 
 
 if __name__ == "__main__":

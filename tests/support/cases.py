@@ -6,7 +6,7 @@ import resource
 import tempfile
 from typing import Callable, Dict, Sequence, Tuple
 
-from tests.support.counts import concluded
+from tests.support.counts import report_counts
 
 Case = Callable[[str, pathlib.Path], None]
 # how many descriptors a command may have, if the system lets it: some cases have
@@ -17,14 +17,14 @@ DESCRIPTORS = 65_536
 def raise_descriptors() -> None:
     """Raises the bound on descriptors of this process, as far as it may."""
     soft, hard = resource.getrlimit(resource.RLIMIT_NOFILE)
-    most = DESCRIPTORS if hard == resource.RLIM_INFINITY else min(hard, DESCRIPTORS)
-    if soft != resource.RLIM_INFINITY and soft < most:
-        resource.setrlimit(resource.RLIMIT_NOFILE, (most, hard))
+    limit = DESCRIPTORS if hard == resource.RLIM_INFINITY else min(hard, DESCRIPTORS)
+    if soft != resource.RLIM_INFINITY and soft < limit:
+        resource.setrlimit(resource.RLIMIT_NOFILE, (limit, hard))
 
 
 class Cases:
-    """Cases by their titles, in the order in which they are written. At most `beside`
-    of them run at a time."""
+    """Registers cases by title, in order. At most `beside` of them run at the same
+    time."""
 
     def __init__(self, beside: int = 1) -> None:
         self._all: Dict[str, Case] = {}
@@ -33,39 +33,39 @@ class Cases:
     def case(self, title: str) -> Callable[[Case], Case]:
         """Makes a function a case."""
 
-        def add(one: Case) -> Case:
-            self._all[title] = one
-            return one
+        def add(case: Case) -> Case:
+            self._all[title] = case
+            return case
 
         return add
 
-    def tried(self, program: str, title: str) -> Tuple[str, str]:
-        """The title of a case, and what was wrong, if something was."""
+    def run_case(self, program: str, title: str) -> Tuple[str, str]:
+        """Runs a case; returns its title and an error text."""
         with tempfile.TemporaryDirectory() as folder:
             try:
                 self._all[title](program, pathlib.Path(folder))
-            # a case that dies is one that failed, and the others go on
+            # an exception counts as a failure, and the other cases run
             except Exception as wrong:
                 return title, f"{type(wrong).__name__}: {str(wrong)[-600:]}"
         return title, ""
 
-    def command(self, usage: str, given: Sequence[str]) -> int:
+    def command(self, usage: str, argv: Sequence[str]) -> int:
         """Tries the cases whose titles have a text, if one is given, on a program.
         Gives the exit status."""
-        if len(given) not in (1, 2) or given[0] in ("-h", "--help"):
+        if len(argv) not in (1, 2) or argv[0] in ("-h", "--help"):
             print(usage.strip())
             return 2
-        program = str(pathlib.Path(given[0]).resolve())
+        program = str(pathlib.Path(argv[0]).resolve())
         raise_descriptors()
-        chosen = [title for title in self._all if len(given) == 1 or given[1] in title]
-        failed = 0
+        chosen = [title for title in self._all if len(argv) == 1 or argv[1] in title]
+        failure_count = 0
         with concurrent.futures.ThreadPoolExecutor(self._beside) as pool:
             for title, wrong in pool.map(
-                lambda title: self.tried(program, title), chosen
+                lambda title: self.run_case(program, title), chosen
             ):
-                failed += bool(wrong)
+                failure_count += bool(wrong)
                 print(
                     f"{'FAILED' if wrong else 'ok'}: {title}{': ' * bool(wrong)}{wrong}",
                     flush=True,
                 )
-        return concluded(len(chosen) - failed, failed)
+        return report_counts(len(chosen) - failure_count, failure_count)

@@ -9,28 +9,28 @@ COUNTS = re.compile(r"(\d+) passed, (\d+) failed")
 Counts = Tuple[int, int]
 
 
-class Wrong(Exception):
-    """Something is not as it should be."""
+class FailedCheckError(Exception):
+    """A check failed; the text says which."""
 
 
 def require(condition: object, *words: object) -> None:
     """Raises Wrong with these words if the condition is false."""
     if not condition:
-        raise Wrong(" ".join(map(str, words)))
+        raise FailedCheckError(" ".join(map(str, words)))
 
 
-def wants(what: str, found: object, wanted: object) -> None:
+def wants(what: str, result: object, expectation: object) -> None:
     """Raises Wrong if the value found is not the one wanted."""
-    require(found == wanted, f"{what}: {found!r} and not {wanted!r}")
+    require(result == expectation, f"{what}: {result!r} and not {expectation!r}")
 
 
-def concluded(passed: int, failed: int) -> int:
+def report_counts(passes: int, failures: int) -> int:
     """Prints the last line of a tool; gives its exit status."""
-    print(f"{passed} passed, {failed} failed", flush=True)
-    return int(failed > 0)
+    print(f"{passes} passed, {failures} failed", flush=True)
+    return int(failures > 0)
 
 
 def counts_in(line: str) -> Optional[Counts]:
-    """What a last line counts, if it is one."""
-    found = COUNTS.fullmatch(line.strip())
-    return (int(found[1]), int(found[2])) if found else None
+    """Parses the line of counts at the end of an output; None for other lines."""
+    match = COUNTS.fullmatch(line.strip())
+    return (int(match[1]), int(match[2])) if match else None

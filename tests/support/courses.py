@@ -29,7 +29,7 @@ def grade_words(file: pathlib.Path, out: pathlib.Path, workers: int) -> List[str
 
 def rows_of_teams(out: pathlib.Path) -> Dict[str, Any]:
     """The rows of each team in a folder of results."""
-    found: Dict[str, Any] = {}
+    results: Dict[str, Any] = {}
     for row in tables.rows_in(out / tables.RUNS):
-        found.setdefault(row["team"], []).append(row)
-    return found
+        results.setdefault(row["team"], []).append(row)
+    return results

@@ -35,12 +35,12 @@ def drawing(examples: int) -> Any:
     )
 
 
-def by_chance(examples: int, **more: Callable[[], Any]) -> Callable[[Test], Test]:
+def by_chance(examples: int, **extra: Callable[[], Any]) -> Callable[[Test], Test]:
     """Tries a test on this many inputs: `chance`, a random.Random whose draws Hypothesis
     makes, and a value of each strategy in `more`, by its name. Skips the test where
     Hypothesis is missing."""
     if not HAS_HYPOTHESIS:
         return unittest.skip("Debian's python3-hypothesis is not installed")
-    chance = strategies.randoms(use_true_random=False)
-    drawn = {name: strategy() for name, strategy in more.items()}
-    return lambda test: drawing(examples)(given(chance=chance, **drawn)(test))
+    rng = strategies.randoms(use_true_random=False)
+    draw = {name: strategy() for name, strategy in extra.items()}
+    return lambda test: drawing(examples)(given(rng=rng, **draw)(test))

@@ -6,47 +6,49 @@ from typing import Counter, Dict, List, NamedTuple, Sequence
 
 from arena_lab.rules import networks
 from arena_lab.rules.fixtures import Fixture
-from arena_lab.rules.model import Match, Setup, spelled
-from arena_lab.rules.rehearsal import Ready, Sent, Sessions
+from arena_lab.rules.model import Match, Setup, spell
+from arena_lab.rules.rehearsal import Ready, SentReplies, Sessions
 from tests.support.tournaments import cup_files
 
 
-class Drawn(NamedTuple):
-    """A tournament's files by their names, a script, what each of its lines prints, and
-    what was seen in it."""
+class DrawnRehearsal(NamedTuple):
+    """A random rehearsal: files of the tournament by name, script, expected output per
+    line, and the kinds of events."""
 
     files: Dict[str, str]
     script: List[str]
-    printed: List[str]
-    seen: Counter[str]
+    expected: List[str]
+    events: Counter[str]
 
 
-def ready_by_chance(game: int, agents: int, chance: random.Random) -> Ready:
-    nodes, links = networks.drawn(chance, 12)
+def ready_by_chance(game: int, agents: int, rng: random.Random) -> Ready:
+    nodes, links = networks.draw_network(rng, 12)
     ends = [(v, p) for v, p, _, _ in links] + [(w, q) for _, _, w, q in links]
-    home = chance.randrange(nodes)
-    holes = chance.sample([v for v in range(nodes) if v != home], chance.randrange(3))
-    dark = [chance.choice(links)[:2]] if chance.random() < 0.4 else []
+    home = rng.randrange(nodes)
+    holes = rng.sample([v for v in range(nodes) if v != home], rng.randrange(3))
+    dark = [rng.choice(links)[:2]] if rng.random() < 0.4 else []
     setup = Setup(
         nodes,
         links,
         home,
         holes,
         agents,
-        chance.randint(1, 40),
-        chance.randrange(9),
+        rng.randint(1, 40),
+        rng.randrange(9),
         dark,
     )
-    held = chance.sample(ends, chance.randrange(3))
-    return Ready(Match(setup), held, [f"k{game}-{agent}" for agent in range(agents)])
+    held_links = rng.sample(ends, rng.randrange(3))
+    return Ready(
+        Match(setup), held_links, [f"k{game}-{agent}" for agent in range(agents)]
+    )
 
 
 def files_of(ready: Sequence[Ready]) -> Dict[str, str]:
     """The tournament and its networks."""
     return cup_files(
         [
-            Fixture(f"t{game}", match.setup, list(keys), list(held))
-            for game, (match, held, keys) in enumerate(ready)
+            Fixture(f"t{game}", match.setup, list(keys), list(held_links))
+            for game, (match, held_links, keys) in enumerate(ready)
         ]
     )
 
@@ -54,20 +56,20 @@ def files_of(ready: Sequence[Ready]) -> Dict[str, str]:
 class ScriptMaker:
     """Makes a script, instruction by instruction, and has what each prints."""
 
-    def __init__(self, ready: Sequence[Ready], chance: random.Random) -> None:
+    def __init__(self, ready: Sequence[Ready], rng: random.Random) -> None:
         self.rehearsal = Sessions(ready)
         self.seen: Counter[str] = collections.Counter()
-        self.chance = chance
+        self.chance = rng
         self.script: List[str] = []
         self.printed: List[str] = []
 
-    def note(self, line: str, sent: Sent) -> None:
+    def note(self, line: str, payload: SentReplies) -> None:
         self.script.append(line)
-        self.seen.update(reply.get("ok") or f"no {reply['no']}" for _, reply in sent)
+        self.seen.update(reply.get("ok") or f"no {reply['no']}" for _, reply in payload)
         self.printed.append(
             "".join(
-                f"{conn} {spelled(reply)}\n"
-                for conn, reply in sorted(sent, key=lambda it: it[0])
+                f"{conn} {spell(reply)}\n"
+                for conn, reply in sorted(payload, key=lambda it: it[0])
             )
         )
 
@@ -89,15 +91,15 @@ class ScriptMaker:
 
     def draw(self, game: int) -> None:
         word = self.chance.getrandbits(32)
-        (match, held, _) = self.rehearsal.ready[game]
+        (match, held_links, _) = self.rehearsal.ready[game]
         self.seen[f"pool of {len(match.pool)}"] += 1
         if match.pool and not match.closed:
             agent = match.agents[match.pool[word % len(match.pool)]]
             self.seen[
                 "held"
-                if (agent.node, agent.port) in held
+                if (agent.node, agent.port) in held_links
                 else "destroyed"
-                if match.doomed(agent.node, agent.port)
+                if match.destroys(agent.node, agent.port)
                 else "arrival"
             ] += 1
         self.note(f"draw {game} {word}", self.rehearsal.draw(game, word))
@@ -111,37 +113,37 @@ class ScriptMaker:
 
     def any_line(self) -> bytes:
         """A line of a client, mostly one that moves it."""
-        chance = self.chance
+        rng = self.chance
         board = ["", "a", "bé", "123456789"]
         lines = [
             {"do": "look"},
-            {"do": "enter", "key": chance.choice(list(self.rehearsal.seats))},
+            {"do": "enter", "key": rng.choice(list(self.rehearsal.seats))},
             {
                 "do": "write",
-                "expect": chance.choice(board),
-                "put": chance.choice(board),
+                "expect": rng.choice(board),
+                "put": rng.choice(board),
             },
             {"do": "leave"},
-            {"do": "accuse", "port": chance.randrange(4)},
+            {"do": "accuse", "port": rng.randrange(4)},
             {"do": "enter", "key": "nobody"},
             {"do": "jump"},
         ]
         weights = [4, 1, 6, 0.2, 0.2, 0.2, 1]
-        if chance.random() < 0.5:
-            return spelled({"do": "depart", "port": chance.randrange(4)}).encode()
-        if chance.random() < 0.05:
-            return chance.choice([b"", b" \t\r", b"\xff", b"{", b"[]"])
-        return spelled(chance.choices(lines, weights)[0]).encode()
+        if rng.random() < 0.5:
+            return spell({"do": "depart", "port": rng.randrange(4)}).encode()
+        if rng.random() < 0.05:
+            return rng.choice([b"", b" \t\r", b"\xff", b"{", b"[]"])
+        return spell(rng.choices(lines, weights)[0]).encode()
 
     def all_depart(self) -> None:
         """All agents enter, and all but some go."""
         keys = list(self.rehearsal.seats)
         for conn, key in enumerate(keys):
-            self.say(conn, spelled({"do": "enter", "key": key}).encode())
+            self.say(conn, spell({"do": "enter", "key": key}).encode())
         for conn in range(len(keys)):
             match = self.rehearsal.ready[self.rehearsal.seats[keys[conn]][0]].match
             port = self.chance.randrange(len(match.far[match.setup.home]))
-            self.say(conn, spelled({"do": "depart", "port": port}).encode())
+            self.say(conn, spell({"do": "depart", "port": port}).encode())
 
     def anything(self, last: int) -> None:
         """An instruction by chance; connections up to this one are used."""
@@ -157,16 +159,16 @@ class ScriptMaker:
             self.say(self.chance.randrange(last + 1), self.any_line())
 
 
-def drawn(agents: int) -> Drawn:
+def draw_rehearsal(agents: int) -> DrawnRehearsal:
     """A rehearsal of two matches, one of this number of agents and one of 65 less
     that."""
-    chance = random.Random(agents)
+    rng = random.Random(agents)
     ready = [
-        ready_by_chance(0, agents, chance),
-        ready_by_chance(1, 65 - agents, chance),
+        ready_by_chance(0, agents, rng),
+        ready_by_chance(1, 65 - agents, rng),
     ]
     files = files_of(ready)
-    maker = ScriptMaker(ready, chance)
+    maker = ScriptMaker(ready, rng)
     maker.all_depart()
     for turn in range(4 * 65):
         maker.draw(turn % 2)
@@ -176,4 +178,4 @@ def drawn(agents: int) -> Drawn:
         maker.close(game)
     for conn in range(0, 70, 7):
         maker.say(conn, b'{"do":"look"}')
-    return Drawn(files, maker.script, maker.printed, maker.seen)
+    return DrawnRehearsal(files, maker.script, maker.printed, maker.seen)

@@ -22,7 +22,7 @@ from typing import Any, Callable, Dict, Iterator, List, Optional
 from arena_lab.hall.place import HallFolder
 from arena_lab.rules.engines import TOP
 from arena_lab.sandbox import sandboxes
-from arena_lab.sandbox.processes import listed, words_of
+from arena_lab.sandbox.processes import process_numbers, command_words
 from arena_lab.support.ports import free_port
 from tests.support.matches import program
 
@@ -71,7 +71,7 @@ LEASE = "4"
 _place: List[HallFolder] = []
 
 
-def begun() -> HallFolder:
+def started_hall() -> HallFolder:
     """The hall of this process, which is made once: its database, its teams, and nobody
     who serves it."""
     if not _place:
@@ -83,11 +83,11 @@ def begun() -> HallFolder:
                 first=4100, last=4199, minutes=1, more='freeze = "2099-01-01 00:00"'
             )
         )
-        made = HallFolder(folder / "trial.hall", course, program())
-        made.write()
+        hall_folder = HallFolder(folder / "trial.hall", course, program())
+        hall_folder.write()
         from arena_lab.hall import entry
 
-        entry.begin(str(made.folder))
+        entry.begin(str(hall_folder.folder))
         from django.conf import settings
         from django.core.management import call_command
         from django.test.utils import override_settings, setup_test_environment
@@ -102,12 +102,12 @@ def begun() -> HallFolder:
         settings.PASSWORD_HASHERS = ["django.contrib.auth.hashers.MD5PasswordHasher"]
         from arena_lab.hall import keys
 
-        keys.sync(made.hall())
-        _place.append(made)
+        keys.sync(hall_folder.hall())
+        _place.append(hall_folder)
     return _place[0]
 
 
-class Told:
+class Response:
     """An answer of a hall."""
 
     def __init__(self, status: int, headers: Any, body: bytes) -> None:
@@ -125,37 +125,37 @@ def told_by(
     path: str,
     headers: Dict[str, str],
     body: Optional[bytes] = None,
-) -> Told:
+) -> Response:
     """What the web server on a port of this machine answers."""
     connection = http.client.HTTPConnection("127.0.0.1", port, timeout=SECONDS)
     with contextlib.closing(connection):
         connection.request(how, path, body, headers)
         answer = connection.getresponse()
-        return Told(answer.status, answer.headers, answer.read())
+        return Response(answer.status, answer.headers, answer.read())
 
 
-class Served:
+class ServedHall:
     """A hall that is served, with its processes."""
 
     def __init__(
-        self, folder: pathlib.Path, more: str = "", minutes: int = 1, workers: int = 1
+        self, folder: pathlib.Path, extra: str = "", minutes: int = 1, workers: int = 1
     ) -> None:
         self.port = free_port()
         self._minutes = minutes
         self.course = folder / "trial.toml"
-        self.write(more)
+        self.write(extra)
         self.folder = folder / "trial.hall"
         self._workers = ["--workers", str(workers)]
         self._said = folder / "said.txt"
         self.lease = LEASE
         self.child: Optional["subprocess.Popen[str]"] = None
 
-    def write(self, more: str) -> None:
+    def write(self, extra: str) -> None:
         """Writes the course's file, with more keys."""
         first = 20_000 + os.getpid() % 200 * 100
         self.course.write_text(
             COURSE.format(
-                first=first, last=first + 40, minutes=self._minutes, more=more
+                first=first, last=first + 40, minutes=self._minutes, more=extra
             )
         )
 
@@ -167,7 +167,7 @@ class Served:
         is skipped."""
         if sandboxes.weakness():
             raise unittest.SkipTest(f"no walls here: {sandboxes.weakness()}")
-        with self._said.open("a") as said:
+        with self._said.open("a") as output:
             self.child = subprocess.Popen(
                 [
                     *self.words(self.course),
@@ -179,7 +179,7 @@ class Served:
                 ],
                 cwd=TOP,
                 stdout=subprocess.DEVNULL,
-                stderr=said,
+                stderr=output,
                 text=True,
                 env={**os.environ, "ARENA_HALL_LEASE": self.lease},
             )
@@ -203,9 +203,9 @@ class Served:
         limit = time.monotonic() + seconds
         while time.monotonic() < limit:
             with contextlib.suppress(OSError, http.client.HTTPException):
-                found = holds()
-                if found:
-                    return found
+                result = holds()
+                if result:
+                    return result
             time.sleep(0.1)
         raise AssertionError(f"not within {seconds} s: {what}; {self.faults()}")
 
@@ -213,8 +213,8 @@ class Served:
         """What the processes have said of faults."""
         return self._said.read_text(errors="replace")[-3000:]
 
-    def ask(self, how: str, path: str, token: str = "", body: Any = None) -> Told:
-        """Asks with a body in JSON, if there is one."""
+    def ask(self, how: str, path: str, token: str = "", body: Any = None) -> Response:
+        """Sends a request, with a JSON body if one is given."""
         if body is None:
             return self.send(how, path, token)
         return self.send(
@@ -228,8 +228,8 @@ class Served:
         token: str = "",
         body: Optional[bytes] = None,
         kind: str = "",
-    ) -> Told:
-        """Asks with a body of this media type, if there is one."""
+    ) -> Response:
+        """Sends a request, with a body of this media type if one is given."""
         headers = {"Authorization": f"Bearer {token}"} if token else {}
         return told_by(
             self.port,
@@ -239,11 +239,11 @@ class Served:
             body,
         )
 
-    def hand_in(self, token: str, sent: bytes) -> Told:
+    def hand_in(self, token: str, payload: bytes) -> Response:
         """Hands in a program, as a zip."""
         edge = b"edge"
         front = b'Content-Disposition: form-data; name="file"; filename="a.zip"\r\n\r\n'
-        body = b"--" + edge + b"\r\n" + front + sent + b"\r\n--" + edge + b"--\r\n"
+        body = b"--" + edge + b"\r\n" + front + payload + b"\r\n--" + edge + b"--\r\n"
         return self.send(
             "POST", "/api/hand-ins", token, body, "multipart/form-data; boundary=edge"
         )
@@ -252,12 +252,12 @@ class Served:
         with (self.folder / "keys.csv").open(encoding="utf-8", newline="") as file:
             return {row["team"]: row["token"] for row in csv.DictReader(file)}
 
-    def asked(self, token: str, network: str = "ring of 5") -> int:
+    def request_attempt(self, token: str, network: str = "ring of 5") -> int:
         """Asks for an attempt; gives its number."""
-        told = self.ask("POST", "/api/matches", token, {"network": network})
-        if told.status != 201:
-            raise AssertionError(told.body)
-        return int(told.json()["id"])
+        reply = self.ask("POST", "/api/matches", token, {"network": network})
+        if reply.status != 201:
+            raise AssertionError(reply.body)
+        return int(reply.json()["id"])
 
     def attempt(self, token: str, number: int) -> Dict[str, Any]:
         return dict(self.ask("GET", f"/api/matches/{number}", token).json())
@@ -265,37 +265,41 @@ class Served:
     def begins(self, token: str, number: int, than: Any = None) -> Dict[str, Any]:
         """An attempt whose servers listen, with other keys than these."""
 
-        def found() -> Any:
-            told = self.attempt(token, number)
-            keys = [it["keys"] for it in told["matches"]]
+        def check_begin() -> Any:
+            message = self.attempt(token, number)
+            keys = [match["keys"] for match in message["matches"]]
             return (
-                told if told["state"] == "running" and keys and keys != than else None
+                message
+                if message["state"] == "running" and keys and keys != than
+                else None
             )
 
-        return dict(self.wait(found, f"attempt {number} begins"))
+        return dict(self.wait(check_begin, f"attempt {number} begins"))
 
     def is_left(self, attempt: int) -> bool:
-        """Whether a server of an attempt is left."""
+        """Returns whether a server of an attempt is left."""
         return bool(self.servers(attempt))
 
     def over(self, token: str, number: int) -> Dict[str, Any]:
-        def found() -> Any:
-            told = self.attempt(token, number)
-            return told if told["state"] in ("over", "lost", "cancelled") else None
+        def check_over() -> Any:
+            message = self.attempt(token, number)
+            return (
+                message if message["state"] in ("over", "lost", "cancelled") else None
+            )
 
-        return dict(self.wait(found, f"attempt {number} is over"))
+        return dict(self.wait(check_over, f"attempt {number} is over"))
 
     def processes(self) -> Dict[str, int]:
         """The numbers of the hall's processes by their names: `web`, `worker 0` and so
         on."""
-        found = {}
-        for process in listed():
-            words = words_of(process)
+        results = {}
+        for process in process_numbers():
+            words = command_words(process)
             if words[1:4] == ["-m", "arena_lab.hall.entry", str(self.folder)]:
-                found[
+                results[
                     " ".join(words[4:6]) if words[4] == "worker" else words[4]
                 ] = process
-        return found
+        return results
 
     def kill(self, name: str) -> None:
         """Kills a process of the hall, as the system does where memory is short, and
@@ -311,26 +315,26 @@ class Served:
     def servers(self, attempt: Any = "") -> List[int]:
         """The numbers of all servers of matches of this hall, or of an attempt, that go
         on."""
-        place = (
+        folder = (
             str(self.folder / "attempts" / f"{attempt}/")
             if attempt
             else str(self.folder)
         )
-        found = []
-        for process in listed():
+        results = []
+        for process in process_numbers():
             with contextlib.suppress(OSError):
-                if "serve" in words_of(process) and os.readlink(
+                if "serve" in command_words(process) and os.readlink(
                     f"/proc/{process}/cwd"
-                ).startswith(place):
-                    found.append(process)
-        return found
+                ).startswith(folder):
+                    results.append(process)
+        return results
 
 
 @contextlib.contextmanager
-def served(more: str = "", **given: Any) -> Iterator[Served]:
+def serve_hall(extra: str = "", **args: Any) -> Iterator[ServedHall]:
     """A hall that is served while the block goes on."""
     with tempfile.TemporaryDirectory(prefix="hall-") as name:
-        hall = Served(pathlib.Path(name), more, **given)
+        hall = ServedHall(pathlib.Path(name), extra, **args)
         try:
             hall.start()
             yield hall
@@ -341,14 +345,14 @@ def served(more: str = "", **given: Any) -> Iterator[Served]:
 class Playing(unittest.TestCase):
     """Tests that start agents of a hall's matches."""
 
-    def ended(self, agents: List[Any]) -> None:
+    def end_agents(self, agents: List[Any]) -> None:
         """Ends these agents with the test."""
         for agent in agents:
             self.addCleanup(agent.wait)
             self.addCleanup(agent.kill)
 
 
-def play(told: Dict[str, Any]) -> List["subprocess.Popen[bytes]"]:
+def play(text: Dict[str, Any]) -> List["subprocess.Popen[bytes]"]:
     """Starts the sample agents of an attempt on a ring."""
     return [
         subprocess.Popen(
@@ -358,42 +362,44 @@ def play(told: Dict[str, Any]) -> List["subprocess.Popen[bytes]"]:
                 match["host"],
                 str(match["port"]),
                 key,
-                str(told["facts"]["nodes"]),
+                str(text["facts"]["nodes"]),
             ],
             stdout=subprocess.DEVNULL,
             stderr=subprocess.DEVNULL,
         )
-        for match in told["matches"]
+        for match in text["matches"]
         for key in match["keys"]
     ]
 
 
 def sample_program() -> bytes:
     """The sample agent of rings as a zip, as a team hands it in."""
-    made = io.BytesIO()
-    with zipfile.ZipFile(made, "w") as archive:
+    buffer = io.BytesIO()
+    with zipfile.ZipFile(buffer, "w") as archive:
         for name, entry in (("ring.py", "agent.py"), ("client.py", "client.py")):
             archive.write(TOP / "examples" / "agents" / name, entry)
-    return made.getvalue()
+    return buffer.getvalue()
 
 
-def came(told: Dict[str, Any]) -> Any:
-    """What came of an attempt, whether its pages are made or not."""
+def result_of(text: Dict[str, Any]) -> Any:
+    """Returns the result of an attempt, regardless of its pages."""
     return (
-        told["state"],
-        told["verdicts"],
-        [(it["keys"], it["after"]) for it in told["matches"]],
+        text["state"],
+        text["verdicts"],
+        [(match["keys"], match["after"]) for match in text["matches"]],
     )
 
 
-def said(host: str, port: int, lines: List[Dict[str, Any]]) -> List[Dict[str, Any]]:
-    """What a server answers to these lines, one by one."""
+def replies_to(
+    host: str, port: int, lines: List[Dict[str, Any]]
+) -> List[Dict[str, Any]]:
+    """Sends lines one by one, and returns the replies."""
     with socket.create_connection(
         (host, port), timeout=SECONDS
     ) as connection, connection.makefile("rw") as file:
-        found = []
+        results = []
         for line in lines:
             file.write(json.dumps(line) + "\n")
             file.flush()
-            found.append(json.loads(file.readline()))
-        return found
+            results.append(json.loads(file.readline()))
+        return results

@@ -29,19 +29,20 @@ def after(work: JobState, event: str, holder: str = "") -> Optional[JobState]:
         return None
     for step in steps_of(event):
         if step.state == work.state:
-            kept = (
+            record = (
                 holder
                 if event == CLAIM
                 else work.holder
                 if step.after in ACTIVE
                 else ""
             )
-            return JobState(step.after, kept)
+            return JobState(step.after, record)
     return None
 
 
 def rows() -> Dict[str, List[str]]:
-    """The table as a reader has it: of each state its events and where they lead."""
+    """Returns the transition table as text: the events of each state with their
+    targets."""
     return {
         state: [f"{step.event}: {step.after}" for step in TABLE if step.state == state]
         for state in STATES

@@ -16,7 +16,7 @@ import threading
 import time
 from typing import Any, Dict, Optional, Sequence, Tuple
 
-from arena_lab.play.kits import KITS, Kit, played, write_kit
+from arena_lab.play.kits import KITS, Kit, play_command, write_kit
 from arena_lab.sandbox import sandboxes
 from arena_lab.sandbox.sandboxes import Isolation
 from arena_lab.support.built import TOP
@@ -26,7 +26,7 @@ from arena_lab.support.missing import DEBIANS_PYTHON
 Turn = Tuple[Dict[str, Any], Tuple[str, ...]]
 Talk = Sequence[Turn]
 
-# of a kit that is built, what is no part of the hand-in
+# build outputs of a kit that are not handed in
 NOT_HANDED_IN = ("build", "debug", "deps", "incremental", ".fingerprint", "cargo")
 ENTER = {"do": "enter", "key": 'k"1'}
 GONE = '{"ok":"gone"}'
@@ -39,21 +39,22 @@ directory = "/usr/share/cargo/registry"
 """
 
 
-def here(board: str, came: Optional[int]) -> str:
+def here(board: str, outcome: Optional[int]) -> str:
     return json.dumps(
-        {"board": board, "from": came, "ok": "here", "ports": 2}, separators=(",", ":")
+        {"board": board, "from": outcome, "ok": "here", "ports": 2},
+        separators=(",", ":"),
     )
 
 
-def write(expect: str, put: str) -> Dict[str, Any]:
-    return {"do": "write", "expect": expect, "put": put}
+def write(expect: str, text: str) -> Dict[str, Any]:
+    return {"do": "write", "expect": expect, "put": text}
 
 
 def depart(port: int) -> Dict[str, Any]:
     return {"do": "depart", "port": port}
 
 
-def changed(board: str) -> str:
+def change_board(board: str) -> str:
     return json.dumps({"board": board, "ok": "changed"}, separators=(",", ":"))
 
 
@@ -63,10 +64,10 @@ def changed(board: str) -> str:
 NO_ROOM: Talk = [(ENTER, ('{"no":"late"}',))]
 SEARCH: Talk = [
     (ENTER, (here("", None),)),
-    (write("", "0 0"), (changed("0 0"),)),
+    (write("", "0 0"), (change_board("0 0"),)),
     (depart(1), (GONE, here('say \\ "5"\t\u2713 \U0001f573', 0))),
     (depart(0), (GONE, here("1 0", 1))),
-    (write("1 0", "1 1"), (changed("2 0"),)),
+    (write("1 0", "1 1"), (change_board("2 0"),)),
     (write("2 0", "2 1"), ('{"ok":"written"}',)),
     (depart(1), (GONE, here("", 1))),
     ({"do": "accuse", "port": 0}, ('{"ok":"noted"}',)),
@@ -105,21 +106,23 @@ class Server:
         connection, _ = self._listener.accept()
         connection.settimeout(SECONDS)
         with connection, connection.makefile("rb") as lines:
-            for said, answers in talk:
+            for message, answers in talk:
                 line = lines.readline()
-                if not line or json.loads(line) != said:
-                    return f"said {line!r}, where {said} was wanted"
-                connection.sendall("".join(f"{it}\n" for it in answers).encode())
-            more = lines.readline()
-            return f"said {more!r} when it had ended" if more else ""
+                if not line or json.loads(line) != message:
+                    return f"said {line!r}, where {message} was wanted"
+                connection.sendall(
+                    "".join(f"{answer}\n" for answer in answers).encode()
+                )
+            extra = lines.readline()
+            return f"said {extra!r} when it had ended" if extra else ""
 
-    def ended(self) -> str:
+    def difference(self) -> str:
         """What was said otherwise, if anything was."""
         self._thread.join(SECONDS)
         return self.fault
 
 
-def ran(
+def run(
     folder: pathlib.Path, words: str, **variables: str
 ) -> "subprocess.CompletedProcess[str]":
     return subprocess.run(
@@ -142,7 +145,7 @@ def want(ran_with: "subprocess.CompletedProcess[str]", status: int = 0) -> str:
     return ran_with.stdout
 
 
-class Played:
+class PlayedKit:
     """A kit that is written to a folder, built and played."""
 
     def __init__(self, language: str, folder: pathlib.Path, program: str) -> None:
@@ -155,7 +158,7 @@ class Played:
         write_kit(language, self._folder)
 
     def run(self, words: str, **variables: str) -> "subprocess.CompletedProcess[str]":
-        return ran(
+        return run(
             self._folder,
             words,
             CARGO_HOME=str(self._home),
@@ -181,46 +184,48 @@ class Played:
             by_words = (
                 f"{self.kit.play} 127.0.0.1 {server.port} {shlex.quote(ENTER['key'])} 5"
             )
-            found = self.run(by_words)
-            if server.ended():
-                raise AssertionError(f"{self.kit.name}: {server.fault}\n{found.stdout}")
-            said = want(found, status)
-            if status and "key" not in said:
+            result = self.run(by_words)
+            if server.difference():
                 raise AssertionError(
-                    f"{self.kit.name} does not say why it was refused: {said}"
+                    f"{self.kit.name}: {server.fault}\n{result.stdout}"
+                )
+            output = want(result, status)
+            if status and "key" not in output:
+                raise AssertionError(
+                    f"{self.kit.name} does not say why it was refused: {output}"
                 )
         server = Server((SEARCH,))
-        found = self.run(
+        result = self.run(
             f"{self.kit.play} 5", ARENA_PORT=str(server.port), ARENA_KEY=ENTER["key"]
         )
-        if server.ended():
+        if server.difference():
             raise AssertionError(
-                f"{self.kit.name} by the environment: {server.fault}\n{found.stdout}"
+                f"{self.kit.name} by the environment: {server.fault}\n{result.stdout}"
             )
-        want(found)
+        want(result)
 
     def _lab(self, words: str, option: str) -> str:
         """What a command of the lab says of the kit's agent, which the option names."""
         line = (
             f"{sys.executable} -m arena_lab {words} --program {self._program} {option}"
         )
-        agent = shlex.quote(played(self.kit))
-        return want(ran(self._folder, f"{line} {agent}", PYTHONPATH=str(TOP)))
+        agent = shlex.quote(play_command(self.kit))
+        return want(run(self._folder, f"{line} {agent}", PYTHONPATH=str(TOP)))
 
     def solve(self) -> None:
         """The black hole of a ring of eight nodes is beside the home base, on either
         side, or far from it."""
         for hole in (1, 4, 7):
-            said = self._lab(f"run --network ring:8 --hole {hole}", "--command")
-            if "solved 1; failed 0" not in said:
-                raise AssertionError(f"{self.kit.name}, black hole {hole}: {said}")
+            output = self._lab(f"run --network ring:8 --hole {hole}", "--command")
+            if "solved 1; failed 0" not in output:
+                raise AssertionError(f"{self.kit.name}, black hole {hole}: {output}")
 
     def explore(self) -> None:
         """Every schedule of a module is tried, with each black hole."""
         if self.kit.is_module:
-            said = self._lab("explore --network ring:6", "--agent")
-            if "every schedule solves" not in said:
-                raise AssertionError(f"{self.kit.name}: {said}")
+            output = self._lab("explore --network ring:6", "--agent")
+            if "every schedule solves" not in output:
+                raise AssertionError(f"{self.kit.name}: {output}")
 
     def grade(self) -> None:
         """As a hand-in of a course, where programs may make the calls of the system
@@ -241,24 +246,24 @@ proc = {str(self.kit.name == "Java").lower()}
 [[team]]
 name = "kit"
 files = ["{handed_in.name}"]
-command = "{played(self.kit)}"
+command = "{play_command(self.kit)}"
 """
         )
         out = self._folder.parent / f"out-{self._folder.name}"
-        said = want(
-            ran(
+        output = want(
+            run(
                 TOP,
                 f"{DEBIANS_PYTHON} -m arena_lab grade {file} --out {out} --engine model --workers 1",
             )
         )
-        if "solved 1; failed 0" not in said:
+        if "solved 1; failed 0" not in output:
             raise AssertionError(
-                f"{self.kit.name}, as a hand-in: {said}\n{(out / 'runs.csv').read_text()}"
+                f"{self.kit.name}, as a hand-in: {output}\n{(out / 'runs.csv').read_text()}"
             )
 
     def all(self) -> float:
         """Builds, tests and plays the kit; gives for how many seconds."""
-        started = time.monotonic()
+        start = time.monotonic()
         for step in (
             self.build,
             self.own_test,
@@ -268,4 +273,4 @@ command = "{played(self.kit)}"
             self.grade,
         ):
             step()
-        return time.monotonic() - started
+        return time.monotonic() - start

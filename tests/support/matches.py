@@ -10,7 +10,7 @@ from arena_lab.play.teams import INSIDE, AgentWords, Together
 from arena_lab.rules.engines import TOP, program_at
 from arena_lab.rules.fixtures import Fixture, fixture_of
 from arena_lab.rules.model import Setup
-from arena_lab.rules.networks import Network, drawn, ring
+from arena_lab.rules.networks import Network, draw_network, ring
 from arena_lab.rules.rehearsal import Rehearsal
 from tests.support.output import InTemporary
 
@@ -79,10 +79,10 @@ def fixture(
     )
 
 
-def flipped_ring(nodes: int, chance: random.Random) -> Network:
+def flipped_ring(nodes: int, rng: random.Random) -> Network:
     """A ring at whose nodes, the home base aside, the two ports may stand the other way
     round."""
-    flips = [0] + [chance.randrange(2) for _ in range(1, nodes)]
+    flips = [0] + [rng.randrange(2) for _ in range(1, nodes)]
     return Network(
         nodes,
         [
@@ -92,42 +92,42 @@ def flipped_ring(nodes: int, chance: random.Random) -> Network:
     )
 
 
-def ring_fixture(nodes: int, hole: int, chance: random.Random) -> Fixture:
+def ring_fixture(nodes: int, hole: int, rng: random.Random) -> Fixture:
     """A ring whose labels agree around it, or are mixed."""
     return fixture(
-        ring(nodes) if chance.random() < 0.5 else flipped_ring(nodes, chance),
+        ring(nodes) if rng.random() < 0.5 else flipped_ring(nodes, rng),
         hole,
         board=32,
     )
 
 
-def network_fixture(chance: random.Random) -> Fixture:
+def network_fixture(rng: random.Random) -> Fixture:
     """A network by chance, with more agents than its greatest degree."""
-    network = drawn(chance)
-    home, hole = chance.sample(range(network.nodes), 2)
+    network = draw_network(rng)
+    home, hole = rng.sample(range(network.nodes), 2)
     return fixture(network, hole, max(network.degrees()) + 1, home=home)
 
 
-def played(
-    given: Fixture,
+def play_fixture(
+    fixture: Fixture,
     agent: AgentWords,
     seed: int,
     maker: schedulers.Maker = schedulers.slow_agents,
     engine: Any = Rehearsal,
 ) -> PlayedMatch:
     """A match of agents that are alike."""
-    return under(maker(seed), given, [agent] * given.setup.agents, engine)
+    return under(maker(seed), fixture, [agent] * fixture.setup.agents, engine)
 
 
 def under(
     scheduler: schedulers.Scheduler,
-    given: Fixture,
+    fixture: Fixture,
     agents: Sequence[AgentWords],
     engine: Any = Rehearsal,
     seconds: float = 5,
 ) -> PlayedMatch:
     """A match under a scheduler, by an engine that is made of a fixture."""
-    return play(engine(given), Together(agents, given, seconds), scheduler, given)
+    return play(engine(fixture), Together(agents, fixture, seconds), scheduler, fixture)
 
 
 class InFolder(InTemporary):

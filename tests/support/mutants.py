@@ -20,14 +20,14 @@ from arena_lab.rules.draws import DRAWN, GIVEN
 from arena_lab.rules.engines import program_at
 from arena_lab.rules.model import Verdict
 from arena_lab.support.built import LAB
-from tests.support.counts import concluded
+from tests.support.counts import report_counts
 
 FOLDER = LAB / "mutants"
 
 
 class MutantMatch(NamedTuple):
-    """Where a mutant is to be caught: on this network, by a team of this number, with
-    ports that are numbered so."""
+    """Where a mutant must be caught: network, number of agents, and numbering of
+    ports."""
 
     network: str
     agents: int = 2
@@ -35,29 +35,32 @@ class MutantMatch(NamedTuple):
 
 
 class MutantPlan(NamedTuple):
-    """The words of a mutant's agents, and where it is to be caught by `hunt` and by
-    `explore`."""
+    """A mutant's words, and the matches in which `hunt` and `explore` must catch it."""
 
     words: str
-    hunted: MutantMatch
-    explored: MutantMatch
+    hunt_plan: MutantMatch
+    explore_plan: MutantMatch
 
 
-def on_ring(explored: int) -> MutantPlan:
-    return MutantPlan("{nodes}", MutantMatch("ring:8"), MutantMatch(f"ring:{explored}"))
-
-
-def on_numbered(explored: str) -> MutantPlan:
+def on_ring(exploration: int) -> MutantPlan:
     return MutantPlan(
-        "{nodes}",
-        MutantMatch("ring:8", ports=DRAWN),
-        MutantMatch(explored, ports=DRAWN),
+        "{nodes}", MutantMatch("ring:8"), MutantMatch(f"ring:{exploration}")
     )
 
 
-def on_cube(explored: str, agents: int) -> MutantPlan:
+def on_numbered(exploration: str) -> MutantPlan:
     return MutantPlan(
-        "{nodes} {links}", MutantMatch("hypercube:3", 4), MutantMatch(explored, agents)
+        "{nodes}",
+        MutantMatch("ring:8", ports=DRAWN),
+        MutantMatch(exploration, ports=DRAWN),
+    )
+
+
+def on_cube(exploration: str, agents: int) -> MutantPlan:
+    return MutantPlan(
+        "{nodes} {links}",
+        MutantMatch("hypercube:3", 4),
+        MutantMatch(exploration, agents),
     )
 
 
@@ -86,39 +89,39 @@ class Caught(NamedTuple):
     verdict: Optional[Verdict]
 
 
-def hunted(name: str, program: str) -> Caught:
+def hunt(name: str, program: str) -> Caught:
     """What `hunt` finds of a mutant."""
     plan = PLANS[name]
-    started = time.monotonic()
-    place = plan.hunted
-    found = api.hunt(
-        place.network,
+    start = time.monotonic()
+    position = plan.hunt_plan
+    result = api.hunt(
+        position.network,
         agent_of(name),
-        count=place.agents,
+        count=position.agents,
         engine=program,
-        ports=place.ports,
+        ports=position.ports,
     )
     return Caught(
-        found.fails, found.tried, time.monotonic() - started, found.best.judged()
+        result.fails, result.tried, time.monotonic() - start, result.best.judge()
     )
 
 
-def explored(name: str) -> Caught:
+def explore(name: str) -> Caught:
     """What the Python model's search finds of a mutant, which takes less time than that
     of the program."""
     plan = PLANS[name]
-    started = time.monotonic()
-    found = api.explore(
-        plan.explored.network,
+    start = time.monotonic()
+    result = api.explore(
+        plan.explore_plan.network,
         agent_of(name),
-        count=plan.explored.agents,
-        ports=plan.explored.ports,
+        count=plan.explore_plan.agents,
+        ports=plan.explore_plan.ports,
     )
     return Caught(
-        found.fails,
-        found.states,
-        time.monotonic() - started,
-        found.worst.judged() if found.worst else None,
+        result.fails,
+        result.states,
+        time.monotonic() - start,
+        result.worst.judge() if result.worst else None,
     )
 
 
@@ -129,22 +132,22 @@ def agent_of(name: str) -> str:
 
 def caught(name: str, program: str) -> Tuple[Caught, Caught]:
     """What `hunt` and `explore` find of a mutant."""
-    return hunted(name, program), explored(name)
+    return hunt(name, program), explore(name)
 
 
-def line_of(name: str, hunted: Caught, explored: Caught) -> str:
-    found = (
-        f"{hunted.tries} schedules, {hunted.seconds:.1f} s"
-        if hunted.is_caught
+def line_of(name: str, hunt_result: Caught, exploration: Caught) -> str:
+    result = (
+        f"{hunt_result.tries} schedules, {hunt_result.seconds:.1f} s"
+        if hunt_result.is_caught
         else "NOT CAUGHT"
     )
-    tried = (
-        f"{explored.tries} states, {explored.seconds:.1f} s"
-        if explored.is_caught
+    trial = (
+        f"{exploration.tries} states, {exploration.seconds:.1f} s"
+        if exploration.is_caught
         else "NOT CAUGHT"
     )
-    verdict = str(hunted.verdict or "")
-    return f"{name:<20} hunt: {found:<24} {verdict:<28} explore {PLANS[name].explored.network}: {tried}"
+    verdict = str(hunt_result.verdict or "")
+    return f"{name:<20} hunt: {result:<24} {verdict:<28} explore {PLANS[name].explore_plan.network}: {trial}"
 
 
 def main() -> int:
@@ -165,12 +168,12 @@ def main() -> int:
             f"there is no mutant {', '.join(sorted(unknown))}; there are {', '.join(sorted(PLANS))}"
         )
     program = program_at(words.program)
-    left = 0
+    remaining = 0
     for name in names:
-        hunted, explored = caught(name, program)
-        print(line_of(name, hunted, explored), flush=True)
-        left += not (hunted.is_caught and explored.is_caught)
-    return concluded(len(names) - left, left)
+        hunt_result, exploration = caught(name, program)
+        print(line_of(name, hunt_result, exploration), flush=True)
+        remaining += not (hunt_result.is_caught and exploration.is_caught)
+    return report_counts(len(names) - remaining, remaining)
 
 
 if __name__ == "__main__":

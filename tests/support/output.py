@@ -7,30 +7,30 @@ import unittest
 from typing import Any, Callable, NamedTuple
 
 
-class Ran(NamedTuple):
+class CallResult(NamedTuple):
     """What a call gave, mostly the exit status of a command, and what it printed and
     told."""
 
     status: Any
-    said: str
+    output: str
     errors: str
 
 
-def ran(call: Callable[..., Any], *given: Any, **more: Any) -> Ran:
-    """Calls something. If it ends the process, that is its status."""
-    with contextlib.redirect_stdout(io.StringIO()) as said, contextlib.redirect_stderr(
+def run_call(call: Callable[..., Any], *args: Any, **extra: Any) -> CallResult:
+    """Calls a function and captures its output; the status of SystemExit counts as the
+    result."""
+    with contextlib.redirect_stdout(
         io.StringIO()
-    ) as errors:
+    ) as stream, contextlib.redirect_stderr(io.StringIO()) as errors:
         try:
-            status = call(*given, **more)
-        except SystemExit as ended:
-            status = ended.code
-    return Ran(status, said.getvalue(), errors.getvalue())
+            status = call(*args, **extra)
+        except SystemExit as error:
+            status = error.code
+    return CallResult(status, stream.getvalue(), errors.getvalue())
 
 
 def write(path: pathlib.Path, text: str, mode: int = 0o644) -> pathlib.Path:
-    """Writes a file, such as a script in the place of a program, with the folders above
-    it."""
+    """Writes a file with its parent folders, and sets its mode."""
     path.parent.mkdir(parents=True, exist_ok=True)
     path.write_text(text)
     path.chmod(mode)
@@ -38,7 +38,7 @@ def write(path: pathlib.Path, text: str, mode: int = 0o644) -> pathlib.Path:
 
 
 class InTemporary(unittest.TestCase):
-    """Tests that have a folder of their own each."""
+    """A test case with a temporary folder per test."""
 
     def setUp(self) -> None:
         self.folder = pathlib.Path(self.enterContext(tempfile.TemporaryDirectory()))

@@ -17,8 +17,8 @@ contests = []
 
 
 class PatientContest(server.Contest):
-    def __init__(self, *given: object) -> None:
-        super().__init__(*given)
+    def __init__(self, *args: object) -> None:
+        super().__init__(*args)
         contests.append(self)
 
     def deal(self, game: int, course: server.ServeOptions) -> None:

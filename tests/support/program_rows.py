@@ -55,11 +55,12 @@ from typing import (
     Union,
 )
 
-from tests.support.counts import Wrong, require
+from arena_lab.support.built import PORT_LINE
+from tests.support.counts import FailedCheckError, require
 from tests.support.servers import Run, without_notes
 
 PATIENCE = 60
-# how much of a line is shown if it is not the line that was wanted
+# longest part of an unexpected line to print
 SHOWN = 160
 HEADS = "$@=%/"
 FIRST = "Before each row"
@@ -89,12 +90,11 @@ class Stage:
         wants_notes: bool = False,
         **streams: Any,
     ) -> Run:
-        """Runs the program on a script, by a command in front of it and with other
-        streams if some are given. Notes on a tournament are passed over if they are not
-        wanted."""
+        """Runs the program on a script, optionally under another command and with other
+        streams. Notes on a tournament are removed unless `wants_notes`."""
         plain = {"stdout": subprocess.PIPE, "stderr": subprocess.PIPE}
         try:
-            ran = subprocess.run(
+            result = subprocess.run(
                 [*front, self.program, *words],
                 cwd=self.folder,
                 input=script,
@@ -102,23 +102,24 @@ class Stage:
                 **{**plain, **streams},
             )
         except subprocess.TimeoutExpired:
-            raise Wrong(f"it did not end in {PATIENCE} seconds") from None
-        told = ran.stderr or b""
+            raise FailedCheckError(f"it did not end in {PATIENCE} seconds") from None
+        # a program that rustc compiled says so at each start
+        errors = (result.stderr or b"").replace(f"{PORT_LINE}\n".encode(), b"", 1)
         return Run(
-            ran.returncode,
-            ran.stdout or b"",
-            told if wants_notes else without_notes(told, words),
+            result.returncode,
+            result.stdout or b"",
+            errors if wants_notes else without_notes(errors, words),
         )
 
 
 class Step(NamedTuple):
-    """What is done, with what, and what is to come of it."""
+    """One step of a row: action, words, input, expected output."""
 
     mark: str
     rest: str
-    given: bytes
-    wanted: bytes
-    told: bytes
+    stdin: bytes
+    expected: bytes
+    stderr: bytes
     status: int
 
 
@@ -127,19 +128,21 @@ class Row(NamedTuple):
     steps: List[Step]
 
 
-def difference(what: str, wanted: bytes, came: bytes) -> None:
+def difference(what: str, expectation: bytes, outcome: bytes) -> None:
     """Tells the first line that is another."""
-    if wanted == came:
+    if expectation == outcome:
         return
-    pairs = itertools.zip_longest(wanted.splitlines(True), came.splitlines(True))
-    for number, (line, other) in enumerate(pairs, 1):
+    pairs = itertools.zip_longest(
+        expectation.splitlines(True), outcome.splitlines(True)
+    )
+    for number, (line, second) in enumerate(pairs, 1):
         require(
-            line == other,
-            f"{what}, line {number}: wanted {shown(line)}, came {shown(other)}",
+            line == second,
+            f"{what}, line {number}: wanted {visible_line(line)}, came {visible_line(second)}",
         )
 
 
-def shown(line: Union[bytes, None]) -> str:
+def visible_line(line: Union[bytes, None]) -> str:
     """A line in one line, with `¶` for its line feed."""
     if line is None:
         return "nothing"
@@ -149,53 +152,53 @@ def shown(line: Union[bytes, None]) -> str:
     return f"`{text}`"
 
 
-def expect(ran: Run, printed: bytes, told: bytes = b"", status: int = DONE) -> None:
+def expect(run: Run, output: bytes, text: bytes = b"", status: int = DONE) -> None:
     """What a run told and printed, and its status, are these."""
-    difference("told", helped(told, ran.told), ran.told)
-    difference("printed", printed, ran.printed)
-    require(ran.status == status, f"exit status: wanted {status}, came {ran.status}")
+    difference("told", with_help(text, run.stderr), run.stderr)
+    difference("printed", output, run.stdout)
+    require(run.status == status, f"exit status: wanted {status}, came {run.status}")
 
 
-def helped(wanted: bytes, came: bytes) -> bytes:
+def with_help(expectation: bytes, outcome: bytes) -> bytes:
     """What is wanted, with the lines of help that came for those that may say
     anything."""
     pairs = itertools.zip_longest(
-        wanted.splitlines(True), came.splitlines(True), fillvalue=b""
+        expectation.splitlines(True), outcome.splitlines(True), fillvalue=b""
     )
     return b"".join(
-        other if line == SOME_HELP and other.startswith(b"  ") else line
-        for line, other in pairs
+        pair if line == SOME_HELP and pair.startswith(b"  ") else line
+        for line, pair in pairs
     )
 
 
 def play(row: Row, stage: Stage) -> None:
     """Carries out the steps of a row."""
-    printed = b""
+    output = b""
     for step in row.steps:
         try:
-            printed = do(step, stage, printed)
-        except (OSError, Wrong) as error:
-            raise Wrong(f"{step.mark} {step.rest}: {error}") from None
+            output = do(step, stage, output)
+        except (OSError, FailedCheckError) as error:
+            raise FailedCheckError(f"{step.mark} {step.rest}: {error}") from None
 
 
-def do(step: Step, stage: Stage, printed: bytes) -> bytes:
+def do(step: Step, stage: Stage, output: bytes) -> bytes:
     """Carries out a step, and gives what the last run printed."""
-    place = stage.folder / step.rest
+    folder = stage.folder / step.rest
     if step.mark == "$":
         words = shlex.split(step.rest)
-        wants_notes = without_notes(step.told, words) != step.told
-        ran = stage.run(words, step.given, wants_notes=wants_notes)
-        expect(ran, step.wanted, step.told, step.status)
-        return ran.printed
+        wants_notes = without_notes(step.stderr, words) != step.stderr
+        result = stage.run(words, step.stdin, wants_notes=wants_notes)
+        expect(result, step.expected, step.stderr, step.status)
+        return result.stdout
     if step.mark == "@":
-        place.write_bytes(step.given)
+        folder.write_bytes(step.stdin)
     elif step.mark == "%":
-        place.write_bytes(printed)
+        folder.write_bytes(output)
     elif step.mark == "/":
-        place.mkdir()
+        folder.mkdir()
     else:
-        difference("it", step.wanted, place.read_bytes())
-    return printed
+        difference("it", step.expected, folder.read_bytes())
+    return output
 
 
 def bytes_of(mark: str, rest: str) -> bytes:
@@ -224,14 +227,15 @@ def step_of(lines: Sequence[str]) -> Step:
 def steps_of(lines: Sequence[str]) -> List[Step]:
     """The steps of a row without tables."""
     heads = [
-        place
-        for place, line in enumerate(lines)
+        index
+        for index, line in enumerate(lines)
         if line.partition(" ")[0] in tuple(HEADS)
     ]
     if lines and heads[:1] != [0]:
         raise ValueError(f"no step: {lines[0]}")
     return [
-        step_of(lines[place:end]) for place, end in zip(heads, [*heads[1:], len(lines)])
+        step_of(lines[position:end])
+        for position, end in zip(heads, [*heads[1:], len(lines)])
     ]
 
 
@@ -252,7 +256,7 @@ def tables_of(lines: Sequence[str]) -> List[List[Dict[str, str]]]:
     return tables
 
 
-def filled(line: str, values: Sequence[Dict[str, str]]) -> str:
+def fill_values(line: str, values: Sequence[Dict[str, str]]) -> str:
     """A line with values for names, those of the last table first."""
     for table in reversed(values):
         for name, value in table.items():
@@ -264,14 +268,14 @@ def spread(lines: Sequence[str]) -> Iterator[Tuple[str, List[Step]]]:
     """The title and the steps of a row, or of each row that its tables make."""
     plain = [line for line in lines if line.partition(" ")[0] not in ("*", "|")]
     for values in itertools.product(*tables_of(lines)):
-        title, *rest = (filled(line, values) for line in plain)
+        title, *rest = (fill_values(line, values) for line in plain)
         yield title, steps_of(rest)
 
 
-def changed(text: str, old: str, new: str) -> str:
+def replace_once(text: str, old: str, new: str) -> str:
     """A text in which the first of a text is another."""
-    before, found, after = text.partition(old)
-    if not found:
+    before, result, after = text.partition(old)
+    if not result:
         raise ValueError(f"nothing to change: {old}")
     return before + new + after
 
@@ -282,28 +286,28 @@ def checks(
     """The title and the steps for each line of a table of changes."""
     source, target = lines[1].split()[1:]
     for line in lines[2:]:
-        old, new, told = (text.replace("¶", "\n") for text in line.split(ARROW))
-        text = changed(files[source].decode(), old, new)
-        told = f"{RIGHT if told == 'right' else told}\n"
+        old, new, message = (text.replace("¶", "\n") for text in line.split(ARROW))
+        text = replace_once(files[source].decode(), old, new)
+        message = f"{RIGHT if message == 'right' else message}\n"
         status = (
             DONE
-            if told.startswith("match")
+            if message.startswith("match")
             else FAILED_STREAM
-            if told.endswith(": read\n")
+            if message.endswith(": read\n")
             else REFUSED_TEXT
         )
-        printed, fault = (
-            (told, "") if status == DONE else ("", told + help_behind(told))
+        output, fault = (
+            (message, "") if status == DONE else ("", message + help_behind(message))
         )
         yield f"{lines[0]} {line}", [
             Step("@", target, text.encode(), b"", b"", DONE),
-            Step("$", "check cup.toml", b"", printed.encode(), fault.encode(), status),
+            Step("$", "check cup.toml", b"", output.encode(), fault.encode(), status),
         ]
 
 
-def help_behind(told: str) -> str:
-    """The line of help that is told behind a fault of a file, if there is one."""
-    return "" if told.endswith(": text\n") else SOME_HELP.decode()
+def help_behind(text: str) -> str:
+    """Returns the help line expected after the fault of a file, or ""."""
+    return "" if text.endswith(": text\n") else SOME_HELP.decode()
 
 
 def rows_of(text: str) -> List[Row]:
@@ -320,7 +324,7 @@ def rows_of(text: str) -> List[Row]:
             first = steps_of(part[1:])
             continue
         is_table = len(part) > 1 and part[1].startswith("~ ")
-        files = {step.rest: step.given for step in first if step.mark == "@"}
+        files = {step.rest: step.stdin for step in first if step.mark == "@"}
         for title, steps in checks(files, part) if is_table else spread(part):
             rows.append(Row(title, first + steps))
     return rows
@@ -336,7 +340,7 @@ def fault_of(program: str, trial: Callable[[Stage], None]) -> str:
         except Exception as error:
             return (
                 str(error)
-                if isinstance(error, (Wrong, OSError))
+                if isinstance(error, (FailedCheckError, OSError))
                 else f"{type(error).__name__}: {error}"
             )
     return ""

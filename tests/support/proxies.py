@@ -1,5 +1,5 @@
-"""nginx and Caddy before a hall, by the files that the hall has for them. Their name,
-their ports and their certificate are of this machine, and nothing else."""
+"""Runs nginx and Caddy before a hall with the configuration files that the hall ships.
+Only host name, ports and certificate are local."""
 import contextlib
 import http.client
 import pathlib
@@ -12,7 +12,7 @@ import time
 from typing import Any, List, Sequence
 
 from arena_lab.support.built import LAB
-from tests.support.halls import SECONDS, Told
+from tests.support.halls import SECONDS, Response
 
 NAME = "arena.example.org"
 STARTS = 5
@@ -52,7 +52,7 @@ def free_everywhere() -> int:
         return port
 
 
-def connected(port: int, address: str) -> ssl.SSLSocket:
+def connect(port: int, address: str) -> ssl.SSLSocket:
     """An encrypted connection from this address, by the name of the hall."""
     plain = socket.create_connection(("127.0.0.1", port), SECONDS, (address, 0))
     return TRUSTING.wrap_socket(plain, server_hostname=NAME)
@@ -67,7 +67,7 @@ class Proxy:
         self._folder = folder
         subprocess.run(CERTIFICATE.split(), check=True, capture_output=True, cwd=folder)
         self._said = (folder / "proxy.txt").open("w")
-        # a connection of others may have a port that was free
+        # another connection may have taken the free port
         if not any(self.starts(hall) for _ in range(STARTS)):
             raise AssertionError((folder / "proxy.txt").read_text())
 
@@ -91,11 +91,11 @@ class Proxy:
         return False
 
     def ports(self) -> List[int]:
-        """The ports on which it listens."""
+        """Returns the ports that it listens on."""
         return [self.port]
 
     @classmethod
-    def found(cls) -> Any:
+    def program_path(cls) -> Any:
         """Its program, or None."""
         return shutil.which(cls.command) or shutil.which(cls.command, path="/usr/sbin")
 
@@ -104,11 +104,11 @@ class Proxy:
         raise NotImplementedError
 
     def file(self, name: str, *changes: Sequence[str]) -> str:
-        """A file of the hall, with what is of this machine."""
+        """Returns a configuration file with local values."""
         text = (LAB / "hall" / name).read_text(encoding="utf-8")
-        for said, here in changes:
-            assert said in text, said
-            text = text.replace(said, here)
+        for message, here in changes:
+            assert message in text, message
+            text = text.replace(message, here)
         return text
 
     def end(self) -> None:
@@ -118,10 +118,10 @@ class Proxy:
 
     def ask(
         self, how: str, path: str, address: str, headers: Sequence[Any], body: str = ""
-    ) -> Told:
-        """What is answered to who asks from this address."""
+    ) -> Response:
+        """Sends a request from an address through the proxy."""
         connection = http.client.HTTPConnection("127.0.0.1", self.port)
-        connection.sock = connected(self.port, address)
+        connection.sock = connect(self.port, address)
         with contextlib.closing(connection):
             connection.putrequest(how, path, skip_host=True)
             length = [("Content-Length", len(body))] if body else []
@@ -129,7 +129,7 @@ class Proxy:
                 connection.putheader(name, value)
             connection.endheaders(body.encode() or None)
             answer = connection.getresponse()
-            return Told(answer.status, answer.headers, answer.read())
+            return Response(answer.status, answer.headers, answer.read())
 
 
 class Nginx(Proxy):
@@ -153,7 +153,7 @@ class Nginx(Proxy):
         path = folder / "nginx.conf"
         path.write_text(AROUND.format(folder=folder, site=site))
         places = ["-c", str(path), "-p", str(folder), "-e", str(folder / "error.log")]
-        return [str(self.found()), *places]
+        return [str(self.program_path()), *places]
 
 
 class Caddy(Proxy):
@@ -170,4 +170,4 @@ class Caddy(Proxy):
         (self._folder / "Caddyfile").write_text(text)
         home = f"HOME={self._folder}"
         words = ["run", "--config", "Caddyfile", "--adapter", "caddyfile"]
-        return ["env", home, str(self.found()), *words]
+        return ["env", home, str(self.program_path()), *words]

@@ -17,8 +17,8 @@ PIVOT = 'mount --rbind "$0" "$0" && cd "$0" && pivot_root . mnt && umount -l /mn
 
 @contextlib.contextmanager
 def temporary() -> Iterator[pathlib.Path]:
-    """A folder for roots. It is left where something is still mounted in it, which
-    would be emptied with it."""
+    """Yields a folder for roots. It is not removed while something is mounted in it,
+    because that would delete the mounted files."""
     folder = pathlib.Path(tempfile.mkdtemp(prefix="roots-"))
     try:
         yield folder
@@ -27,9 +27,11 @@ def temporary() -> Iterator[pathlib.Path]:
             line.split()[1]
             for line in pathlib.Path("/proc/mounts").read_text().splitlines()
         ]
-        left = [it for it in mounts if it.startswith(f"{folder}/")]
-        if left:
-            print(f"{folder} is left: {', '.join(left)} is still mounted", flush=True)
+        remaining = [mount for mount in mounts if mount.startswith(f"{folder}/")]
+        if remaining:
+            print(
+                f"{folder} is left: {', '.join(remaining)} is still mounted", flush=True
+            )
         else:
             shutil.rmtree(folder)
 
@@ -38,18 +40,20 @@ def make(root: pathlib.Path, packages: Sequence[str] = ()) -> None:
     """Makes a root by `debootstrap`, with these packages besides the fewest, if none is
     there."""
     if not (root / "etc" / "debian_version").exists():
-        more = [f"--include={','.join(packages)}"] if packages else []
+        extra = [f"--include={','.join(packages)}"] if packages else []
         subprocess.run(
-            ["debootstrap", "--variant=minbase", *more, "bookworm", str(root)],
+            ["debootstrap", "--variant=minbase", *extra, "bookworm", str(root)],
             check=True,
             stdout=subprocess.DEVNULL,
         )
 
 
 @contextlib.contextmanager
-def mounted(root: pathlib.Path, bound: Dict[pathlib.Path, str] = {}) -> Iterator[None]:
-    """What a root shares with the machine, and other folders, by where they are seen;
-    nothing there may change these."""
+def mount_root(
+    root: pathlib.Path, bound: Dict[pathlib.Path, str] = {}
+) -> Iterator[None]:
+    """Mounts what a root shares with the machine, and further folders at these paths,
+    read-only."""
     places: List[pathlib.Path] = []
     LOCKS.mkdir(mode=0o700, exist_ok=True)
     try:
@@ -57,19 +61,19 @@ def mounted(root: pathlib.Path, bound: Dict[pathlib.Path, str] = {}) -> Iterator
             **{pathlib.Path("/") / name: name for name in MOUNTS},
             **bound,
         }.items():
-            place = root / name
-            place.mkdir(parents=True, exist_ok=True)
-            subprocess.run(["mount", "--rbind", str(source), str(place)], check=True)
-            places.append(place)
-            subprocess.run(["mount", "--make-rslave", str(place)], check=True)
+            folder = root / name
+            folder.mkdir(parents=True, exist_ok=True)
+            subprocess.run(["mount", "--rbind", str(source), str(folder)], check=True)
+            places.append(folder)
+            subprocess.run(["mount", "--make-rslave", str(folder)], check=True)
             if name in bound.values():
                 subprocess.run(
-                    ["mount", "-o", "remount,ro,bind", str(place)], check=True
+                    ["mount", "-o", "remount,ro,bind", str(folder)], check=True
                 )
         yield
     finally:
-        for place in reversed(places):
-            subprocess.run(["umount", "-l", str(place)])
+        for folder in reversed(places):
+            subprocess.run(["umount", "-l", str(folder)])
 
 
 def inside(root: pathlib.Path, folder: str, is_machine: bool = True) -> List[str]:

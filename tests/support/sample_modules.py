@@ -50,16 +50,16 @@ def search(agent, key):
 
 client.play("", search, 0)
 """
-# plays the search of the sample module in Python, or without an argument the one that
-# sleeps. It says first that it is not proved, as a build without a proof does
+# a stand-in for the module player: runs the sample module's search in Python, or the
+# sleeping agent without an argument, and prints the warning of unproved builds
 STAND_IN = f"""#!{sys.executable}
 import os
 import sys
 
-print({built.SAID!r}, file=sys.stderr, flush=True)
-host, port, key, option, word = sys.argv[1:]
+print({built.UNPROVED_LINE!r}, file=sys.stderr, flush=True)
+host, port, key, *options, option, word = sys.argv[1:]
 file, _, nodes = word.partition(":")
-if option != "--module" or open(file, "rb").read(4) != b"\\0asm":
+if options[:1] != ["--spurious-wakeups"] or option != "--module" or open(file, "rb").read(4) != b"\\0asm":
     sys.exit(f"bhs_player: {{file}}: head at byte 0")
 words = [{str(AGENTS / 'ring.py')!r}, host, port, key, nodes] if nodes else ["-c", {SLEEPS!r}, host, port, key]
 os.execv(sys.executable, [sys.executable, *words])

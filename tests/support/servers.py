@@ -9,28 +9,29 @@ import threading
 import time
 from typing import Any, NamedTuple, Optional, Sequence, Tuple, Union
 
-from arena_lab.rules.refusals import parted
+from arena_lab.rules.refusals import split_line
 from arena_lab.support.built import TOP
 from arena_lab.support.ports import free_port
 from arena_lab.support.waiting import is_ready
-from tests.support.counts import Wrong, require
+from tests.support.counts import FailedCheckError, require
 
 HOST = "127.0.0.1"
-# seconds within which a server says that it listens, within which it answers, and
-# within which it has ended
+# seconds for a server's start, for a reply, and for its end
 START = 20.0
 PATIENCE = 20.0
 END = 60.0
 
 
-def without_notes(told: bytes, words: Sequence[Union[str, bytes]]) -> bytes:
+def without_notes(text: bytes, words: Sequence[Union[str, bytes]]) -> bytes:
     """What a command of these words told but for notes on a tournament: ignored keys,
     the schedule, links."""
-    names = [os.fsdecode(it) for it in words]
+    names = [os.fsdecode(word) for word in words]
     return b"".join(
-        it
-        for it in told.splitlines(True)
-        if not parted(it.decode(errors="replace").removesuffix("\n"), names).is_note
+        line
+        for line in text.splitlines(True)
+        if not split_line(
+            line.decode(errors="replace").removesuffix("\n"), names
+        ).is_note
     )
 
 
@@ -38,12 +39,12 @@ class Run(NamedTuple):
     """What came of a run."""
 
     status: int
-    printed: bytes
-    told: bytes
+    stdout: bytes
+    stderr: bytes
 
     def texts(self) -> Tuple[int, str, str]:
         """The same in texts."""
-        return self.status, self.printed.decode(), self.told.decode(errors="replace")
+        return self.status, self.stdout.decode(), self.stderr.decode(errors="replace")
 
 
 def enter(key: str) -> bytes:
@@ -52,8 +53,8 @@ def enter(key: str) -> bytes:
 
 
 class Server:
-    """A server that says on which port it listens. It is killed in the end if it has
-    not ended. What it tells may go to a file."""
+    """A server on a free port. It is killed at the end of the test, and its standard
+    error may go to a file."""
 
     def __init__(
         self,
@@ -87,13 +88,15 @@ class Server:
     def __enter__(self) -> "Server":
         if self.first != self._listens:
             self.child.kill()
-            told = (
+            errors = (
                 self._errors.read_bytes()
                 if self._errors
                 else self.child.communicate()[1]
             )
             self.__exit__()
-            raise Wrong(f"the server did not start: {self.first or told!r}")
+            raise FailedCheckError(
+                f"the server did not start: {self.first or errors!r}"
+            )
         return self
 
     def __exit__(self, *_: object) -> None:
@@ -103,43 +106,43 @@ class Server:
             if stream:
                 stream.close()
 
-    def connect(self, said: bytes = b"", source: str = HOST) -> socket.socket:
+    def connect(self, text: bytes = b"", source: str = HOST) -> socket.socket:
         """A client that says this."""
         client = socket.create_connection((HOST, self.port), PATIENCE, (source, 0))
-        client.sendall(said)
+        client.sendall(text)
         return client
 
-    def hears(self, said: bytes) -> bytes:
+    def hears(self, text: bytes) -> bytes:
         """All that a client hears that says this and ends its input."""
-        with self.connect(said) as client:
+        with self.connect(text) as client:
             client.shutdown(socket.SHUT_WR)
             with client.makefile("rb") as answers:
                 return answers.read()
 
-    def says(self, said: bytes) -> None:
+    def says(self, text: bytes) -> None:
         """The operator says something on standard input, and says no end of it."""
-        self.child.stdin.write(said)
+        self.child.stdin.write(text)
         self.child.stdin.flush()
 
-    def tells(self, wanted: str) -> str:
-        """What it tells until a line has this text."""
-        told = ""
+    def tells(self, expectation: str) -> str:
+        """Reads standard error until a line contains this text; returns all of it."""
+        text = ""
         until = time.monotonic() + PATIENCE
-        while wanted not in told and time.monotonic() < until:
+        while expectation not in text and time.monotonic() < until:
             if is_ready(self.child.stderr, 0.1):
-                told += os.read(self.child.stderr.fileno(), 65_536).decode()
-        require(wanted in told, f"{wanted!r} is not told, but {told!r}")
-        return told
+                text += os.read(self.child.stderr.fileno(), 65_536).decode()
+        require(expectation in text, f"{expectation!r} is not told, but {text!r}")
+        return text
 
-    def ended(self) -> Run:
+    def wait_for_end(self) -> Run:
         """Waits until the server has ended: its exit status, what it printed after the
         line that says where it listens, and what of standard error nobody has read
         yet, but for notes on the tournament."""
-        printed, told = self.child.communicate(timeout=END)
+        output, errors = self.child.communicate(timeout=END)
         return Run(
             self.child.returncode,
-            self.first.removeprefix(self._listens) + printed,
-            without_notes(told or b"", self.child.args),
+            self.first.removeprefix(self._listens) + output,
+            without_notes(errors or b"", self.child.args),
         )
 
 

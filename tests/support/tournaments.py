@@ -13,7 +13,7 @@ TRIANGLE = Network(3, [(0, 0, 1, 0), (1, 1, 2, 0), (2, 1, 0, 1)])
 
 
 def match(
-    team: str, network: Network, holes: Sequence[int], agents: int = 2, **more: Any
+    team: str, network: Network, holes: Sequence[int], agents: int = 2, **extra: Any
 ) -> Fixture:
     """A match of a team whose agents have the keys TEAM-0, TEAM-1 and so on. `more` has
     values for fields of its fixture or its setup, in place of the usual ones."""
@@ -22,8 +22,8 @@ def match(
         Setup(network.nodes, network.links, 0, list(holes), agents, 1000, 64),
         [f"{team}-{agent}" for agent in range(agents)],
     )
-    own = {name: more.pop(name) for name in Fixture._fields if name in more}
-    return fixture._replace(setup=fixture.setup._replace(**more), **own)
+    own = {name: extra.pop(name) for name in Fixture._fields if name in extra}
+    return fixture._replace(setup=fixture.setup._replace(**extra), **own)
 
 
 def cup_files(

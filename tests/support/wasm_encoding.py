@@ -73,48 +73,48 @@ class Function(NamedTuple):
     export: str = ""
 
 
-def unsigned(number: int) -> bytes:
+def unsigned_leb128(number: int) -> bytes:
     """A number in LEB128."""
     low = number & 0x7F
     rest = number >> 7
-    return bytes([low | 0x80]) + unsigned(rest) if rest else bytes([low])
+    return bytes([low | 0x80]) + unsigned_leb128(rest) if rest else bytes([low])
 
 
-def signed(number: int) -> bytes:
+def signed_leb128(number: int) -> bytes:
     """A number in signed LEB128."""
     low = number & 0x7F
     rest = number >> 7
     is_last = rest in (0, -1) and (rest == -1) == bool(low & 0x40)
-    return bytes([low]) if is_last else bytes([low | 0x80]) + signed(rest)
+    return bytes([low]) if is_last else bytes([low | 0x80]) + signed_leb128(rest)
 
 
 def constant(value_type: int, number: int) -> bytes:
     """The instruction that pushes a number, which is taken without a sign."""
     bits = BITS[value_type]
     number %= 1 << bits
-    return CONST[value_type] + signed(
+    return CONST[value_type] + signed_leb128(
         number - (1 << bits) if number >> (bits - 1) else number
     )
 
 
 def vector(items: Iterable[bytes]) -> bytes:
     items = list(items)
-    return unsigned(len(items)) + b"".join(items)
+    return unsigned_leb128(len(items)) + b"".join(items)
 
 
 def section(number: int, body: bytes) -> bytes:
-    return bytes([number]) + unsigned(len(body)) + body
+    return bytes([number]) + unsigned_leb128(len(body)) + body
 
 
 def name(text: str) -> bytes:
-    return unsigned(len(text)) + text.encode()
+    return unsigned_leb128(len(text)) + text.encode()
 
 
 def type_of(parameters: Sequence[int], results: Sequence[int]) -> bytes:
     return (
         b"\x60"
-        + vector(bytes([it]) for it in parameters)
-        + vector(bytes([it]) for it in results)
+        + vector(bytes([parameter]) for parameter in parameters)
+        + vector(bytes([result]) for result in results)
     )
 
 
@@ -127,14 +127,15 @@ def module(
     """A module with a memory of one page that begins with this data, and with these
     functions of `arena`, which are numbered before its own."""
     host = [type_of([I32] * HOST.get(it, 0), [I32]) for it in imports]
-    own = [type_of(it.parameters, it.results) for it in functions]
+    own = [type_of(function.parameters, function.results) for function in functions]
     bodies = [
-        unsigned(len(it.body) + 2) + b"\0" + it.body + b"\x0b" for it in functions
+        unsigned_leb128(len(function.body) + 2) + b"\0" + function.body + b"\x0b"
+        for function in functions
     ]
     exports = [
-        name(it.export) + b"\0" + unsigned(len(imports) + place)
-        for place, it in enumerate(functions)
-        if it.export
+        name(function.export) + b"\0" + unsigned_leb128(len(imports) + index)
+        for index, function in enumerate(functions)
+        if function.export
     ]
     return b"\0asm\1\0\0\0" + b"".join(
         (
@@ -142,14 +143,15 @@ def module(
             section(
                 2,
                 vector(
-                    name(source) + name(it) + b"\0" + unsigned(place)
-                    for place, it in enumerate(imports)
+                    name(source) + name(it) + b"\0" + unsigned_leb128(index)
+                    for index, it in enumerate(imports)
                 ),
             ),
             section(
                 3,
                 vector(
-                    unsigned(len(imports) + place) for place in range(len(functions))
+                    unsigned_leb128(len(imports) + index)
+                    for index in range(len(functions))
                 ),
             ),
             section(5, b"\x01\x00\x01"),
@@ -158,7 +160,13 @@ def module(
             section(
                 11,
                 vector(
-                    [b"\0" + constant(I32, 0) + b"\x0b" + unsigned(len(data)) + data]
+                    [
+                        b"\0"
+                        + constant(I32, 0)
+                        + b"\x0b"
+                        + unsigned_leb128(len(data))
+                        + data
+                    ]
                     if data
                     else []
                 ),
@@ -186,7 +194,7 @@ def sections_of(file: bytes) -> Dict[int, bytes]:
     return sections
 
 
-def joined(sections: Dict[int, bytes]) -> bytes:
+def join_sections(sections: Dict[int, bytes]) -> bytes:
     """The module with these sections."""
     return b"\0asm\1\0\0\0" + b"".join(
         section(kind, sections[kind]) for kind in ORDER if kind in sections
@@ -200,23 +208,25 @@ def with_run(file: bytes) -> bytes:
     types, functions = (number_at(sections.get(kind, b"\0"))[0] for kind in (1, 3))
     for kind, item in (
         (1, type_of([], [])),
-        (3, unsigned(types)),
-        (7, name("run") + b"\0" + unsigned(functions)),
+        (3, unsigned_leb128(types)),
+        (7, name("run") + b"\0" + unsigned_leb128(functions)),
         (10, b"\2\0\x0b"),
     ):
         count, items = number_at(sections.get(kind, b"\0"))
-        sections[kind] = unsigned(count + 1) + items + item
-    return joined(sections)
+        sections[kind] = unsigned_leb128(count + 1) + items + item
+    return join_sections(sections)
 
 
 def numeric() -> Dict[str, Function]:
     """A function for each instruction on integers, by its opcode."""
-    found: Dict[str, Function] = {}
+    results: Dict[str, Function] = {}
 
     def add(opcodes: Iterable[int], operands: Sequence[int], result: int) -> None:
-        push = b"".join(b"\x20" + unsigned(place) for place in range(len(operands)))
+        push = b"".join(
+            b"\x20" + unsigned_leb128(index) for index in range(len(operands))
+        )
         for opcode in opcodes:
-            found[f"{opcode:02x}"] = Function(
+            results[f"{opcode:02x}"] = Function(
                 operands, [result], push + bytes([opcode])
             )
 
@@ -230,19 +240,20 @@ def numeric() -> Dict[str, Function]:
     add(range(0x7C, 0x8B), [I64, I64], I64)
     add([0xA7], [I64], I32)
     add([0xAC, 0xAD], [I32], I64)
-    return found
+    return results
 
 
 def in_memory() -> Dict[str, Function]:
-    """A function for each load, and for each store one that then loads the eight bytes
-    around, by the opcode. The first operand is the address."""
-    found: Dict[str, Function] = {}
+    """Returns functions by opcode: a load for each load instruction, and for each store
+    instruction a store followed by a load of the surrounding eight bytes. The first
+    operand is the address."""
+    results: Dict[str, Function] = {}
     for opcodes, value_type in (
         ((0x28, 0x2C, 0x2D, 0x2E, 0x2F), I32),
         ((0x29, *range(0x30, 0x36)), I64),
     ):
         for opcode in opcodes:
-            found[f"{opcode:02x}"] = Function(
+            results[f"{opcode:02x}"] = Function(
                 [I32], [value_type], b"\x20\x00" + bytes([opcode, 0, 3])
             )
     for opcodes, value_type in (
@@ -251,11 +262,11 @@ def in_memory() -> Dict[str, Function]:
     ):
         for opcode in opcodes:
             store = b"\x20\x00\x20\x01" + bytes([opcode, 0, 1])
-            aligned = b"\x20\x00" + constant(I32, 0xFFF8) + b"\x71"
-            found[f"{opcode:02x}"] = Function(
-                [I32, value_type], [I64], store + aligned + b"\x29\x00\x00"
+            aligned_value = b"\x20\x00" + constant(I32, 0xFFF8) + b"\x71"
+            results[f"{opcode:02x}"] = Function(
+                [I32, value_type], [I64], store + aligned_value + b"\x29\x00\x00"
             )
-    return found
+    return results
 
 
 class Call(NamedTuple):
@@ -277,7 +288,7 @@ def operands_of(function: Function, reaches: bool) -> List[Tuple[int, ...]]:
         ]
     if len(function.parameters) == 1:
         return [(number,) for number in OPERANDS]
-    return [(one, other) for one in OPERANDS for other in OPERANDS]
+    return [(first, second) for first in OPERANDS for second in OPERANDS]
 
 
 def told_by_node(
@@ -285,14 +296,16 @@ def told_by_node(
 ) -> List[Call]:
     """Calls each function with many operands, by node. Writes the module that it runs
     to a file."""
-    exported = [it._replace(export=opcode) for opcode, it in functions.items()]
-    file.write_bytes(module(exported, data=data))
+    exported_value = [
+        function._replace(export=opcode) for opcode, function in functions.items()
+    ]
+    file.write_bytes(module(exported_value, data=data))
     calls = [
         (opcode, operands)
         for opcode, function in functions.items()
         for operands in operands_of(function, reaches)
     ]
-    asked = [
+    request = [
         [
             opcode,
             [
@@ -302,16 +315,16 @@ def told_by_node(
         ]
         for opcode, operands in calls
     ]
-    ran = subprocess.run(
+    result = subprocess.run(
         ["node", "-e", NODE, str(file)],
-        input=json.dumps(asked),
+        input=json.dumps(request),
         text=True,
         check=True,
         stdout=subprocess.PIPE,
     )
     return [
-        Call(opcode, operands, None if told is None else int(told))
-        for (opcode, operands), told in zip(calls, json.loads(ran.stdout))
+        Call(opcode, operands, None if message is None else int(message))
+        for (opcode, operands), message in zip(calls, json.loads(result.stdout))
     ]
 
 
@@ -331,9 +344,14 @@ def checks(functions: Dict[str, Function], calls: Sequence[Call], data: bytes) -
             )
             result = function.results[0]
             part += (
-                push + b"\x10" + unsigned(len(parts)) + constant(result, call.result)
+                push
+                + b"\x10"
+                + unsigned_leb128(len(parts))
+                + constant(result, call.result)
             )
             part += NOT_EQUAL[result] + b"\x04\x40\x00\x0b"
         parts += [function, Function([], [], part)]
-    run = b"".join(b"\x10" + unsigned(place) for place in range(1, len(parts), 2))
+    run = b"".join(
+        b"\x10" + unsigned_leb128(index) for index in range(1, len(parts), 2)
+    )
     return module([*parts, Function([], [], run, "run")], data=data)

@@ -54,8 +54,8 @@ def is_one_minus(node: ast.AST) -> bool:
 
 def labels(node: ast.AST) -> Iterator[Change]:
     """Drops the label of an arrival."""
-    called = isinstance(node, ast.Call) and name_in(node.func) in ("back", "_port")
-    if called or isinstance(node, ast.Attribute) and node.attr == "came":
+    caller = isinstance(node, ast.Call) and name_in(node.func) in ("back", "_port")
+    if caller or isinstance(node, ast.Attribute) and node.attr == "came":
         yield from (("label", ast.Constant(port)) for port in (0, 1))
     if isinstance(node, ast.Call) and name_in(node.func) == "_port":
         yield "label", node.args[0]
@@ -71,9 +71,9 @@ def labels(node: ast.AST) -> Iterator[Change]:
 def compares(node: ast.AST) -> Iterator[Change]:
     """Swaps a comparison, or trusts one of two conditions."""
     if isinstance(node, ast.Compare):
-        for other in FLIPS.get(type(node.ops[0]), ()):
+        for second in FLIPS.get(type(node.ops[0]), ()):
             again = copy.deepcopy(node)
-            again.ops[0] = other()
+            again.ops[0] = second()
             yield "compare", again
     if isinstance(node, ast.BoolOp):
         op = ast.And() if isinstance(node.op, ast.Or) else ast.Or()
@@ -137,7 +137,7 @@ def changes(node: ast.AST) -> Iterator[Change]:
 
 
 def left_out(row: ast.stmt) -> Iterator[Change]:
-    """A statement that is left out. Of an assignment the call is made all the same."""
+    """Yields mutations that remove a statement; the call of an assignment stays."""
     if isinstance(row, ast.Assign):
         yield "look again", ast.Expr(row.value)
     elif isinstance(row, (ast.AugAssign, ast.Continue, ast.Break, ast.If)):
@@ -147,41 +147,41 @@ def left_out(row: ast.stmt) -> Iterator[Change]:
 
 
 def places(top: ast.AST) -> Iterator[Tuple[ast.AST, str, int, ast.AST]]:
-    """Each node below one, with where it stands: its parent, the field, and the place
-    in that, or -1."""
+    """Yields each node below `top` with its parent, field and index (-1 outside of
+    lists)."""
     for parent in ast.walk(top):
         for field, value in ast.iter_fields(parent):
             if field in ("decorator_list", "returns", "annotation", "func"):
                 continue
             rows = value if isinstance(value, list) else [value]
-            for place, node in enumerate(rows):
+            for index, node in enumerate(rows):
                 if isinstance(node, ast.AST) and not isinstance(node, ast.arguments):
-                    yield parent, field, place if isinstance(value, list) else -1, node
+                    yield parent, field, index if isinstance(value, list) else -1, node
 
 
-def put(parent: ast.AST, field: str, place: int, node: ast.AST) -> None:
+def put_node(parent: ast.AST, field: str, index: int, node: ast.AST) -> None:
     """Puts a node where another stood."""
-    if place < 0:
+    if index < 0:
         setattr(parent, field, node)
     else:
-        getattr(parent, field)[place] = node
+        getattr(parent, field)[index] = node
 
 
 def of_python(text: str, within: Sequence[str]) -> Iterator[Mutant]:
     """The mutants of a file in Python: changes in functions and classes of these
     names."""
     tree = ast.parse(text)
-    seen = {ast.unparse(tree)}
+    observations = {ast.unparse(tree)}
     tops = [it for it in tree.body if getattr(it, "name", None) in within]
-    for parent, field, place, node in [it for top in tops for it in places(top)]:
-        found = list(changes(node))
-        found += left_out(node) if isinstance(node, ast.stmt) else []
-        for rule, new in found:
-            put(parent, field, place, new)
+    for parent, field, position, node in [it for top in tops for it in places(top)]:
+        results = list(changes(node))
+        results += left_out(node) if isinstance(node, ast.stmt) else []
+        for rule, new in results:
+            put_node(parent, field, position, new)
             whole = ast.unparse(ast.fix_missing_locations(tree))
-            put(parent, field, place, node)
-            if whole not in seen and is_python(whole):
-                seen.add(whole)
+            put_node(parent, field, position, node)
+            if whole not in observations and is_python(whole):
+                observations.add(whole)
                 before = ast.unparse(node).splitlines()[0]
                 yield Mutant(rule, getattr(node, "lineno", 0), before, whole + "\n")
 
@@ -194,7 +194,7 @@ def is_python(text: str) -> bool:
     return True
 
 
-# a rule, what stands in a line, and what stands there then
+# (rule, pattern, replacement)
 TEXT_RULES: Tuple[Tuple[str, str, str], ...] = (
     ("label", r"1 - (\(await [^;]*\)|\S*here)(\.came)", r"1"),
     ("label", r"(found|here)\.came", r"0"),
@@ -224,11 +224,11 @@ def of_text(text: str, first: str, last: str) -> Iterator[Mutant]:
     lines = text.splitlines(keepends=True)
     begin = next(it for it, line in enumerate(lines) if line.startswith(first))
     end = next(it for it, line in enumerate(lines) if line.startswith(last))
-    seen: List[str] = [text]
+    observations: List[str] = [text]
     for number in range(begin, end):
         for rule, before, after in TEXT_RULES:
             line = re.sub(before, after, lines[number], count=1)
             whole = "".join([*lines[:number], line, *lines[number + 1 :]])
-            if whole not in seen:
-                seen.append(whole)
+            if whole not in observations:
+                observations.append(whole)
                 yield Mutant(rule, number + 1, lines[number].strip(), whole)

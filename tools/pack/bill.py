@@ -10,51 +10,55 @@ from tools.prove import version
 from tools.prove.prover import Libraries
 from tools.prove.record import below_programs, programs_in
 
-# how a crate of the toolchain says what it is a port of
-PORTED = re.compile(r"\b(?:[Cc]rate|[Uu]pstream's) `([\w-]+)` (\d+(?:\.\d+)+)")
-NEEDED = re.compile(r"^dep (\w+)$", re.M)
+# how a toolchain crate names the Rust crate that it ports
+PORTED_LINE = re.compile(r"\b(?:[Cc]rate|[Uu]pstream's) `([\w-]+)` (\d+(?:\.\d+)+)")
+NEEDED_LINE = re.compile(r"^dep (\w+)$", re.M)
 
 
-def linked(kit: pathlib.Path, libraries: Libraries) -> List[str]:
+def linked_crates(kit: pathlib.Path, libraries: Libraries) -> List[str]:
     """The crates of the toolchain that the programs stand on, by name."""
     programs = programs_in(libraries)
     names = ["std"]
     for crate in [*below_programs(libraries, programs), *programs]:
-        names += [it for it in libraries[crate] if it not in libraries]
-    found = list(dict.fromkeys(names))
-    for name in found:
-        made = kit / "rlibs" / f"{name}.rlib" / "format"
-        text = made.read_text() if made.is_file() else ""
-        found += [it for it in NEEDED.findall(text) if it not in found]
-    return sorted(found)
+        names += [library for library in libraries[crate] if library not in libraries]
+    crates = list(dict.fromkeys(names))
+    for name in crates:
+        format_file = kit / "rlibs" / f"{name}.rlib" / "format"
+        text = format_file.read_text() if format_file.is_file() else ""
+        crates += [
+            library for library in NEEDED_LINE.findall(text) if library not in crates
+        ]
+    return sorted(crates)
 
 
 def component(kit: pathlib.Path, name: str) -> Dict[str, Any]:
-    """A crate of the toolchain, and the Rust crate that it is a port of, if it says
-    so."""
+    """Describes a crate of the toolchain, with the Rust crate that it ports, if its
+    README names one."""
     page = kit / "rattle" / name / "README.md"
-    ported = PORTED.search(page.read_text(encoding="utf-8") if page.is_file() else "")
-    found: Dict[str, Any] = {
+    match = PORTED_LINE.search(
+        page.read_text(encoding="utf-8") if page.is_file() else ""
+    )
+    facts: Dict[str, Any] = {
         "type": "library",
         "name": name,
-        "version": version.installed().partition(" ")[2],
+        "version": version.installed_version().partition(" ")[2],
         "group": "rattle",
     }
-    if ported:
+    if match:
         ancestor = {
             "type": "library",
-            "name": ported[1],
-            "version": ported[2],
-            "purl": f"pkg:cargo/{ported[1]}@{ported[2]}",
+            "name": match[1],
+            "version": match[2],
+            "purl": f"pkg:cargo/{match[1]}@{match[2]}",
         }
-        found["pedigree"] = {"ancestors": [ancestor]}
-    return found
+        facts["pedigree"] = {"ancestors": [ancestor]}
+    return facts
 
 
 def bill_of(kit: pathlib.Path, libraries: Libraries, glibc: str) -> str:
     """The whole bill. The programs also ask the system for a C library of this version
     or a newer one."""
-    components = [component(kit, name) for name in linked(kit, libraries)]
+    components = [component(kit, name) for name in linked_crates(kit, libraries)]
     components.append({"type": "library", "name": "glibc", "version": glibc})
     whole = {
         "bomFormat": "CycloneDX",

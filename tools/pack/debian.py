@@ -13,8 +13,8 @@ from tools.pack.wheel import READABLE, RUNNABLE, File, Files
 HOME = "usr/lib/arena/"
 DOCUMENTS = "usr/share/doc/arena/"
 SITE = DOCUMENTS + "html/"
-# what stands in the folder of documents, and not beside the program
-DOCUMENTED = ("README.md", "CHANGELOG.md", "docs/")
+# files installed in the documents' folder instead of the program's
+DOCUMENT_FILES = ("README.md", "CHANGELOG.md", "docs/")
 # what leads elsewhere
 LINKS = {
     "usr/bin/arena": "../lib/arena/arena",
@@ -72,32 +72,32 @@ find /{HOME.rstrip('/')} -name __pycache__ -type d -prune -exec rm -rf {{}} +
 """
 
 
-class NoPackage(Exception):
+class PackageError(Exception):
     """The package cannot be made; says what to do."""
 
 
 def files_of(
-    released: Files, pages: Dict[str, str], completions: Dict[str, str], site: Files
+    files: Files, pages: Dict[str, str], completions: Dict[str, str], site: Files
 ) -> Files:
     """The files of the package by their paths, but for links."""
-    found = {
-        (DOCUMENTS if path.startswith(DOCUMENTED) else HOME) + path: file
-        for path, file in released.items()
+    package_files = {
+        (DOCUMENTS if path.startswith(DOCUMENT_FILES) else HOME) + path: file
+        for path, file in files.items()
         if path != "SHA256SUMS"
     }
     for name in ("PROVED.txt", "UNPROVED.txt"):
-        if name in released:
-            found[DOCUMENTS + name] = released[name]
-    found["usr/bin/arena-lab"] = File(LAB.encode(), RUNNABLE)
-    if SERVICE in released:
-        found[SYSTEM] = released[SERVICE]
+        if name in files:
+            package_files[DOCUMENTS + name] = files[name]
+    package_files["usr/bin/arena-lab"] = File(LAB.encode(), RUNNABLE)
+    if SERVICE in files:
+        package_files[SYSTEM] = files[SERVICE]
     for name, text in pages.items():
-        found[f"usr/share/man/man1/{name}.gz"] = File(
+        package_files[f"usr/share/man/man1/{name}.gz"] = File(
             gzip.compress(text.encode(), 9, mtime=0), READABLE
         )
     for path, text in completions.items():
-        found[f"usr/share/{path}"] = File(text.encode(), READABLE)
-    return {**found, **{SITE + path: file for path, file in site.items()}}
+        package_files[f"usr/share/{path}"] = File(text.encode(), READABLE)
+    return {**package_files, **{SITE + path: file for path, file in site.items()}}
 
 
 def control(files: Files, version: str, glibc: str, is_proved: bool) -> Files:
@@ -118,23 +118,23 @@ def control(files: Files, version: str, glibc: str, is_proved: bool) -> Files:
     }
 
 
-def packed(files: Files, links: Dict[str, str], seconds: int) -> bytes:
+def pack(files: Files, links: Dict[str, str], seconds: int) -> bytes:
     """The package of these files and links, all of one time and owned by root."""
     with tempfile.TemporaryDirectory() as name:
         top = pathlib.Path(name) / "top"
         for path, file in files.items():
-            place = top / path
-            place.parent.mkdir(parents=True, exist_ok=True)
-            place.write_bytes(file.text)
-            place.chmod(file.mode)
+            path_in_package = top / path
+            path_in_package.parent.mkdir(parents=True, exist_ok=True)
+            path_in_package.write_bytes(file.text)
+            path_in_package.chmod(file.mode)
         for path, target in links.items():
             (top / path).parent.mkdir(parents=True, exist_ok=True)
             (top / path).symlink_to(target)
-        for place in [top, *top.rglob("*")]:
-            if place.is_dir() and not place.is_symlink():
-                place.chmod(0o755)
-            os.utime(place, (seconds, seconds), follow_symlinks=False)
-        made = pathlib.Path(name) / "made.deb"
+        for path_in_package in [top, *top.rglob("*")]:
+            if path_in_package.is_dir() and not path_in_package.is_symlink():
+                path_in_package.chmod(0o755)
+            os.utime(path_in_package, (seconds, seconds), follow_symlinks=False)
+        package = pathlib.Path(name) / "made.deb"
         words = [
             "dpkg-deb",
             "--root-owner-group",
@@ -142,7 +142,7 @@ def packed(files: Files, links: Dict[str, str], seconds: int) -> bytes:
             "--threads-max=1",
             "--build",
             str(top),
-            str(made),
+            str(package),
         ]
         try:
             subprocess.run(
@@ -153,11 +153,11 @@ def packed(files: Files, links: Dict[str, str], seconds: int) -> bytes:
                 env={**os.environ, "SOURCE_DATE_EPOCH": str(seconds)},
             )
         except FileNotFoundError:
-            raise NoPackage(
+            raise PackageError(
                 "dpkg-deb is missing: install Debian's package dpkg"
             ) from None
         except subprocess.CalledProcessError as fault:
-            raise NoPackage(
+            raise PackageError(
                 f"dpkg-deb: {fault.stderr.decode(errors='replace').strip()}"
             ) from None
-        return made.read_bytes()
+        return package.read_bytes()

@@ -30,37 +30,37 @@ class Help(NamedTuple):
 
 
 def of_program(program: str) -> List[Help]:
-    """The help texts of the program and of each of its commands."""
-    first = asked(program, "--help")
+    """Returns the help texts of the program and all its commands."""
+    first = help_text(program, "--help")
     commands = [
         name for name in COMMAND.findall(part_of(first, "Commands")) if name != "help"
     ]
-    found = [
+    helps = [
         Help("arena", "a contest server for black hole search by mobile agents", first)
     ]
     for name in commands:
         about = re.search(rf"^ +{name}  (.*)$", first, re.M)
-        found.append(
+        helps.append(
             Help(
                 f"arena {name}",
                 about[1] if about else "",
-                asked(program, name, "--help"),
+                help_text(program, name, "--help"),
             )
         )
-    return found
+    return helps
 
 
-def asked(program: str, *words: str) -> str:
+def help_text(program: str, *words: str) -> str:
     """What the program says for these words, without what one that is not proved says
     of itself."""
-    ran = subprocess.run(
+    result = subprocess.run(
         [program, *words],
         stdin=subprocess.DEVNULL,
         stdout=subprocess.PIPE,
         stderr=subprocess.DEVNULL,
         check=True,
     )
-    return ran.stdout.decode()
+    return result.stdout.decode()
 
 
 def part_of(text: str, heading: str) -> str:
@@ -74,34 +74,36 @@ def statuses_of(text: str) -> List[Tuple[str, str]]:
     part = part_of(text, "Exit status") or part_of(text, "exit status")
     rows: List[List[str]] = []
     for line in part.splitlines():
-        found = re.match(r"^ {2}(\d+) +(.*)$", line)
-        if found:
-            rows.append([*found.groups()])
+        match = re.match(r"^ {2}(\d+) +(.*)$", line)
+        if match:
+            rows.append([*match.groups()])
         elif rows and line.strip():
             rows[-1][1] += f" {line.strip()}"
     return [(status, text) for status, text in rows]
 
 
 def of_lab() -> List[Help]:
-    """The help texts of the lab and of each of its commands."""
-    from arena_lab import INSTALLED
+    """Returns the help texts of the lab and all its commands."""
+    from arena_lab import INSTALLED_COMMAND
     from arena_lab.__main__ import COMMANDS, parser
 
     before = os.environ.get("COLUMNS")
     os.environ["COLUMNS"] = str(WIDTH)
     try:
-        made = parser(INSTALLED)
-        commands = next(it for it in made._actions if it.dest == "command").choices
-        found = [
+        lab_parser = parser(INSTALLED_COMMAND)
+        commands = next(
+            action for action in lab_parser._actions if action.dest == "command"
+        ).choices
+        helps = [
             Help(
-                INSTALLED,
+                INSTALLED_COMMAND,
                 "plays agents under a schedule that you choose",
-                made.format_help(),
+                lab_parser.format_help(),
             )
         ]
-        return found + [
+        return helps + [
             Help(
-                f"{INSTALLED} {name}",
+                f"{INSTALLED_COMMAND} {name}",
                 COMMANDS[name].about,
                 commands[name].format_help(),
             )
@@ -113,7 +115,7 @@ def of_lab() -> List[Help]:
             os.environ["COLUMNS"] = before
 
 
-def escaped(text: str) -> str:
+def escape(text: str) -> str:
     """Text as troff takes it: no line of it is a request."""
     lines = text.replace("\\", "\\e").replace("-", "\\-").split("\n")
     return "\n".join(
@@ -121,24 +123,24 @@ def escaped(text: str) -> str:
     )
 
 
-def page_of(help_text: Help, version: str, day: str, others: List[str]) -> str:
+def page_of(help_text: Help, version: str, day: str, related: List[str]) -> str:
     """A man page: the help text under headings, as it is laid out."""
     parts = HEADING.split(f"DESCRIPTION:\n{help_text.text}")
     body = "".join(
-        f".SH {heading.upper()}\n.nf\n{escaped(text.strip(chr(10)))}\n.fi\n"
+        f".SH {heading.upper()}\n.nf\n{escape(text.strip(chr(10)))}\n.fi\n"
         for heading, text in zip(parts[1::2], parts[2::2])
         if text.strip()
     )
-    also = ", ".join(f".BR {name} (1)" for name in others if name != help_text.name())
+    also = ", ".join(f".BR {name} (1)" for name in related if name != help_text.name())
     see = (
-        "".join(f".BR {name} (1)\n" for name in others if name != help_text.name())
+        "".join(f".BR {name} (1)\n" for name in related if name != help_text.name())
         if also
         else ""
     )
     about = help_text.about.rstrip(".")
     return (
         f'.TH {help_text.name().upper().replace("-", chr(92) + "-")} 1 "{day}" "arena {version}"\n'
-        f".SH NAME\n{escaped(help_text.name())} \\- {escaped(about)}\n{body}"
+        f".SH NAME\n{escape(help_text.name())} \\- {escape(about)}\n{body}"
         + (f".SH SEE ALSO\n{see}" if see else "")
     )
 
@@ -146,36 +148,46 @@ def page_of(help_text: Help, version: str, day: str, others: List[str]) -> str:
 def pages(helps: List[Help], version: str, day: str) -> Dict[str, str]:
     """All man pages, by the names of their files. Each names its command's first page,
     and that one names all."""
-    found = {}
-    for one in helps:
-        first = one.words.split(" ")[0]
-        others = (
-            [it.name() for it in helps if it.words.split(" ")[0] == first]
-            if one.words == first
+    texts = {}
+    for help_text in helps:
+        first = help_text.words.split(" ")[0]
+        related = (
+            [
+                help_text.name()
+                for help_text in helps
+                if help_text.words.split(" ")[0] == first
+            ]
+            if help_text.words == first
             else [first]
         )
-        found[f"{one.name()}.1"] = page_of(one, version, day, others)
-    return found
+        texts[f"{help_text.name()}.1"] = page_of(help_text, version, day, related)
+    return texts
 
 
 def completion(helps: List[Help]) -> str:
     """A script by which bash completes the commands, their options, and names of
     files."""
     tables = []
-    for first in dict.fromkeys(it.words.split(" ")[0] for it in helps):
-        own = [it for it in helps if it.words.split(" ")[0] == first]
-        commands = [it.words.split(" ")[1] for it in own if " " in it.words]
+    for first in dict.fromkeys(help_text.words.split(" ")[0] for help_text in helps):
+        own_helps = [
+            help_text for help_text in helps if help_text.words.split(" ")[0] == first
+        ]
+        commands = [
+            help_text.words.split(" ")[1]
+            for help_text in own_helps
+            if " " in help_text.words
+        ]
         cases = "".join(
-            f"        {it.words.split(' ')[1]}) options=\"{' '.join(it.options())}\" ;;\n"
-            for it in own
-            if " " in it.words
+            f"        {help_text.words.split(' ')[1]}) options=\"{' '.join(help_text.options())}\" ;;\n"
+            for help_text in own_helps
+            if " " in help_text.words
         )
         tables.append(
             TABLE.format(
                 name=first.replace("-", "_"),
                 command=first,
                 commands=" ".join(commands),
-                options=" ".join(own[0].options()),
+                options=" ".join(own_helps[0].options()),
                 cases=cases,
             )
         )
@@ -205,37 +217,40 @@ complete -o filenames -F _{name} {command}
 
 def in_quotes(text: str) -> str:
     """A word of a shell."""
-    quoted = text.replace("'", "'\\''")
-    return f"'{quoted}'"
+    text_in_quotes = text.replace("'", "'\\''")
+    return f"'{text_in_quotes}'"
 
 
-def described(one: Help) -> str:
-    """What a command does, on one line."""
-    return one.about.split("\n")[0].rstrip(".")
+def describe(help: Help) -> str:
+    """Returns the one-line description of a command."""
+    return help.about.split("\n")[0].rstrip(".")
 
 
 def by_program(helps: List[Help]) -> Dict[str, List[Help]]:
     """The commands of each program, the program itself first."""
-    found: Dict[str, List[Help]] = {}
-    for one in helps:
-        found.setdefault(one.words.split(" ")[0], []).append(one)
-    return found
+    helps_by_program: Dict[str, List[Help]] = {}
+    for help_text in helps:
+        helps_by_program.setdefault(help_text.words.split(" ")[0], []).append(help_text)
+    return helps_by_program
 
 
 def zsh_completion(helps: List[Help]) -> str:
     """A script by which zsh does the same, and says what each command does."""
     programs = by_program(helps)
     tables = []
-    for program, (first, *own) in programs.items():
-        named = [in_quotes(f"{it.words.split(' ')[1]}:{described(it)}") for it in own]
+    for program, (first, *commands) in programs.items():
+        descriptions = [
+            in_quotes(f"{help_text.words.split(' ')[1]}:{describe(help_text)}")
+            for help_text in commands
+        ]
         cases = "".join(
-            f"        {it.words.split(' ')[1]}) options=({' '.join(it.options())}) ;;\n"
-            for it in own
+            f"        {help_text.words.split(' ')[1]}) options=({' '.join(help_text.options())}) ;;\n"
+            for help_text in commands
         )
         tables.append(
             ZSH.format(
                 name=program.replace("-", "_"),
-                commands=" ".join(named),
+                commands=" ".join(descriptions),
                 options=" ".join(first.options()),
                 cases=cases,
             )
@@ -244,7 +259,7 @@ def zsh_completion(helps: List[Help]) -> str:
         f"    {program}) _{program.replace('-', '_')} ;;\n" for program in programs
     )
     return (
-        f"#compdef {' '.join(programs)}\n{MADE}\n"
+        f"#compdef {' '.join(programs)}\n{COMPLETION_HEAD}\n"
         + "\n".join(tables)
         + f"\ncase $service in\n{calls}esac\n"
     )
@@ -252,25 +267,27 @@ def zsh_completion(helps: List[Help]) -> str:
 
 def fish_completion(program: str, helps: List[Help]) -> str:
     """A script by which fish does the same for one program."""
-    first, *own = by_program(helps)[program]
-    lines = [MADE, *fish_options(program, "__fish_use_subcommand", first)]
-    for one in own:
-        name = one.words.split(" ")[1]
+    first, *commands = by_program(helps)[program]
+    lines = [COMPLETION_HEAD, *fish_options(program, "__fish_use_subcommand", first)]
+    for help_text in commands:
+        name = help_text.words.split(" ")[1]
         lines.append(
             f"complete -c {program} -f -n __fish_use_subcommand -a {name} "
-            f"-d {in_quotes(described(one))}"
+            f"-d {in_quotes(describe(help_text))}"
         )
-        lines += fish_options(program, f"'__fish_seen_subcommand_from {name}'", one)
+        lines += fish_options(
+            program, f"'__fish_seen_subcommand_from {name}'", help_text
+        )
     return "\n".join(lines) + "\n"
 
 
-def fish_options(program: str, when: str, one: Help) -> List[str]:
+def fish_options(program: str, when: str, help: Help) -> List[str]:
     return [
-        f"complete -c {program} -n {when} -l {option[2:]}" for option in one.options()
+        f"complete -c {program} -n {when} -l {option[2:]}" for option in help.options()
     ]
 
 
-MADE = "# completes commands and options; made of the help texts"
+COMPLETION_HEAD = "# completes commands and options; made of the help texts"
 ZSH = """_{name}() {{
     local -a commands options
     commands=({commands})
@@ -293,16 +310,16 @@ ZSH = """_{name}() {{
 
 def completions(helps: List[Help]) -> Dict[str, str]:
     """The completions of all shells, by where they stand below `share`."""
-    found = {
+    texts = {
         "bash-completion/completions/arena": completion(helps),
         "zsh/vendor-completions/_arena": zsh_completion(helps),
     }
     for program in by_program(helps):
-        place = f"fish/vendor_completions.d/{program}.fish"
-        found[place] = fish_completion(program, helps)
-    return found
+        path = f"fish/vendor_completions.d/{program}.fish"
+        texts[path] = fish_completion(program, helps)
+    return texts
 
 
 def whole(program: Optional[str]) -> List[Help]:
-    """The help texts of all commands, of the program too if there is one."""
+    """Returns the help texts of the lab, and of the program if one is given."""
     return [*(of_program(program) if program else []), *of_lab()]

@@ -1,4 +1,4 @@
-"""A wheel of the lab with the program in it, for pip. The same files give the same
+"""Builds a wheel that contains the lab and the program. Equal files give equal
 bytes."""
 import base64
 import hashlib
@@ -12,10 +12,9 @@ from typing import Dict, List, NamedTuple, Tuple
 RUNNABLE = 0o755
 READABLE = 0o644
 NAME = "arena_lab"
-# the folder of the programs and of their records in the package, and the folders beside
-# the lab
+# folder of programs and their records in the package, and data folders beside the lab
 PROGRAM = "arena_lab/program/"
-BESIDE = ("examples/", "experiments/", "docs/")
+DATA_FOLDERS = ("examples/", "experiments/", "docs/")
 
 
 class File(NamedTuple):
@@ -42,23 +41,23 @@ def tag_of(glibc: str) -> str:
     )
 
 
-def files_of(released: Files, extra: Files) -> Files:
+def files_of(files: Files, extra: Files) -> Files:
     """The files of the package: the lab, the programs with the texts that say what was
     proved, examples and documents."""
-    found = {
-        path: file for path, file in released.items() if path.startswith("arena_lab/")
+    package_files = {
+        path: file for path, file in files.items() if path.startswith("arena_lab/")
     }
-    found.update(
+    package_files.update(
         {
             f"arena_lab/{path}": file
-            for path, file in released.items()
-            if path.startswith(BESIDE)
+            for path, file in files.items()
+            if path.startswith(DATA_FOLDERS)
         }
     )
     for path in ("bin/arena", "bin/bhs_player", "BUILD", "PROVED.txt", "UNPROVED.txt"):
-        if path in released:
-            found[PROGRAM + path.rpartition("/")[2]] = released[path]
-    return {**found, **extra}
+        if path in files:
+            package_files[PROGRAM + path.rpartition("/")[2]] = files[path]
+    return {**package_files, **extra}
 
 
 def metadata(project: bytes, version: str, readme: str) -> str:
@@ -70,12 +69,12 @@ def metadata(project: bytes, version: str, readme: str) -> str:
         f"Version: {version}",
         f"Summary: {table['description']}",
         f"Requires-Python: {table['requires-python']}",
-        *(f"Requires-Dist: {it}" for it in table["dependencies"]),
+        *(f"Requires-Dist: {requirement}" for requirement in table["dependencies"]),
     ]
     for extra, needs in table["optional-dependencies"].items():
         lines += [
             f"Provides-Extra: {extra}",
-            *(f'Requires-Dist: {it}; extra == "{extra}"' for it in needs),
+            *(f'Requires-Dist: {need}; extra == "{extra}"' for need in needs),
         ]
     return "\n".join([*lines, "Description-Content-Type: text/markdown", "", readme])
 
@@ -83,9 +82,7 @@ def metadata(project: bytes, version: str, readme: str) -> str:
 ENTRY_POINTS = "[console_scripts]\narena = arena_lab.start:arena\narena-lab = arena_lab.start:lab\n"
 
 
-def packed(
-    files: Files, project: bytes, version: str, glibc: str, seconds: int
-) -> bytes:
+def pack(files: Files, project: bytes, version: str, glibc: str, seconds: int) -> bytes:
     """The wheel."""
     info = f"{NAME}-{version}.dist-info"
     readme = (
@@ -108,20 +105,20 @@ def packed(
         f"{path},sha256={digest_of(file.text)},{len(file.text)}"
         for path, file in sorted(whole.items())
     ]
-    listed: List[Tuple[str, File]] = sorted(whole.items())
-    listed.append(
+    items: List[Tuple[str, File]] = sorted(whole.items())
+    items.append(
         (record, File("\n".join([*rows, f"{record},,", ""]).encode(), READABLE))
     )
-    made = io.BytesIO()
+    buffer = io.BytesIO()
     moment = time.gmtime(max(seconds, 315_532_800))[:6]
-    with zipfile.ZipFile(made, "w", zipfile.ZIP_DEFLATED, compresslevel=9) as archive:
-        for path, file in listed:
+    with zipfile.ZipFile(buffer, "w", zipfile.ZIP_DEFLATED, compresslevel=9) as archive:
+        for path, file in items:
             entry = zipfile.ZipInfo(path, moment)
             entry.compress_type = zipfile.ZIP_DEFLATED
             entry.create_system = 3
             entry.external_attr = (0o100000 | file.mode) << 16
             archive.writestr(entry, file.text)
-    return made.getvalue()
+    return buffer.getvalue()
 
 
 def digest_of(text: bytes) -> str:

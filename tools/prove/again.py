@@ -22,7 +22,7 @@ from typing import Dict, List
 
 from tools.prove.prover import KIT, TOP, workers
 
-KEPT = pathlib.Path("/opt/rattle-kept")
+KEPT_FOLDER = pathlib.Path("/opt/rattle-kept")
 PROGRAM = "bhs_main"
 # a row of `readelf --sections --wide`: the name, and behind type and address the place
 # in the file and the size
@@ -33,7 +33,7 @@ SECTION = re.compile(
 ABSENT = "NOBITS"
 
 
-def cloned(commit: str, folder: pathlib.Path) -> pathlib.Path:
+def clone_commit(commit: str, folder: pathlib.Path) -> pathlib.Path:
     """A clone of a commit without its edits."""
     clone = folder / "clone"
     subprocess.run(
@@ -46,12 +46,12 @@ def cloned(commit: str, folder: pathlib.Path) -> pathlib.Path:
     return clone
 
 
-def proved(clone: pathlib.Path, jobs: int) -> pathlib.Path:
+def prove_clone(clone: pathlib.Path, jobs: int) -> pathlib.Path:
     """The program that is made of a clone with nothing kept."""
     empty = clone.parent / "kept"
     empty.mkdir()
-    KEPT.mkdir(exist_ok=True)
-    script = f'mount --bind "$1" {KEPT} && exec {KIT}/bin/rt ci'
+    KEPT_FOLDER.mkdir(exist_ok=True)
+    script = f'mount --bind "$1" {KEPT_FOLDER} && exec {KIT}/bin/rt ci'
     subprocess.run(
         ["unshare", "--mount", "sh", "-c", script, "sh", str(empty)],
         cwd=clone,
@@ -64,7 +64,7 @@ def proved(clone: pathlib.Path, jobs: int) -> pathlib.Path:
 
 def sections(program: pathlib.Path) -> Dict[str, bytes]:
     """The bytes of each section of a program."""
-    said = subprocess.run(
+    output = subprocess.run(
         ["readelf", "--sections", "--wide", str(program)],
         stdout=subprocess.PIPE,
         text=True,
@@ -74,28 +74,29 @@ def sections(program: pathlib.Path) -> Dict[str, bytes]:
     return {
         name: b""
         if kind == ABSENT
-        else whole[int(place, 16) : int(place, 16) + int(size, 16)]
-        for name, kind, place, size in SECTION.findall(said)
+        else whole[int(offset, 16) : int(offset, 16) + int(size, 16)]
+        for name, kind, offset, size in SECTION.findall(output)
     }
 
 
-def differing(one: pathlib.Path, other: pathlib.Path) -> List[str]:
+def differing(program: pathlib.Path, other_program: pathlib.Path) -> List[str]:
     """The sections in which two programs differ."""
-    first = sections(one)
-    second = sections(other)
+    first = sections(program)
+    second = sections(other_program)
     return [name for name in {**first, **second} if first.get(name) != second.get(name)]
 
 
-def told(one: pathlib.Path, other: pathlib.Path) -> int:
+def compare_programs(program: pathlib.Path, other_program: pathlib.Path) -> int:
     """Says whether two programs are the same, and where they differ."""
     digests = [
-        hashlib.sha256(program.read_bytes()).hexdigest() for program in (one, other)
+        hashlib.sha256(program.read_bytes()).hexdigest()
+        for program in (program, other_program)
     ]
     if digests[0] == digests[1]:
         print(f"the same program, SHA-256 {digests[0]}")
         return 0
     print(
-        f"they differ in {', '.join(differing(one, other)) or 'no section, but in what lies between'}"
+        f"they differ in {', '.join(differing(program, other_program)) or 'no section, but in what lies between'}"
     )
     return 1
 
@@ -121,9 +122,9 @@ def main() -> int:
     )
     words = parser.parse_args()
     with tempfile.TemporaryDirectory(prefix="again-") as folder:
-        return told(
+        return compare_programs(
             words.program,
-            proved(cloned(words.commit, pathlib.Path(folder)), words.jobs),
+            prove_clone(clone_commit(words.commit, pathlib.Path(folder)), words.jobs),
         )
 
 

@@ -25,9 +25,9 @@ def about(seconds: float) -> str:
 
 
 def picture(share: float) -> str:
-    """The bar itself; all of it only when all is done."""
-    filled = max(0, min(WIDTH, int(share * WIDTH)))
-    return f"[{'#' * filled}{'.' * (WIDTH - filled)}] {min(100, int(share * 100)):3}%"
+    """Returns the bar of a share; it is full only at 100 %."""
+    cells = max(0, min(WIDTH, int(share * WIDTH)))
+    return f"[{'#' * cells}{'.' * (WIDTH - cells)}] {min(100, int(share * 100)):3}%"
 
 
 class Bar:
@@ -45,7 +45,7 @@ class Bar:
         """Shows that this share of the work is done, with a text behind it."""
         line = f"arena: {picture(share)} {text}"
         if self._is_terminal:
-            # a line that is wider than the terminal could not be drawn over
+            # a line wider than the terminal would wrap, and could not be overwritten
             self._stream.write(
                 f"\r{line[:shutil.get_terminal_size().columns - 1]}\x1b[K"
             )

@@ -85,12 +85,12 @@ def without_comment(line: str) -> str:
 def imports_in(text: str) -> Dict[str, Place]:
     """Of each name that a module imports from a crate of this repository, where it
     stands."""
-    found = {}
+    origins = {}
     for crate, module, names in IMPORT.findall(text):
         for name in names.split(", "):
             old, _, new = name.partition(" as ")
-            found[new or old] = (crate, module, old)
-    return found
+            origins[new or old] = (crate, module, old)
+    return origins
 
 
 def blocks(lines: Iterable[str]) -> Iterator[Tuple[str, List[str]]]:
@@ -123,7 +123,7 @@ def blocks(lines: Iterable[str]) -> Iterator[Tuple[str, List[str]]]:
 
 
 @functools.lru_cache(maxsize=None)
-def read(crate: str, module: str) -> Module:
+def read_module(crate: str, module: str) -> Module:
     """A file of the specs of a crate."""
     text = (CRATES / crate / "specs" / f"{module.replace('.', '/')}.antt").read_text(
         encoding="utf-8"
@@ -145,42 +145,44 @@ def read(crate: str, module: str) -> Module:
     return Module(definitions, owners, imports_in(text))
 
 
-def reached(headline: Place) -> Dict[Tuple[str, str], Set[str]]:
+def reachable(headline: Place) -> Dict[Tuple[str, str], Set[str]]:
     """The definitions that a headline reaches, by module."""
-    found: Dict[Tuple[str, str], Set[str]] = {}
-    left = [headline]
-    while left:
-        crate, path, name = left.pop()
+    names_by_module: Dict[Tuple[str, str], Set[str]] = {}
+    queue = [headline]
+    while queue:
+        crate, path, name = queue.pop()
         if path.startswith("declared.") or not (CRATES / crate).is_dir():
             continue  # a type of the code, or a word of the library
-        module = read(crate, path)
+        module = read_module(crate, path)
         owner = module.owners.get(name)
-        if owner is None or owner in found.setdefault((crate, path), set()):
+        if owner is None or owner in names_by_module.setdefault((crate, path), set()):
             continue
-        found[crate, path].add(owner)
+        names_by_module[crate, path].add(owner)
         for word in module.definitions[owner].words:
             first = word.split(".")[0]
-            left.append(module.imports.get(first, (crate, path, first)))
-    return {place: names for place, names in found.items() if names}
+            queue.append(module.imports.get(first, (crate, path, first)))
+    return {module: names for module, names in names_by_module.items() if names}
 
 
-def lines_of(place: Tuple[str, str], names: Set[str]) -> int:
-    definitions = read(*place).definitions
+def lines_of(module: Tuple[str, str], names: Set[str]) -> int:
+    definitions = read_module(*module).definitions
     return sum(len(definitions[name].lines) for name in names)
 
 
 def table(names_too: bool = False) -> str:
     rows = ["| headline | definitions | files | lines |", "|---|---|---|---|"]
     for title, headline in HEADLINES.items():
-        found = reached(headline)
-        lines = sum(lines_of(place, names) for place, names in found.items())
+        names_by_module = reachable(headline)
+        lines = sum(
+            lines_of(module, names) for module, names in names_by_module.items()
+        )
         rows.append(
-            f"| {title} | {sum(map(len, found.values()))} | {len(found)} | {lines} |"
+            f"| {title} | {sum(map(len, names_by_module.values()))} | {len(names_by_module)} | {lines} |"
         )
         if names_too:
             rows += [
-                f"    {place[0]}/{place[1]}: {', '.join(sorted(names))}"
-                for place, names in sorted(found.items())
+                f"    {module[0]}/{module[1]}: {', '.join(sorted(names))}"
+                for module, names in sorted(names_by_module.items())
             ]
     return "\n".join(rows) + "\n"
 

@@ -46,19 +46,19 @@ def without_parameters(head: str) -> str:
     if not head.lstrip().startswith("<"):
         return head.strip()
     depth = 0
-    for place, letter in enumerate(head):
-        depth += (letter == "<") - (letter == ">" and head[place - 1] != "-")
+    for index, letter in enumerate(head):
+        depth += (letter == "<") - (letter == ">" and head[index - 1] != "-")
         if letter == ">" and depth == 0:
-            return head[place + 1 :].strip()
+            return head[index + 1 :].strip()
     return head.strip()
 
 
 def contract_of(lines: List[str], at: int) -> str:
-    """The text from a function's head to its body, or to the `;` that ends it."""
-    found = []
+    """Returns the text from a function's head to its body or final `;`."""
+    lines_found = []
     indent = len(lines[at]) - len(lines[at].lstrip())
     for line in lines[at:]:
-        found.append(line)
+        lines_found.append(line)
         text = line.rstrip()
         opens = text.endswith("{") and not text.lstrip().startswith(
             ("ensures", "requires")
@@ -69,13 +69,13 @@ def contract_of(lines: List[str], at: int) -> str:
             or text.endswith(";")
         ):
             break
-    return "\n".join(found)
+    return "\n".join(lines_found)
 
 
 def always_true(lines: List[str], at: int) -> FrozenSet[str]:
     """The ghost members that are always true, of the block that begins in this line."""
     block = "\n".join(lines[at:]).partition("\n}")[0].split("\n")
-    return frozenset(found[1] for found in map(ALWAYS_TRUE.match, block) if found)
+    return frozenset(match[1] for match in map(ALWAYS_TRUE.match, block) if match)
 
 
 def functions_in(crate: str, path: pathlib.Path) -> Iterator[Function]:
@@ -88,14 +88,14 @@ def functions_in(crate: str, path: pathlib.Path) -> Iterator[Function]:
         block = BLOCK.match(line)
         if block:
             head = without_parameters(block[2])
-            named = NAMES.match(head)
+            match = NAMES.match(head)
             is_trait = block[1] != "impl"
             trait = (
                 head.split("{")[0].split(":")[0].split("<")[0].strip()
                 if is_trait
-                else named and named["trait"]
+                else match and match["trait"]
             )
-            kind = "" if is_trait else (named["type"] if named else "")
+            kind = "" if is_trait else (match["type"] if match else "")
             kind = trait if is_trait else kind
             empty = always_true(lines, at)
         elif line.startswith("}"):
@@ -118,60 +118,61 @@ def functions_in(crate: str, path: pathlib.Path) -> Iterator[Function]:
 def all_functions(crates: List[str]) -> List[Function]:
     """The functions of these crates."""
     return [
-        one
+        function
         for crate in crates
         for path in sorted((CRATES / crate / "src").rglob("*.rt"))
-        for one in functions_in(crate, path)
+        for function in functions_in(crate, path)
     ]
 
 
-def says_something(one: Function, promised: Dict[str, List[str]]) -> bool:
-    """Whether a function has a clause, of its own or of a trait, that is not always
-    true."""
-    if one.clauses:
+def says_something(function: Function, trait_clauses: Dict[str, List[str]]) -> bool:
+    """Returns whether a function has a non-trivial clause, of its own or by its
+    trait."""
+    if function.clauses:
         return True
-    if one.trait in WITH_GHOSTS:
-        return not one.empty
-    method = f"{(one.trait or '').rpartition('::')[2]}::{one.name.rpartition('::')[2]}"
+    if function.trait in WITH_GHOSTS:
+        return not function.empty
+    method = f"{(function.trait or '').rpartition('::')[2]}::{function.name.rpartition('::')[2]}"
     return any(
-        one.empty.isdisjoint(re.findall(r"\w+", clause))
-        for clause in promised.get(method, [])
+        function.empty.isdisjoint(re.findall(r"\w+", clause))
+        for clause in trait_clauses.get(method, [])
     )
 
 
 def without_clause(crates: List[str]) -> List[Function]:
-    """Those of the functions that have no clause, neither of their own nor of a trait
-    of this repository."""
+    """Returns the functions without a clause of their own or of a trait in this
+    repository."""
     everywhere = all_functions(
         sorted(path.name for path in CRATES.iterdir() if (path / "src").is_dir())
     )
-    promised = {
-        one.name: one.clauses
-        for one in everywhere
-        if one.trait and one.name.startswith(f"{one.trait}::")
+    trait_clauses = {
+        function.name: function.clauses
+        for function in everywhere
+        if function.trait and function.name.startswith(f"{function.trait}::")
     }
     return [
-        one
-        for one in everywhere
-        if one.crate in crates and not says_something(one, promised)
+        function
+        for function in everywhere
+        if function.crate in crates and not says_something(function, trait_clauses)
     ]
 
 
-def crates_given(given: List[str]) -> List[str]:
-    """The crates that are named, or all but those that are programs by themselves."""
-    return given or [
-        it.name
-        for it in sorted(CRATES.iterdir())
-        if (it / "src").is_dir() and it.name not in LEFT_OUT
+def crates_given(names: List[str]) -> List[str]:
+    """Returns the named crates, or by default all crates that are no stand-alone
+    programs."""
+    return names or [
+        path.name
+        for path in sorted(CRATES.iterdir())
+        if (path / "src").is_dir() and path.name not in LEFT_OUT
     ]
 
 
-def main(given: List[str]) -> int:
-    if given in (["-h"], ["--help"]):
+def main(args: List[str]) -> int:
+    if args in (["-h"], ["--help"]):
         print(__doc__.strip())
         return 0
-    for one in without_clause(crates_given(given)):
-        print(f"{one.crate} {one.file} {one.name}")
+    for function in without_clause(crates_given(args)):
+        print(f"{function.crate} {function.file} {function.name}")
     return 0
 
 

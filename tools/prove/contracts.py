@@ -36,7 +36,7 @@ from tools.prove.clauses import (
     without_parameters,
 )
 
-TESTED = TOP / "tools" / "prove" / "tested.toml"
+TESTED_FILE = TOP / "tools" / "prove" / "tested.toml"
 CLAUSE = re.compile(r"^\s*ensures(?: (\w+))? \{", re.MULTILINE)
 # a clause that speaks of an answer that is an error
 OF_ERRORS = re.compile(r"\b(?:IfErr|OnErr|OnFailure|IfFault)\b")
@@ -54,7 +54,7 @@ WAITS = re.compile(
 ALLOCATOR = re.compile(r"\balloc: Global\b")
 PASSED_ON = re.compile(r"^pub use ([^;]+);", re.MULTILINE)
 OPEN_MODULE = re.compile(r"^pub mod (\w+);", re.MULTILINE)
-CHANGED = re.compile(r"(\w+): &mut|&mut (self)")
+CHANGED_PARAMETER = re.compile(r"(\w+): &mut|&mut (self)")
 # what says by itself that memory ran out
 MEMORY = {"Memory", "AllocError"}
 
@@ -71,27 +71,27 @@ class Contract(NamedTuple):
 
 def words_above(lines: List[str], at: int) -> str:
     """What the `///` lines above a function say."""
-    found: List[str] = []
+    lines_found: List[str] = []
     for line in reversed(lines[:at]):
         text = line.strip()
         if text.startswith("///"):
-            found.insert(0, text[3:].strip())
+            lines_found.insert(0, text[3:].strip())
         elif not text.startswith("#["):
             break
-    return " ".join(found)
+    return " ".join(lines_found)
 
 
 def clauses_in(contract: str) -> Dict[str, str]:
-    """The clauses of a contract, each by its name; those without one are `-`, `-2`,
-    .."""
-    found: Dict[str, str] = {}
+    """Returns the clauses of a contract by name; unnamed ones are `-`, `-2`, and so
+    on."""
+    clauses: Dict[str, str] = {}
     places = list(CLAUSE.finditer(contract))
-    for place, after in zip(
-        places, [*(it.start() for it in places[1:]), len(contract)]
+    for start, after in zip(
+        places, [*(match.start() for match in places[1:]), len(contract)]
     ):
-        name = place[1] or ("-" if "-" not in found else f"-{len(found) + 1}")
-        found[name] = contract[place.end() : after]
-    return found
+        name = start[1] or ("-" if "-" not in clauses else f"-{len(clauses) + 1}")
+        clauses[name] = contract[start.end() : after]
+    return clauses
 
 
 def contracts_in(path: pathlib.Path) -> Iterator[Contract]:
@@ -105,12 +105,12 @@ def contracts_in(path: pathlib.Path) -> Iterator[Contract]:
         if block:
             head = without_parameters(block[2])
             is_open = block[1] == "pub trait"
-            named = NAMES.match(head)
+            match = NAMES.match(head)
             kind = (
                 re.split(r"[:<{ ]", head)[0]
                 if block[1] != "impl"
-                else named["type"]
-                if named
+                else match["type"]
+                if match
                 else ""
             )
         elif line.startswith("}"):
@@ -143,20 +143,22 @@ def contracts_of(crate: str) -> List[Contract]:
         if path.exists()
     )
     names = {
-        name for found in PASSED_ON.findall(head) for name in re.findall(r"\w+", found)
+        name
+        for exports in PASSED_ON.findall(head)
+        for name in re.findall(r"\w+", exports)
     }
     open_modules = set(OPEN_MODULE.findall(head))
-    found = [
-        (path.stem, one)
+    contracts = [
+        (path.stem, contract)
         for path in sorted(root.rglob("*.rt"))
-        for one in contracts_in(path)
+        for contract in contracts_in(path)
     ]
     return [
-        one._replace(name=f"{module}::{one.name}")
-        if module in open_modules and "::" not in one.name
-        else one
-        for module, one in found
-        if module in {"lib", *open_modules} or one.name.partition("::")[0] in names
+        contract._replace(name=f"{module}::{contract.name}")
+        if module in open_modules and "::" not in contract.name
+        else contract
+        for module, contract in contracts
+        if module in {"lib", *open_modules} or contract.name.partition("::")[0] in names
     ]
 
 
@@ -164,33 +166,34 @@ def memory_types() -> Set[str]:
     """The types that can say that memory ran out: enums with such a variant, or with
     one that holds such a type, and structs with an open field that does."""
     texts = [path.read_text(encoding="utf-8") for path in CRATES.glob("*/src/**/*.rt")]
-    enums = [found for text in texts for found in ENUM.findall(text)]
+    enums = [enum for text in texts for enum in ENUM.findall(text)]
     structs = [
         (name, OPEN_FIELD.findall(body))
         for text in texts
         for name, body in STRUCT.findall(text)
     ]
-    found = set(MEMORY)
+    type_names = set(MEMORY)
     grown = True
     while grown:
-        more = {
+        new_names = {
             name
             for name, body in enums
-            if name not in found
+            if name not in type_names
             and any(
                 variant[1] in MEMORY
-                or found & set(re.findall(r"\w+", f"{variant[2]} {variant[3]}"))
+                or type_names & set(re.findall(r"\w+", f"{variant[2]} {variant[3]}"))
                 for variant in VARIANT.finditer(body)
             )
         }
-        more |= {
+        new_names |= {
             name
             for name, kinds in structs
-            if name not in found and found & set(re.findall(r"\w+", str(kinds)))
+            if name not in type_names
+            and type_names & set(re.findall(r"\w+", str(kinds)))
         }
-        grown = bool(more)
-        found |= more
-    return found
+        grown = bool(new_names)
+        type_names |= new_names
+    return type_names
 
 
 def answer_of(signature: str) -> str:
@@ -199,8 +202,8 @@ def answer_of(signature: str) -> str:
 
 
 def wants_memory(types: Set[str], signature: str) -> str:
-    """Whether a call can say that memory ran out: by its answer, by its exit status, or
-    not."""
+    """Returns whether a call can say that memory ran out: by its answer, by its exit
+    status, or not."""
     words = set(re.findall(r"\w+", answer_of(signature)))
     is_command = "u8" in words and re.search(r"\berrors: &mut", signature)
     if types & words:
@@ -213,28 +216,31 @@ def wants_memory(types: Set[str], signature: str) -> str:
 
 
 def contract_lines(crate: str) -> Iterator[str]:
-    for one in contracts_of(crate):
-        clauses = ", ".join(one.clauses) or "no clause"
-        yield f"- `{one.name}` ({clauses}): {one.words or 'see its trait.'}"
+    for contract in contracts_of(crate):
+        clauses = ", ".join(contract.clauses) or "no clause"
+        yield f"- `{contract.name}` ({clauses}): {contract.words or 'see its trait.'}"
 
 
 def memory_rows(crates: List[str]) -> Iterator[str]:
     """A row of each call that can want memory, takes an allocator, or waits."""
     types = memory_types()
     for crate in crates:
-        for one in contracts_of(crate):
-            wants = wants_memory(types, one.signature)
-            waits = bool(WAITS.search(one.signature))
-            if wants == "no" and not waits and not ALLOCATOR.search(one.signature):
+        for contract in contracts_of(crate):
+            wants = wants_memory(types, contract.signature)
+            waits = bool(WAITS.search(contract.signature))
+            if wants == "no" and not waits and not ALLOCATOR.search(contract.signature):
                 continue
-            changed = ", ".join(
-                f"`{name or this}`" for name, this in CHANGED.findall(one.signature)
+            mutable_names = ", ".join(
+                f"`{name or this}`"
+                for name, this in CHANGED_PARAMETER.findall(contract.signature)
             )
             speak = ", ".join(
-                name for name, text in one.clauses.items() if OF_ERRORS.search(text)
+                name
+                for name, text in contract.clauses.items()
+                if OF_ERRORS.search(text)
             )
             yield (
-                f"| `{crate}` | `{one.name}` | {wants} | {'may' if waits else 'no'} | {changed} "
+                f"| `{crate}` | `{contract.name}` | {wants} | {'may' if waits else 'no'} | {mutable_names} "
                 f"| {speak} |"
             )
 
@@ -246,7 +252,7 @@ def edits_of(crate: str) -> List[str]:
 
 def page(crates: List[str]) -> Iterator[str]:
     """The lines of the page."""
-    tested = tomllib.loads(TESTED.read_text(encoding="utf-8"))
+    exceptions = tomllib.loads(TESTED_FILE.read_text(encoding="utf-8"))
     yield "# Contracts"
     for crate in crates:
         yield from ("", f"## `{crate}`", "", *contract_lines(crate))
@@ -265,7 +271,7 @@ def page(crates: List[str]) -> Iterator[str]:
         "| crate | functions | what fails for a wrong body |",
         "|---|---|---|",
     )
-    for row in tested["without_clause"]:
+    for row in exceptions["without_clause"]:
         if row["crate"] in crates:
             yield f"| `{row['crate']}` | {', '.join(f'`{name}`' for name in row['functions'])} | {row['fails']} |"
     yield from (
@@ -275,7 +281,7 @@ def page(crates: List[str]) -> Iterator[str]:
         "| crate | body | why it is right, or what refuses it |",
         "|---|---|---|",
     )
-    for row in tested["let_through"]:
+    for row in exceptions["let_through"]:
         if set(row["crates"]) & set(crates):
             yield f"| {', '.join(f'`{name}`' for name in row['crates'])} | {row['body']} | {row['why']} |"
     yield from ("", "## Wrong bodies that the prover refuses", "")
@@ -287,16 +293,16 @@ def page(crates: List[str]) -> Iterator[str]:
         "Refused by the form of a proof before a clause is asked, so they say less than the others:",
         "",
     )
-    for crate, names in tested["refused_by_form"].items():
+    for crate, names in exceptions["refused_by_form"].items():
         if crate in crates:
             yield f"- `{crate}`: {', '.join(f'`{name}`' for name in names)}"
 
 
-def main(given: List[str]) -> int:
-    if given in (["-h"], ["--help"]):
+def main(args: List[str]) -> int:
+    if args in (["-h"], ["--help"]):
         print(__doc__.strip())
         return 0
-    print("\n".join(page(crates_given(given))))
+    print("\n".join(page(crates_given(args))))
     return 0
 
 

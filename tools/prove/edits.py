@@ -23,7 +23,7 @@ import sys
 import tempfile
 from typing import Dict, Iterator, List, NamedTuple, Optional, Sequence, Tuple
 
-from tests.support.counts import concluded
+from tests.support.counts import report_counts
 from tools.prove.prover import (
     CRATES,
     PARTS,
@@ -31,12 +31,12 @@ from tools.prove.prover import (
     below,
     libraries_of,
     may_be_used,
-    words_of,
+    prover_command,
     workers,
 )
 
-# what a check of a crate that is proved ends with, and one that is not
-PROVED = "logic=proved"
+# last words of a successful and of a failed check
+PROVED_MARK = "logic=proved"
 NOT_PROVED = "logic=not-proved"
 SOME_PROVED = re.compile(r"only=(\d+) proved=(\d+)")
 # names that a text of the code or of a definition lacks: the edit was not tried
@@ -49,7 +49,7 @@ HEAD = re.compile(r"impl(?:<(.*?)>)? (?:([\w:]+)(?:<(.*)>)? for )?(\w+)")
 NO_FUNCTION = re.compile(r"\S+: error: `\w+` has no function .*")
 
 
-class BadEdit(Exception):
+class EditError(Exception):
     """The edit can't be tried."""
 
 
@@ -67,7 +67,7 @@ class Edit(NamedTuple):
         for file, old, new in self.changes:
             text = texts.get(file) or (folder / file).read_text()
             if text.count(old) != 1:
-                raise BadEdit(
+                raise EditError(
                     f"an old text stands {text.count(old)} times in {file}, and not once: {old}"
                 )
             texts[file] = text.replace(old, new)
@@ -85,50 +85,54 @@ def module_of(path: str) -> List[str]:
 def type_of(head: str) -> Optional[Tuple[str, str]]:
     """The type of an `impl`, and how the prover names the `impl`: by its type, or by
     the type, the trait and the words of the trait's type."""
-    found = HEAD.match(head)
-    if not found:
+    match = HEAD.match(head)
+    if not match:
         return None
-    parameters, trait, of, name = found.groups()
+    parameters, trait, of, name = match.groups()
     if trait is None:
         return name, name
     words = [
-        it
-        for it in re.findall(r"(?<!')\b\w+", of or "")
-        if it not in re.findall(r"\w+", parameters or "")
+        word
+        for word in re.findall(r"(?<!')\b\w+", of or "")
+        if word not in re.findall(r"\w+", parameters or "")
     ]
     return name, name + trait.rpartition("::")[2] + "".join(
-        it[0].upper() + it[1:] for it in words
+        word[0].upper() + word[1:] for word in words
     )
 
 
 def module_of_type(folder: pathlib.Path, name: str, path: str) -> List[str]:
-    """The module of a crate that declares a type, by which the prover names the type's
-    methods wherever they stand. If not just one does, it is that of a file."""
-    declared = re.compile(
+    """Returns the module that declares a type, because the prover names methods by it.
+    If no module or several declare the type, the module of the edited file."""
+    declaration = re.compile(
         rf"^(?:pub(?:\(.*?\))? )?(?:struct|enum|union) {name}\b", re.M
     )
     files = [
-        it for it in (folder / "src").rglob("*.rt") if declared.search(it.read_text())
+        path
+        for path in (folder / "src").rglob("*.rt")
+        if declaration.search(path.read_text())
     ]
     return module_of(str(files[0].relative_to(folder)) if len(files) == 1 else path)
 
 
-def function_at(folder: pathlib.Path, path: str, place: int) -> Optional[str]:
+def function_at(folder: pathlib.Path, path: str, offset: int) -> Optional[str]:
     """The function of a crate whose body has a place of a file, by the path that the
     prover knows."""
     name = None
     depth = 0
-    for line in reversed((folder / path).read_text()[:place].split("\n")):
-        found = FUNCTION.match(line)
-        if found and name is None:
-            name = found[5]
-            depth = len(found[1])
+    for line in reversed((folder / path).read_text()[:offset].split("\n")):
+        match = FUNCTION.match(line)
+        if match and name is None:
+            name = match[5]
+            depth = len(match[1])
         elif name is not None and line.startswith("impl") and depth:
-            named = type_of(line)
+            type_names = type_of(line)
             module = (
-                module_of_type(folder, named[0], path) if named else module_of(path)
+                module_of_type(folder, type_names[0], path)
+                if type_names
+                else module_of(path)
             )
-            return "::".join([*module, *(named or [])[1:], name])
+            return "::".join([*module, *(type_names or [])[1:], name])
         elif line.startswith("}") and name is None:
             return None
         if name is not None and depth == 0:
@@ -137,7 +141,8 @@ def function_at(folder: pathlib.Path, path: str, place: int) -> Optional[str]:
 
 
 def read_edit(path: pathlib.Path, folder: pathlib.Path) -> Edit:
-    """An edit of a crate, which can be made there."""
+    """Parses an edit file of a crate. Raises EditError if the edit cannot be
+    applied."""
     file = ""
     old = ""
     only = None
@@ -152,10 +157,10 @@ def read_edit(path: pathlib.Path, folder: pathlib.Path) -> Edit:
             old = text
         elif word == "new" or line == "new:":
             if not old:
-                raise BadEdit("a line `new: TEXT` has no line `old: TEXT` before it")
+                raise EditError("a line `new: TEXT` has no line `old: TEXT` before it")
             changes.append((file, old, text))
     if not changes:
-        raise BadEdit("it has no pair of lines `old: TEXT` and `new: TEXT`")
+        raise EditError("it has no pair of lines `old: TEXT` and `new: TEXT`")
     edit = Edit(path.stem, changes, only)
     edit.change(folder, {})
     file, old, _ = changes[0]
@@ -171,11 +176,11 @@ class Prover(NamedTuple):
 
     name: str
     words: Sequence[str]
-    kept: str
+    kept_folder: str
 
     def lines(self, edits: Sequence[Edit], functions: Sequence[str]) -> List[str]:
-        """The lines of a check of these functions, or of all, in a copy of the crate
-        with these edits."""
+        """Checks functions (default: all) in an edited copy of the crate, and returns
+        the prover's lines."""
         texts: Dict[str, str] = {}
         for edit in edits:
             edit.change(CRATES / self.name, texts)
@@ -186,8 +191,8 @@ class Prover(NamedTuple):
             for path, text in texts.items():
                 pathlib.Path(room, path).write_text(text)
             only = [word for function in functions for word in ("--only", function)]
-            ran = subprocess.run(
-                [*self.words, "--incremental", self.kept, *only],
+            result = subprocess.run(
+                [*self.words, "--incremental", self.kept_folder, *only],
                 cwd=room,
                 stdin=subprocess.DEVNULL,
                 stdout=subprocess.PIPE,
@@ -195,20 +200,20 @@ class Prover(NamedTuple):
                 text=True,
                 errors="replace",
             )
-        lines = ran.stdout.rstrip("\n").split("\n")
+        lines = result.stdout.rstrip("\n").split("\n")
         if NO_FUNCTION.match(lines[-1]):
-            raise BadEdit(
+            raise EditError(
                 f"a line `only: PATH` must name the function that it changes: {lines[-1]}"
             )
         unread = next((line for line in lines if UNREAD.match(line)), None)
         if unread:
-            raise BadEdit(f"the edited text can't be read: {unread}")
+            raise EditError(f"the edited text can't be read: {unread}")
         return lines
 
 
 def first_told(lines: Sequence[str]) -> str:
-    """The first line on what is not proved, with its place if it has one. Remarks are
-    no reason."""
+    """Returns the first error about an unproved item, with its place if it has one;
+    notes and warnings are skipped."""
     begins = (
         r"(note: )?\S+:\d+:\d+: (?!note: |warning: )",
         r"fn \S+: (no proof|not proved)",
@@ -225,15 +230,17 @@ def together(
     texts: Dict[str, str] = {}
     chosen: List[Edit] = []
     for edit in edits:
-        tried = dict(texts)
+        new_texts = dict(texts)
         try:
-            edit.change(folder, tried)
-        except BadEdit:
+            edit.change(folder, new_texts)
+        except EditError:
             continue
-        if edit.function and edit.function not in [it.function for it in chosen]:
+        if edit.function and edit.function not in [
+            edit_chosen.function for edit_chosen in chosen
+        ]:
             chosen.append(edit)
-            texts = tried
-    return chosen, [it for it in edits if it not in chosen]
+            texts = new_texts
+    return chosen, [edit for edit in edits if edit not in chosen]
 
 
 def own_error(lines: Sequence[str], function: str) -> str:
@@ -252,8 +259,8 @@ def refused_together(prover: Prover, edits: Sequence[Edit]) -> Dict[str, str]:
     if len(edits) < 2:
         return {}
     try:
-        lines = prover.lines(edits, [it.function for it in edits if it.function])
-    except BadEdit:
+        lines = prover.lines(edits, [edit.function for edit in edits if edit.function])
+    except EditError:
         lines = [""]
     if not SOME_PROVED.match(lines[-1]):
         half = len(edits) // 2
@@ -261,18 +268,18 @@ def refused_together(prover: Prover, edits: Sequence[Edit]) -> Dict[str, str]:
             **refused_together(prover, edits[:half]),
             **refused_together(prover, edits[half:]),
         }
-    refused = {}
+    refusals = {}
     for edit in edits:
         begin = f"fn {prover.name}::{edit.function}: "
-        told = next(
+        message = next(
             (line[len(begin) :] for line in lines if line.startswith(begin)), ""
         )
-        own = own_error(lines, edit.function or "")
-        if told.startswith(("no proof", "not proved")) and (
-            "did not prove" in told or "it calls" not in told or own
+        error = own_error(lines, edit.function or "")
+        if message.startswith(("no proof", "not proved")) and (
+            "did not prove" in message or "it calls" not in message or error
         ):
-            refused[edit.name] = f"{edit.function}: {own or told}"
-    return refused
+            refusals[edit.name] = f"{edit.function}: {error or message}"
+    return refusals
 
 
 def refusal(prover: Prover, edit: Edit) -> Optional[str]:
@@ -285,36 +292,36 @@ def refusal(prover: Prover, edit: Edit) -> Optional[str]:
     lines = prover.lines([edit], [])
     if lines[-1].startswith(NOT_PROVED):
         return f"the whole crate: {first_told(lines)}"
-    if lines[-1].startswith(PROVED):
+    if lines[-1].startswith(PROVED_MARK):
         return None
-    raise BadEdit(f"it did not come to a proof: {first_told(lines) or lines[-1]}")
+    raise EditError(f"it did not come to a proof: {first_told(lines) or lines[-1]}")
 
 
 def answers_of(
     prover: Prover, edits: Sequence[Edit]
 ) -> Iterator[Tuple[str, Optional[str], str]]:
-    """The name of each edit of a crate, what the prover says against it, and the line
-    that is printed."""
-    left = list(edits)
-    while left:
-        chosen, left = together(left, CRATES / prover.name)
-        chosen, left = (chosen, left) if chosen else (left, [])
-        refused = refused_together(prover, chosen)
+    """Yields for each edit of a crate its name, the prover's error (None if it is still
+    proved), and the line to print."""
+    edits_left = list(edits)
+    while edits_left:
+        chosen, edits_left = together(edits_left, CRATES / prover.name)
+        chosen, edits_left = (chosen, edits_left) if chosen else (edits_left, [])
+        refusals = refused_together(prover, chosen)
         for edit in chosen:
             try:
-                told = refused.get(edit.name) or refusal(prover, edit)
+                message = refusals.get(edit.name) or refusal(prover, edit)
                 text = (
-                    f"refused: {told[:200]}"
-                    if told
+                    f"refused: {message[:200]}"
+                    if message
                     else "NOT REFUSED: the crate is still proved"
                 )
-            except (BadEdit, OSError) as fault:
-                told = None
+            except (EditError, OSError) as fault:
+                message = None
                 text = f"BAD EDIT: {fault}"
-            yield edit.name, told, text
+            yield edit.name, message, text
 
 
-def tried(
+def try_edits(
     libraries: Libraries, name: str, paths: Sequence[pathlib.Path]
 ) -> Iterator[bool]:
     """Tries the edits of a crate, each check over what earlier ones kept, and prints a
@@ -323,20 +330,20 @@ def tried(
     for path in paths:
         try:
             edits.append(read_edit(path, CRATES / name))
-        except (BadEdit, OSError) as fault:
+        except (EditError, OSError) as fault:
             print(f"edit {name}/{path.stem}: BAD EDIT: {fault}", flush=True)
             yield False
-    with tempfile.TemporaryDirectory(prefix="edits-") as kept:
-        for edit, told, text in answers_of(
-            Prover(name, words_of(libraries, "check", name), kept), edits
+    with tempfile.TemporaryDirectory(prefix="edits-") as folder:
+        for edit, message, text in answers_of(
+            Prover(name, prover_command(libraries, "check", name), folder), edits
         ):
             print(f"edit {name}/{edit}: {text}", flush=True)
-            yield told is not None
+            yield message is not None
 
 
 def edits_of(name: str, folders: Sequence[str]) -> List[pathlib.Path]:
     return sorted(
-        it for folder in folders for it in (CRATES / name / folder).glob("*.edit")
+        path for folder in folders for path in (CRATES / name / folder).glob("*.edit")
     )
 
 
@@ -354,7 +361,9 @@ def main(words: List[str]) -> int:
     edits = {name: edits_of(name, folders) for name in names or libraries}
     for name in libraries:
         is_needed = any(
-            name in below(libraries, it) for it, found in edits.items() if found
+            name in below(libraries, other_name)
+            for other_name, edits_found in edits.items()
+            if edits_found
         )
         if is_needed and not may_be_used(libraries, name):
             print(
@@ -365,14 +374,18 @@ def main(words: List[str]) -> int:
     with concurrent.futures.ThreadPoolExecutor(workers()) as pool:
         # those with the most edits first, since a crate's are tried in turn
         longest = sorted(
-            (it for it in edits.items() if it[1]), key=lambda it: -len(it[1])
+            (item for item in edits.items() if item[1]),
+            key=lambda item_of_crate: -len(item_of_crate[1]),
         )
         answers = [
-            it
-            for found in pool.map(lambda it: list(tried(libraries, *it)), longest)
-            for it in found
+            answer
+            for answers in pool.map(
+                lambda item_of_crate: list(try_edits(libraries, *item_of_crate)),
+                longest,
+            )
+            for answer in answers
         ]
-    return concluded(sum(answers), len(answers) - sum(answers))
+    return report_counts(sum(answers), len(answers) - sum(answers))
 
 
 if __name__ == "__main__":

@@ -23,7 +23,7 @@ def seconds_of(text: str) -> Dict[str, float]:
 
 
 def text_of(seconds: Dict[str, float], before: str) -> str:
-    """The file with these seconds, under the comment that it had before."""
+    """Returns the text of the seconds file, with its previous comment."""
     head = "".join(
         line for line in before.splitlines(keepends=True) if line.startswith("#")
     )
@@ -44,10 +44,10 @@ class Forecast:
     ) -> None:
         """A build of these crates by `workers` workers. A crate without an earlier time
         gets the median."""
-        other = statistics.median(seconds.values()) if seconds else 1.0
-        self._seconds = {name: seconds.get(name, other) for name in crates}
+        median_seconds = statistics.median(seconds.values()) if seconds else 1.0
+        self._seconds = {name: seconds.get(name, median_seconds) for name in crates}
         self._needs = {
-            name: [it for it in below(libraries, name) if it in crates]
+            name: [crate for crate in below(libraries, name) if crate in crates]
             for name in crates
         }
         self._workers = workers
@@ -61,21 +61,20 @@ class Forecast:
         self._took[name] = now - self._begun.pop(name)
 
     def _pace(self) -> float:
-        """How many seconds here are one of the earlier ones, by the crates that are
-        done."""
-        expected = sum(self._seconds[name] for name in self._took)
-        return (sum(self._took.values()) + TRUST) / (expected + TRUST)
+        """Returns the ratio of current to recorded seconds over the finished crates."""
+        expected_seconds = sum(self._seconds[name] for name in self._took)
+        return (sum(self._took.values()) + TRUST) / (expected_seconds + TRUST)
 
     def _left(self, now: float) -> Dict[str, float]:
         """What each crate still needs, in earlier seconds."""
         pace = self._pace()
-        left = {}
+        seconds_by_crate = {}
         for name, seconds in self._seconds.items():
             past = (now - self._begun[name]) / pace if name in self._begun else 0.0
-            left[name] = (
+            seconds_by_crate[name] = (
                 0.0 if name in self._took else max(seconds - past, LAST_PART * seconds)
             )
-        return left
+        return seconds_by_crate
 
     def share(self, now: float) -> float:
         """The part of the work that is done."""
@@ -83,14 +82,15 @@ class Forecast:
         return 1 - sum(self._left(now).values()) / total if total else 1.0
 
     def seconds_left(self, now: float) -> float:
-        """How long it still takes: as long as its longest chain of crates that wait for
-        each other, and as all of them on that many workers."""
-        left = self._left(now)
+        """Returns how long it still takes: as long as its longest chain of crates that
+        wait for each other, and as all of them on that many workers."""
+        seconds_by_crate = self._left(now)
         chain = {}
-        for name in sorted(left, key=lambda it: len(self._needs[it])):
-            chain[name] = left[name] + max(
-                (chain[it] for it in self._needs[name]), default=0.0
+        for name in sorted(seconds_by_crate, key=lambda crate: len(self._needs[crate])):
+            chain[name] = seconds_by_crate[name] + max(
+                (chain[need] for need in self._needs[name]), default=0.0
             )
         return self._pace() * max(
-            sum(left.values()) / self._workers, max(chain.values(), default=0.0)
+            sum(seconds_by_crate.values()) / self._workers,
+            max(chain.values(), default=0.0),
         )

@@ -39,16 +39,18 @@ def sources(top: pathlib.Path, name: str, parts: Iterable[str] = PARTS) -> str:
     folders = [top / "crates" / name / part for part in parts]
     files = digests(
         top,
-        sorted(it for folder in folders for it in folder.rglob("*") if it.is_file()),
+        sorted(
+            path for folder in folders for path in folder.rglob("*") if path.is_file()
+        ),
     )
-    return f"{ALL_OF}{' '.join(os.path.relpath(it, top) for it in folders)}\n{files}"
+    return f"{ALL_OF}{' '.join(os.path.relpath(folder, top) for folder in folders)}\n{files}"
 
 
 def head(is_proved: bool) -> str:
     """The lines that say which arena a record is of."""
     return "".join(
         f"# {line}\n"
-        for line in version.lines(is_proved, version.installed()).splitlines()
+        for line in version.lines(is_proved, version.installed_version()).splitlines()
     )
 
 
@@ -60,35 +62,37 @@ def write(record: pathlib.Path, text: str) -> None:
 
 
 def record_crate(
-    top: pathlib.Path, libraries: Libraries, name: str, proved: str
+    top: pathlib.Path, libraries: Libraries, name: str, proof_lines: str
 ) -> None:
     """Records that a crate was proved, of sources with these lines, and built, once
     those below it are recorded."""
-    made = record_of(top / "crates", name)
-    records = [record_of(top / "crates", it) for it in below(libraries, name)]
+    record = record_of(top / "crates", name)
+    records = [record_of(top / "crates", crate) for crate in below(libraries, name)]
     if name in PROGRAMS:
         record_program(
             top,
             name,
-            "".join(ALL_OF + it.read_text().partition(ALL_OF)[2] for it in records)
-            + proved,
+            "".join(
+                ALL_OF + record.read_text().partition(ALL_OF)[2] for record in records
+            )
+            + proof_lines,
         )
         return
-    library = made.parent / "rlib" / f"{name}.rlib"
-    # of a library that is a folder, this file has the checksum of all the others
+    library = record.parent / "rlib" / f"{name}.rlib"
+    # for a library folder, this file contains the checksums of the others
     write(
-        made,
+        record,
         digests(top, [library / "format" if library.is_dir() else library, *records])
-        + proved,
+        + proof_lines,
     )
 
 
-def record_program(top: pathlib.Path, name: str, proved: str) -> None:
+def record_program(top: pathlib.Path, name: str, proof_lines: str) -> None:
     """Records that a program was built of crates that were proved, of sources with
     these lines."""
-    made = record_of(top / "crates", name)
-    built = digests(top, [made.with_name(name), *(top / it for it in LISTS)])
-    write(made, head(True) + built + proved)
+    record = record_of(top / "crates", name)
+    built = digests(top, [record.with_name(name), *(top / path for path in LISTS)])
+    write(record, head(True) + built + proof_lines)
 
 
 def programs_in(libraries: Libraries) -> List[str]:
@@ -98,7 +102,9 @@ def programs_in(libraries: Libraries) -> List[str]:
 
 def below_programs(libraries: Libraries, programs: Iterable[str]) -> List[str]:
     """The crates that these programs stand on, lowest first."""
-    return list(dict.fromkeys(it for name in programs for it in below(libraries, name)))
+    return list(
+        dict.fromkeys(crate for name in programs for crate in below(libraries, name))
+    )
 
 
 def record_all(
@@ -110,7 +116,7 @@ def record_all(
         record_program(
             top,
             name,
-            "".join(sources(top, it) for it in [*below(libraries, name), name]),
+            "".join(sources(top, crate) for crate in [*below(libraries, name), name]),
         )
     for name in below_programs(libraries, programs):
         # without its library a crate has no record, and tools/build proves it again

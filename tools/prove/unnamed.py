@@ -27,19 +27,19 @@ from typing import Counter, Dict, Iterator, List, Set, Tuple
 
 from tools.prove.prover import CRATES, TOP, libraries_of, sources_of
 
-KNOWN = TOP / "tools" / "prove" / "known_unnamed"
+KNOWN_FILE = TOP / "tools" / "prove" / "known_unnamed"
 WORD = re.compile(r"[\w'◌-]+")
 MARKS = re.compile(r"(?:abbrev |unfoldable |pub )*(?:data |record )?")
 HEAD = re.compile(r"[A-Za-z][\w'-]* (?::|\{|\()")
 USE = re.compile(
     r"^ *(?:ghost )?use Rattle\.([\w.]+?)(?:\.\{([^}]*)\}| as (\w+))", re.MULTILINE
 )
-RENAMED = re.compile(r"(\S+) as (\S+)")
+RENAMED_IMPORT = re.compile(r"(\S+) as (\S+)")
 # a lemma or definition that an attribute of a function names
 ATTRIBUTE = re.compile(r"crate::((?:specs|proofs)(?:::\w+)*)::([\w'-]+)")
 ROW = "_row"
 # what a library calls by its name
-CALLED = re.compile(
+CALL_PATTERN = re.compile(
     r"__\w+__|test\w*|setUp\w*|tearDown\w*|visit_\w+|do_[A-Z]+|has_\w+_permission"
 )
 TEXTS = (
@@ -56,10 +56,10 @@ TEXTS = (
     "",
 )
 
-# characters of a definition that is too short to be taken out of a crate below
+# shorter definitions (in characters) may be duplicated
 SHORT = 150
 
-# a module, and a name of it
+# (module, name)
 Place = Tuple[str, str]
 
 
@@ -94,14 +94,14 @@ def blocks(text: str) -> Iterator[Tuple[str, str]]:
 
 
 def definitions(path: pathlib.Path) -> Iterator[str]:
-    """The names that a file defines, that none of its other definitions has, and that
-    something has to name."""
-    found = list(blocks(text_of(path)))
+    """Yields names defined in a file that occur in no other definition of it, and that
+    therefore another file must use."""
+    blocks_found = list(blocks(text_of(path)))
     counts = collections.Counter(
-        word for _, text in found for word in set(WORD.findall(text))
+        word for _, text in blocks_found for word in set(WORD.findall(text))
     )
     is_of_a_function = path.parent.name not in ("specs", "proofs")
-    for name, text in found:
+    for name, text in blocks_found:
         marks = MARKS.match(text)[0]
         is_goal = is_of_a_function and "pub " in marks
         if (
@@ -113,26 +113,28 @@ def definitions(path: pathlib.Path) -> Iterator[str]:
             yield name
 
 
-def imported(text: str) -> Iterator[Tuple[str, str, str]]:
+def imports_of(text: str) -> Iterator[Tuple[str, str, str]]:
     """What a file imports: modules, names of them or nothing for a whole module, and
     how they are called here."""
     for module, names, alias in USE.findall(text):
         for name in filter(None, map(str.strip, names.split(","))):
-            renamed = RENAMED.fullmatch(name)
-            yield (module, renamed[1], renamed[2]) if renamed else (module, name, name)
+            match = RENAMED_IMPORT.fullmatch(name)
+            yield (module, match[1], match[2]) if match else (module, name, name)
         if alias:
             yield module, "", alias
 
 
 def named_in(path: pathlib.Path) -> Iterator[Place]:
-    """What a file imports and has in its text."""
+    """Yields imports of a file, and all words of its text."""
     text = text_of(path)
     rest = USE.sub("", text)
     words = set(WORD.findall(rest))
-    dotted = set(re.findall(r"(\w+)\.([\w'-]+)", rest))
-    for module, name, here in imported(text):
+    qualified_names = set(re.findall(r"(\w+)\.([\w'-]+)", rest))
+    for module, name, here in imports_of(text):
         if not name:
-            yield from ((module, part) for front, part in dotted if front == here)
+            yield from (
+                (module, part) for front, part in qualified_names if front == here
+            )
         elif here in words:
             yield module, name
     crate = path.relative_to(CRATES).parts[0]
@@ -148,13 +150,13 @@ def lemmas() -> Iterator[str]:
         for path in sources_of(crate)
         if path.suffix in (".rt", ".antt")
     ]
-    named = {place for path in files for place in named_in(path)}
+    places_named = {place_named for path in files for place_named in named_in(path)}
     for path in files:
         if path.suffix == ".antt":
             yield from (
                 f"{path.relative_to(TOP)} {name}"
                 for name in definitions(path)
-                if (module_of(path), name) not in named
+                if (module_of(path), name) not in places_named
             )
 
 
@@ -165,14 +167,14 @@ def twice() -> Iterator[str]:
         CRATES.glob("*/proofs/*.antt")
     ):
         for name, text in blocks(text_of(path)):
-            own = re.compile(rf"(?<![\w'-]){re.escape(name)}(?![\w'-])")
-            body = " ".join(own.sub("@", MARKS.sub("", text, count=1)).split())
+            pattern = re.compile(rf"(?<![\w'-]){re.escape(name)}(?![\w'-])")
+            body = " ".join(pattern.sub("@", MARKS.sub("", text, count=1)).split())
             if name != "use" and len(body) > SHORT:
                 places[body].append(f"{path.relative_to(TOP)} {name}")
     yield from (
         " = ".join(all_places)
         for all_places in places.values()
-        if len({place.split("/")[1] for place in all_places}) > 1
+        if len({definition.split("/")[1] for definition in all_places}) > 1
     )
 
 
@@ -192,8 +194,8 @@ def dependencies() -> Iterator[str]:
 
 
 def kept_files() -> List[pathlib.Path]:
-    """The files of the repository, without those of the crates."""
-    listed = subprocess.run(
+    """Lists the repository's files outside of crates/."""
+    parts = subprocess.run(
         ["git", "ls-files", "-co", "--exclude-standard"],
         cwd=TOP,
         capture_output=True,
@@ -202,13 +204,13 @@ def kept_files() -> List[pathlib.Path]:
     ).stdout.split("\n")
     return [
         TOP / name
-        for name in listed
+        for name in parts
         if name and not name.startswith("crates/") and (TOP / name).is_file()
     ]
 
 
 def is_called_by_name(node: ast.AST) -> bool:
-    """Whether a library finds a function, a method or a class by itself: by a
+    """Returns whether a library finds a function, a method or a class by itself: by a
     decorator, or as a class of tests."""
     return (
         bool(node.decorator_list)
@@ -225,30 +227,32 @@ def functions() -> Iterator[str]:
     words: Counter[str] = collections.Counter()
     places: Dict[str, str] = {}
     for path in kept_files():
-        if path.suffix in TEXTS and path != KNOWN:
+        if path.suffix in TEXTS and path != KNOWN_FILE:
             text = path.read_text(encoding="utf-8", errors="replace")
             words.update(re.findall(r"\w+", text))
             for node in ast.walk(ast.parse(text)) if path.suffix == ".py" else ():
                 if isinstance(
                     node, (ast.FunctionDef, ast.AsyncFunctionDef, ast.ClassDef)
                 ):
-                    if not is_called_by_name(node) and not CALLED.fullmatch(node.name):
+                    if not is_called_by_name(node) and not CALL_PATTERN.fullmatch(
+                        node.name
+                    ):
                         places[node.name] = f"{path.relative_to(TOP)} {node.name}"
-    yield from (place for name, place in places.items() if words[name] == 1)
+    yield from (definition for name, definition in places.items() if words[name] == 1)
 
 
-def unnamed() -> List[str]:
+def unnamed_names() -> List[str]:
     return sorted([*lemmas(), *twice(), *dependencies(), *functions()])
 
 
-def known() -> List[str]:
-    """The rows of the file of those that are known."""
+def known_rows() -> List[str]:
+    """Returns the rows of the file of known exceptions."""
     return [
         line
-        for line in KNOWN.read_text(encoding="utf-8").splitlines()
+        for line in KNOWN_FILE.read_text(encoding="utf-8").splitlines()
         if line and not line.startswith("#")
     ]
 
 
 if __name__ == "__main__":
-    print("\n".join(unnamed()))
+    print("\n".join(unnamed_names()))

@@ -34,20 +34,24 @@ def version() -> str:
 
 
 def asked_of_git(*words: str) -> Optional[str]:
-    """What git says of this tree, or None if it is no repository."""
+    """Returns the output of git for this tree, or None outside of a repository."""
     try:
-        ran = subprocess.run(
+        result = subprocess.run(
             ["git", "-C", str(TOP), *words],
             stdout=subprocess.PIPE,
             stderr=subprocess.DEVNULL,
         )
     except FileNotFoundError:
         return None
-    return ran.stdout.decode(errors="replace").strip() if ran.returncode == 0 else None
+    return (
+        result.stdout.decode(errors="replace").strip()
+        if result.returncode == 0
+        else None
+    )
 
 
 def commit() -> str:
-    """The commit of this tree, and whether it has changed since."""
+    """Returns this tree's commit, marked if files have changed."""
     head = asked_of_git("rev-parse", "HEAD")
     changes = asked_of_git("status", "--porcelain")
     if head is None or changes is None:
@@ -55,19 +59,19 @@ def commit() -> str:
     return f"commit {head}, {'tree changed' if changes else 'tree clean'}"
 
 
-def installed() -> str:
+def installed_version() -> str:
     """The toolchain that is installed."""
     kit = KIT / "KIT-ID"
     return f"toolchain {kit.read_text().strip() if kit.exists() else UNKNOWN}"
 
 
-def recorded() -> str:
+def recorded_version() -> str:
     """The toolchain that built the proved program, as its record says."""
-    record = built.ARENA.proved.with_name(built.RECORD)
-    found = re.search(
+    record = built.ARENA.proved_path.with_name(built.RECORD)
+    match = re.search(
         r"^# (toolchain .*)$", record.read_text() if record.exists() else "", re.M
     )
-    return found[1] if found else f"toolchain {UNKNOWN}"
+    return match[1] if match else f"toolchain {UNKNOWN}"
 
 
 def lines(is_proved: bool, toolchain: str) -> str:
@@ -80,8 +84,8 @@ def text() -> str:
     if (TOP / BUILD).exists():
         return (TOP / BUILD).read_text()
     if built.ARENA.is_proved():
-        return lines(True, recorded())
-    return lines(False, installed()) + f"{HOW_TO_PROVE}\n"
+        return lines(True, recorded_version())
+    return lines(False, installed_version()) + f"{HOW_TO_PROVE}\n"
 
 
 def main() -> int:

@@ -7,11 +7,11 @@ from django.utils.translation import gettext_lazy as _
 
 from arena_lab.hall.attempts import asking
 from arena_lab.hall.attempts.models import Attempt
-from arena_lab.hall.teams.admin import Made
+from arena_lab.hall.teams.admin import ReadOnlyAdmin
 
 
 @admin.register(Attempt)
-class Attempts(Made):
+class Attempts(ReadOnlyAdmin):
     """All matches, newest first."""
 
     list_display = ("pk", "team", "network", "state", "asked", "outcomes", "link")
@@ -31,7 +31,7 @@ class Attempts(Made):
     @admin.display(description=_("outcome"))
     def outcomes(self, attempt: Attempt) -> str:
         return (
-            ", ".join(it.outcome for it in attempt.matches.all())
+            ", ".join(match.outcome for match in attempt.matches.all())
             if attempt.is_over
             else ""
         )

@@ -11,24 +11,24 @@ from arena_lab.hall.attempts.models import facts
 
 
 class AttemptRequest(serializers.Serializer):
-    """What a script asks for."""
+    """The request of a script for an attempt."""
 
     network = serializers.CharField(max_length=60)
 
 
 class Networks(APIView):
-    """What a team may ask for."""
+    """Lists the networks on which a team may request attempts."""
 
     def get(self, request: Any) -> Response:
         return Response(
             [
                 {
-                    "name": it.net.name,
-                    "open": it.is_open,
-                    "map": it.net.has_map,
-                    **facts(it.net.name),
+                    "name": offer.net.name,
+                    "open": offer.is_open,
+                    "map": offer.net.has_map,
+                    **facts(offer.net.name),
                 }
-                for it in asking.offers()
+                for offer in asking.offers()
             ]
         )
 
@@ -40,25 +40,25 @@ class Attempts(ViewSet):
         return Response(shown.attempts(request.user))
 
     def create(self, request: Any) -> Response:
-        wanted = AttemptRequest(data=request.data)
-        wanted.is_valid(raise_exception=True)
-        made = asking.ask(request.user, wanted.validated_data["network"])
+        attempt_request = AttemptRequest(data=request.data)
+        attempt_request.is_valid(raise_exception=True)
+        attempt = asking.ask(request.user, attempt_request.validated_data["network"])
         return Response(
-            shown.attempt(made),
+            shown.attempt(attempt),
             status=201,
-            headers={"Location": f"/api/matches/{made.pk}"},
+            headers={"Location": f"/api/matches/{attempt.pk}"},
         )
 
     def retrieve(self, request: Any, number: int) -> Response:
-        return Response(shown.attempt(views.own(request, number)))
+        return Response(shown.attempt(views.own_attempt(request, number)))
 
     def close(self, request: Any, number: int) -> Response:
         """Closes it as it stands."""
-        found = views.own(request, number)
-        asking.close(found)
-        found.refresh_from_db()
-        return Response(shown.attempt(found))
+        attempt = views.own_attempt(request, number)
+        asking.close(attempt)
+        attempt.refresh_from_db()
+        return Response(shown.attempt(attempt))
 
     def replay(self, request: Any, number: int, match: int) -> Any:
-        """The replay of a match that is over."""
+        """Sends the replay of a finished match."""
         return views.replay(request, number, match)

@@ -16,10 +16,9 @@ from arena_lab.hall.steps import step
 from arena_lab.hall.teams.models import Switch, Team, note, today
 
 
-class RequestRefused(APIException):
-    """What is asked for is refused: the status of HTTP, a line that says what to change,
-    and after how many seconds it may be asked for again, if waiting helps (the header
-    Retry-After)."""
+class RequestRefusedError(APIException):
+    """A request is refused: HTTP status, advice, and (if waiting helps) the seconds for
+    the header Retry-After."""
 
     def __init__(self, status: int, text: str, wait: Optional[int] = None) -> None:
         super().__init__(text)
@@ -28,7 +27,7 @@ class RequestRefused(APIException):
 
 
 class Offer(NamedTuple):
-    """A network as a team may ask for it."""
+    """A network that teams may request, and whether it is open."""
 
     net: Net
     is_open: bool
@@ -36,8 +35,10 @@ class Offer(NamedTuple):
 
 def open_networks() -> List[str]:
     """The networks that are open, in the order of the course's file."""
-    closed = set(Switch.objects.filter(is_open=False).values_list("network", flat=True))
-    return [name for name in settings.HALL.nets if name not in closed]
+    closed_networks = set(
+        Switch.objects.filter(is_open=False).values_list("network", flat=True)
+    )
+    return [name for name in settings.HALL.nets if name not in closed_networks]
 
 
 def offers() -> List[Offer]:
@@ -49,66 +50,66 @@ def offers() -> List[Offer]:
 def ask(team: Team, network: str) -> Attempt:
     """An attempt that a team asks for, or RequestRefused."""
     if network not in open_networks():
-        raise RequestRefused(404, _("there is no open network of this name"))
+        raise RequestRefusedError(404, _("there is no open network of this name"))
     make_room(team)
     with transaction.atomic():
         # two requests of a team at the same time are taken one after the other
         team = Team.objects.select_for_update().get(pk=team.pk)
         check_limits(team)
-        made = Attempt.objects.create(team=team, network=network)
-        note(team.name, f"asks for match {made.pk} on {network}")
-    return made
+        attempt = Attempt.objects.create(team=team, network=network)
+        note(team.name, f"asks for match {attempt.pk} on {network}")
+    return attempt
 
 
 def check_limits(team: Team) -> None:
     """Refuses what is more than a team may ask for."""
     limits = settings.HALL.limits
-    own = Attempt.objects.filter(team=team)
+    attempts = Attempt.objects.filter(team=team)
     if (
-        own.filter(state__in=(machine.WAITING, *machine.ACTIVE)).count()
+        attempts.filter(state__in=(machine.WAITING, *machine.ACTIVE)).count()
         >= limits.at_once
     ):
-        raise RequestRefused(
+        raise RequestRefusedError(
             429,
             _(
                 "%(count)s matches of your team wait or run already: wait for one, or close it"
             )
             % {"count": limits.at_once},
         )
-    if own.filter(asked__gte=today()).count() >= limits.a_day:
-        raise RequestRefused(
+    if attempts.filter(asked__gte=today()).count() >= limits.a_day:
+        raise RequestRefusedError(
             429,
             _("your team has asked for %(count)s matches today")
             % {"count": limits.a_day},
         )
 
 
-def make_room(team: Team, more: int = 0) -> None:
+def make_room(team: Team, extra: int = 0) -> None:
     """Removes the oldest files of practice of a team that has too many, or is to get
     more; refuses if that is not enough."""
-    most = bytes_of(team)
-    used = own_bytes(team) + more
+    limit = bytes_of(team)
+    disk_used = own_bytes(team) + extra
     old = Attempt.objects.filter(team=team, size__gt=0, state=machine.OVER).order_by(
         "pk"
     )
-    while used > most:
+    while disk_used > limit:
         attempt: Optional[Attempt] = old.first()
         if attempt is None:
-            raise RequestRefused(
+            raise RequestRefusedError(
                 429,
                 _(
                     "the files of your team take more than %(count)s MB: ask your teacher"
                 )
-                % {"count": most >> 20},
+                % {"count": limit >> 20},
             )
-        used -= attempt.size
+        disk_used -= attempt.size
         forget(attempt)
 
 
 def bytes_of(team: Team) -> int:
-    """How many bytes all files of a team may have."""
-    most = settings.HALL.limits.disk if team.disk is None else team.disk
-    return int(most << 20)
+    """Returns how many bytes all files of a team may have."""
+    limit = settings.HALL.limits.disk if team.disk is None else team.disk
+    return int(limit << 20)
 
 
 def own_bytes(team: Team) -> int:
@@ -121,8 +122,8 @@ def own_bytes(team: Team) -> int:
         Draft.objects.filter(team=team),
         Trial.objects.filter(team=team),
     )
-    found = (rows.aggregate(all=models.Sum("size"))["all"] for rows in kinds)
-    return sum(it or 0 for it in found)
+    sizes = (rows.aggregate(all=models.Sum("size"))["all"] for rows in kinds)
+    return sum(size or 0 for size in sizes)
 
 
 def close(attempt: Attempt) -> bool:

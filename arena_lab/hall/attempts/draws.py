@@ -17,24 +17,25 @@ NETWORK = "network.toml"
 
 
 class Draw(NamedTuple):
-    """A match that was drawn, and what its team is told of the network if it may have
-    the map."""
+    """A drawn match, and the map for its team if the network is shown."""
 
     fixture: Fixture
     map: Optional[Dict[str, Any]]
 
 
-def drawn(net: Net, team: str) -> Draw:
+def draw_match(net: Net, team: str) -> Draw:
     """Draws a match of a team."""
-    left = draws.Open(
+    draw_settings = draws.Open(
         holes=net.holes, ports=draws.DRAWN if net.labels == DRAWN else None
     )
-    found = draws.drawn(net.network, secrets.SystemRandom(), left, draws.SECRET_BITS)
-    setup = found.setup(net.agents, net.quota, net.board)
+    match = draws.draw_match(
+        net.network, secrets.SystemRandom(), draw_settings, draws.SECRET_BITS
+    )
+    setup = match.setup(net.agents, net.quota, net.board)
     keys = [f"{team}-{secrets.token_urlsafe(12)}" for _ in range(net.agents)]
     links = [list(link) for link in setup.links]
-    known = {"nodes": setup.nodes, "links": links, "home": setup.home}
-    return Draw(Fixture(team, setup, keys), known if net.has_map else None)
+    facts = {"nodes": setup.nodes, "links": links, "home": setup.home}
+    return Draw(Fixture(team, setup, keys), facts if net.has_map else None)
 
 
 def write(draw: Draw, folder: pathlib.Path) -> None:

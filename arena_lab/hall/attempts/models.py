@@ -19,7 +19,8 @@ CUT = "cut"
 
 
 class Attempt(StoredWork):
-    """What a team has asked for: a match. Those of earlier halls may have several."""
+    """A match that a team has requested. Attempts of earlier versions may have several
+    matches."""
 
     FOLDERS = "attempts"
     team = models.ForeignKey(Team, models.CASCADE, related_name="attempts")
@@ -38,8 +39,8 @@ post_delete.connect(remove_folder, Attempt)
 
 
 class Match(models.Model):
-    """A match of an attempt: where its server listens, its keys, and once it is over
-    what came of it."""
+    """A match of an attempt: address and port of its server, keys, and its verdict
+    after the end."""
 
     attempt = models.ForeignKey(Attempt, models.CASCADE, related_name="matches")
     number = models.PositiveSmallIntegerField()
@@ -47,7 +48,7 @@ class Match(models.Model):
     host = models.CharField(max_length=255)
     port = models.PositiveIntegerField()
     keys = models.JSONField()
-    # the map and the home base, for networks of which teams are told them
+    # map and home base, for networks whose teams receive them
     map = models.JSONField(null=True)
     since = models.DateTimeField(default=timezone.now)
     outcome = models.CharField(max_length=20, blank=True, default="")
@@ -79,13 +80,13 @@ class Match(models.Model):
 
 
 class Pages(Work):
-    """The pages of an attempt that is over are to be made."""
+    """A job that writes the pages of a finished attempt."""
 
     attempt = models.OneToOneField(Attempt, models.CASCADE, related_name="pages")
 
 
 def facts(network: str) -> Dict[str, Any]:
-    """What each team knows of a network of the hall."""
+    """Returns the public facts of a network of the hall."""
     net = settings.HALL.nets.get(network)
     return (
         {}

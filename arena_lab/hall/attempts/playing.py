@@ -19,10 +19,10 @@ from arena_lab.hall import machine, packing
 from arena_lab.hall.attempts import draws, servers
 from arena_lab.hall.attempts.models import ABSENT, CUT, Attempt, Match, Pages
 from arena_lab.hall.attempts.servers import Server, Times
-from arena_lab.hall.steps import Lease, WorkLost, begun, step
+from arena_lab.hall.steps import Lease, WorkLostError, begin_work, step
 from arena_lab.pages import page
-from arena_lab.rules.engines import judged
-from arena_lab.support.faults import Fault
+from arena_lab.rules.engines import program_verdict
+from arena_lab.support.faults import ArenaError
 
 # of a worker on another machine than the pages: by which name teams reach it
 HOST = "ARENA_HALL_HOST"
@@ -30,7 +30,7 @@ HOST = "ARENA_HALL_HOST"
 
 def play(number: int, holder: str) -> None:
     """Plays the attempt of this number, if this holder holds it."""
-    with begun(Attempt, number, holder, "team") as attempt:
+    with begin_work(Attempt, number, holder, "team") as attempt:
         if attempt is not None:
             Playing(attempt, holder).play()
 
@@ -52,11 +52,13 @@ class Playing:
         """Plays the match, unless an earlier run has made its replay whole, and notes
         what came of it."""
         if self._net is None:
-            raise Fault(f"the hall has no network {self._attempt.network} any more")
-        if not any(it.replay.exists() for it in self._attempt.matches.all()):
+            raise ArenaError(
+                f"the hall has no network {self._attempt.network} any more"
+            )
+        if not any(match.replay.exists() for match in self._attempt.matches.all()):
             # of an earlier run, which came to nothing
             shutil.rmtree(self._attempt.folder, ignore_errors=True)
-            draw = draws.drawn(self._net, self._attempt.team.name)
+            draw = draws.draw_match(self._net, self._attempt.team.name)
             hall = settings.HALL
             draws.write(draw, self._folder)
             server = servers.start(
@@ -73,7 +75,7 @@ class Playing:
 
     def _told(self, draw: draws.Draw, server: Server) -> Match:
         """Notes where the server listens, so that the team may begin."""
-        told = {
+        facts = {
             "run": self._attempt.runs,
             "host": os.environ.get(HOST, settings.HALL.host),
             "port": server.port,
@@ -83,7 +85,7 @@ class Playing:
         with transaction.atomic():
             self._lease.renew()
             match, _ = Match.objects.update_or_create(
-                attempt=self._attempt, number=0, defaults=told
+                attempt=self._attempt, number=0, defaults=facts
             )
         return match
 
@@ -100,16 +102,17 @@ class Playing:
                 server.close()
 
     def _is_late(self, seconds: float, match: Match) -> bool:
-        """Whether the match is to be closed: it takes too long, or nobody has come."""
-        waited = seconds * 1000 > self._times.gather + 1000
-        if waited and not self._came:
+        """Returns whether the match is to be closed: it takes too long, or nobody has
+        come."""
+        waits_too_long = seconds * 1000 > self._times.gather + 1000
+        if waits_too_long and not self._came:
             self._came = has_entered(match.part) or has_entered(match.replay)
-        return seconds > self._times.seconds() or waited and not self._came
+        return seconds > self._times.seconds() or waits_too_long and not self._came
 
     def _finish(self) -> None:
-        """Notes the verdict, and that the page is to be made, wholly or not at all."""
+        """Stores the verdicts and queues the job for pages, in one transaction."""
         verdicts = {
-            match: judged(settings.PLACE.program, match.replay)
+            match: program_verdict(settings.PLACE.program, match.replay)
             for match in self._attempt.matches.all()
         }
         with transaction.atomic():
@@ -119,7 +122,7 @@ class Playing:
                 self._holder,
                 size=packing.size_of(self._attempt.folder),
             ):
-                raise WorkLost
+                raise WorkLostError
             for match, verdict in verdicts.items():
                 outcome = verdict.outcome
                 if not has_entered(match.replay):
@@ -131,7 +134,7 @@ class Playing:
 
 
 def has_entered(replay: pathlib.Path) -> bool:
-    """Whether an agent has entered a match."""
+    """Returns whether an agent has entered a match."""
     with contextlib.suppress(FileNotFoundError), replay.open(
         encoding="utf-8", newline="\n"
     ) as lines:
@@ -140,8 +143,8 @@ def has_entered(replay: pathlib.Path) -> bool:
 
 
 def make_pages(number: int, holder: str) -> None:
-    """Makes the pages of an attempt that is over."""
-    with begun(Pages, number, holder, "attempt") as work:
+    """Writes the pages of a finished attempt."""
+    with begin_work(Pages, number, holder, "attempt") as work:
         for match in work.attempt.matches.all() if work else ():
             if match.replay.exists():
                 title = f"{work.attempt.network}, {work.attempt_id}.{match.number}"

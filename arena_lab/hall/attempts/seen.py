@@ -1,4 +1,5 @@
-"""What a team may see of a match that goes on: what its agents were told, and no more.
+"""Computes what a team may see of a running match: the messages to its agents, and
+nothing else.
 
 The part of a replay has more than that: its head has the black holes, and a line says
 which agent is destroyed. Both are left out here, and what is shown does not depend on
@@ -21,24 +22,24 @@ MATCHES = 300
 
 
 class Agent:
-    """What an agent has said and was told."""
+    """An agent's number of commands, and the last lines that it received."""
 
     def __init__(self) -> None:
-        self.said = 0
+        self.commands = 0
         self.lines: Deque[Dict[str, Any]] = collections.deque(maxlen=LINES)
 
-    def shown(self, number: int) -> Dict[str, Any]:
+    def as_dict(self, number: int) -> Dict[str, Any]:
         return {
             "agent": number,
-            "entered": self.said > 0,
-            "commands": self.said,
+            "entered": self.commands > 0,
+            "commands": self.commands,
             "lines": list(self.lines),
         }
 
 
 class Part:
-    """What agents were told, as the part of a replay has it, which grows: what is new
-    is read when it is asked for."""
+    """Follows the part file of a replay, from which it collects the messages to agents;
+    each call reads only new lines."""
 
     def __init__(self, path: pathlib.Path, agents: int) -> None:
         self._path = path
@@ -63,27 +64,29 @@ class Part:
         self._has_head = self._has_head or bool(lines)
         return [json.loads(line) for line in events]
 
-    def shown(self) -> List[Dict[str, Any]]:
+    def as_list(self) -> List[Dict[str, Any]]:
         with self._lock:
             for event in self._new():
                 self.take(event)
-            return [agent.shown(number) for number, agent in enumerate(self._agents)]
+            return [agent.as_dict(number) for number, agent in enumerate(self._agents)]
 
     def take(self, event: Dict[str, Any]) -> None:
-        """Takes an event, unless no agent is told of it."""
+        """Counts an event, unless no agent receives it."""
         is_told = "agent" in event and event.get("reply") is not None
         if is_told and event["agent"] < len(self._agents):
             agent = self._agents[event["agent"]]
-            agent.said += event["do"] != "deliver"
+            agent.commands += event["do"] != "deliver"
             agent.lines.append(
-                shortened({name: it for name, it in event.items() if name != "agent"})
+                shorten(
+                    {name: value for name, value in event.items() if name != "agent"}
+                )
             )
 
 
-def shortened(value: Any) -> Any:
+def shorten(value: Any) -> Any:
     """A value whose long texts are cut."""
     if isinstance(value, dict):
-        return {name: shortened(it) for name, it in value.items()}
+        return {name: shorten(value) for name, value in value.items()}
     return value[:TEXT] + "…" if isinstance(value, str) and len(value) > TEXT else value
 
 
@@ -99,58 +102,58 @@ MEANINGS = {
 }
 
 
-class Ended(NamedTuple):
-    """What is told of a match that is closed, besides its verdict: which lines were
-    refused, who was lost where, and where black holes were."""
+class MatchEnd(NamedTuple):
+    """The details of a closed match besides its verdict: rejected lines, lost agents
+    with their places, and black holes."""
 
     refused: List[Dict[str, Any]]
     lost: List[Dict[str, int]]
     holes: List[int]
 
 
-def ended(replay: pathlib.Path) -> Optional[Ended]:
-    """What a replay tells, if it is there."""
+def match_end(replay: pathlib.Path) -> Optional[MatchEnd]:
+    """Reads the end of a match from its replay; returns None without a replay."""
     try:
-        return kept_ended(replay, packing.place(replay).stat().st_mtime_ns)
+        return kept_ended(replay, packing.packed_path(replay).stat().st_mtime_ns)
     except FileNotFoundError:
         return None
 
 
 @functools.lru_cache(maxsize=MATCHES)
-def kept_ended(replay: pathlib.Path, written: int) -> Ended:
-    """What a replay tells that was written then: it is read once, as it may be long and
-    be asked for often."""
+def kept_ended(replay: pathlib.Path, mtime: int) -> MatchEnd:
+    """Reads the end of a match, cached by the replay's modification time, because
+    replays may be long and are requested often."""
     return read_ended(replay)
 
 
-def read_ended(replay: pathlib.Path) -> Ended:
-    """What a replay tells, of refused lines the first fifty."""
-    refused: List[Dict[str, Any]] = []
+def read_ended(replay: pathlib.Path) -> MatchEnd:
+    """Reads the end of a match from its replay, with the first fifty rejected lines."""
+    refusals: List[Dict[str, Any]] = []
     lost: List[Dict[str, int]] = []
-    departed: Dict[int, int] = {}
-    with packing.opened(replay) as lines:
+    departures: Dict[int, int] = {}
+    with packing.open_packed(replay) as lines:
         holes = json.loads(next(lines)).get("holes", [])
-        for place, line in enumerate(lines):
+        for index, line in enumerate(lines):
             event = json.loads(line)
             reply = event.get("reply")
             if event.get("do") == "depart":
-                departed[event["agent"]] = event["port"]
+                departures[event["agent"]] = event["port"]
             if event.get("do") == "deliver" and reply is None:
                 lost.append(
                     {
                         "agent": event["agent"],
-                        "port": departed.get(event["agent"], 0),
-                        "event": place + 1,
+                        "port": departures.get(event["agent"], 0),
+                        "event": index + 1,
                     }
                 )
-            if isinstance(reply, dict) and "no" in reply and len(refused) < 50:
-                refused.append(
-                    shortened(
+            if isinstance(reply, dict) and "no" in reply and len(refusals) < 50:
+                refusals.append(
+                    shorten(
                         {
-                            "event": place + 1,
+                            "event": index + 1,
                             **event,
                             "meaning": MEANINGS.get(reply["no"], ""),
                         }
                     )
                 )
-    return Ended(refused, lost, holes)
+    return MatchEnd(refusals, lost, holes)

@@ -9,8 +9,8 @@ import subprocess
 from typing import IO, List, NamedTuple, Optional, Sequence, Tuple, cast
 
 from arena_lab.hall.attempts.draws import TOURNAMENT
-from arena_lab.hall.machine import MachineFault
-from arena_lab.hall.place import tell
+from arena_lab.hall.machine import MachineFaultError
+from arena_lab.hall.place import log_line
 from arena_lab.support.waiting import is_ready
 
 # ends a program with the process that started it, also where that is killed; one that
@@ -22,7 +22,7 @@ SECONDS_TO_BEGIN = 30.0
 GRACE = 3_000
 
 
-class NoServer(MachineFault):
+class NoServerError(MachineFaultError):
     """The server of a match did not begin, or ended by a fault; says how."""
 
 
@@ -35,7 +35,7 @@ class Times(NamedTuple):
     gather: int
 
     def seconds(self) -> float:
-        """How long its server goes on at most."""
+        """Returns how long its server goes on at most."""
         return (self.turns * self.pause * 1.5 + self.gather + GRACE) / 1000 + 60
 
 
@@ -57,11 +57,11 @@ class Server:
             pipe.flush()
 
     def has_ended(self) -> bool:
-        """Whether it has ended well; another end is a fault."""
+        """Returns whether it has ended well; another end is a fault."""
         status = self._child.poll()
         if status:
             tell_log(self._folder)
-            raise NoServer(f"the server of the match ended with status {status}")
+            raise NoServerError(f"the server of the match ended with status {status}")
         return status is not None
 
     def kill(self) -> None:
@@ -81,7 +81,7 @@ def tell_log(folder: pathlib.Path) -> None:
             .read_text(encoding="utf-8", errors="replace")
             .splitlines()[-1]
         )
-        tell(f"{folder}: {last[:200]}")
+        log_line(f"{folder}: {last[:200]}")
 
 
 def bound(words: Sequence[object]) -> List[str]:
@@ -97,36 +97,39 @@ def bound(words: Sequence[object]) -> List[str]:
 
 
 def start(
-    program: str, folder: pathlib.Path, times: Times, place: Tuple[str, Tuple[int, int]]
+    program: str,
+    folder: pathlib.Path,
+    times: Times,
+    listen_range: Tuple[str, Tuple[int, int]],
 ) -> Server:
     """Starts the server of the match of a folder, on an address and on a port of a
     range that nobody uses."""
-    address, (first, last) = place
+    address, (first, last) = listen_range
     for port in random.sample(range(first, last + 1), last + 1 - first):
         if is_free(address, port):
-            server = started(program, folder, times, (address, port))
+            server = start_server(program, folder, times, (address, port))
             if server is not None:
                 return server
-    raise NoServer(f"all ports from {first} to {last} are in use")
+    raise NoServerError(f"all ports from {first} to {last} are in use")
 
 
 def is_free(address: str, port: int) -> bool:
-    """Whether nobody listens on a port now."""
+    """Returns whether nobody listens on a port now."""
     family = socket.AF_INET6 if ":" in address else socket.AF_INET
-    with socket.socket(family) as tried:
-        tried.setsockopt(socket.SOL_SOCKET, socket.SO_REUSEADDR, 1)
+    with socket.socket(family) as probe:
+        probe.setsockopt(socket.SOL_SOCKET, socket.SO_REUSEADDR, 1)
         try:
-            tried.bind((address, port))
+            probe.bind((address, port))
         except OSError:
             return False
     return True
 
 
-def started(
-    program: str, folder: pathlib.Path, times: Times, place: Tuple[str, int]
+def start_server(
+    program: str, folder: pathlib.Path, times: Times, listen_address: Tuple[str, int]
 ) -> Optional[Server]:
     """The server on this port, or nothing if another was faster."""
-    address, port = place
+    address, port = listen_address
     words = [
         program,
         "serve",
@@ -159,8 +162,8 @@ def started(
         )
     server = Server(child, folder, port)
     out = cast(IO[bytes], child.stdout)
-    said = out.readline() if is_ready(out, SECONDS_TO_BEGIN) else b""
-    if said == f"listening {port}\n".encode():
+    line = out.readline() if is_ready(out, SECONDS_TO_BEGIN) else b""
+    if line == f"listening {port}\n".encode():
         return server
     child.kill()
     status = child.wait()
@@ -168,4 +171,4 @@ def started(
     if status == NO_PORT:
         return None
     tell_log(folder)
-    raise NoServer(f"the server of a match did not begin (status {status})")
+    raise NoServerError(f"the server of a match did not begin (status {status})")

@@ -1,6 +1,5 @@
-"""What a team is told of its attempts, as REST says it and as pages show it. Before the
-close that is what its agents were told, and nothing of black holes and of agents that
-are lost."""
+"""Attempts as dicts for REST and pages. Before the close they contain only what the
+agents received, and nothing about black holes and lost agents."""
 from typing import Any, Dict, List, Optional
 
 from django.conf import settings
@@ -9,66 +8,80 @@ from django.utils import timezone
 from arena_lab.hall import machine
 from arena_lab.hall.attempts import seen
 from arena_lab.hall.attempts.models import Attempt, Match, facts
-from arena_lab.hall.packing import place
+from arena_lab.hall.packing import packed_path
 
 
-def attempt(it: Attempt) -> Dict[str, Any]:
+def attempt(attempt: Attempt) -> Dict[str, Any]:
     """An attempt with its matches."""
     matches = (
-        list(it.matches.all()) if it.state in (machine.RUNNING, machine.OVER) else []
+        list(attempt.matches.all())
+        if attempt.state in (machine.RUNNING, machine.OVER)
+        else []
     )
-    shown = [
-        match(found, it) for found in matches if it.is_over or found.run == it.runs
+    matches_shown = [
+        match(match_row, attempt)
+        for match_row in matches
+        if attempt.is_over or match_row.run == attempt.runs
     ]
     return {
-        **brief(it),
-        "facts": facts(it.network),
+        **brief(attempt),
+        "facts": facts(attempt.network),
         "minutes": settings.HALL.minutes,
-        "matches": shown,
+        "matches": matches_shown,
     }
 
 
-def brief(it: Attempt) -> Dict[str, Any]:
+def brief(attempt: Attempt) -> Dict[str, Any]:
     """An attempt in a line."""
-    verdicts = [verdict(found) for found in it.matches.all()] if it.is_over else []
+    verdicts = (
+        [verdict(match_row) for match_row in attempt.matches.all()]
+        if attempt.is_over
+        else []
+    )
     return {
-        "id": it.pk,
-        "network": it.network,
-        "state": it.state,
-        "asked": time_of(it.asked),
-        "begun": time_of(it.begun),
-        "ended": time_of(it.ended),
-        "fault": it.fault,
-        "solved": sum(found["outcome"] == "solved" for found in verdicts),
+        "id": attempt.pk,
+        "network": attempt.network,
+        "state": attempt.state,
+        "asked": time_of(attempt.asked),
+        "begun": time_of(attempt.begun),
+        "ended": time_of(attempt.ended),
+        "fault": attempt.fault,
+        "solved": sum(verdict["outcome"] == "solved" for verdict in verdicts),
         "verdicts": verdicts,
     }
 
 
-def verdict(it: Match) -> Dict[str, Any]:
-    return {"outcome": it.outcome, "moves": it.moves, "lost": it.lost}
+def verdict(row: Match) -> Dict[str, Any]:
+    return {"outcome": row.outcome, "moves": row.moves, "lost": row.lost}
 
 
-def match(it: Match, of: Attempt) -> Dict[str, Any]:
-    """A match: how one plays it, what its agents were told, and once it is over what
-    came of it."""
-    found: Dict[str, Any] = {
-        "number": it.number,
-        "host": it.host,
-        "port": it.port,
-        "keys": it.keys,
-        "map": it.map,
+def match(row: Match, of: Attempt) -> Dict[str, Any]:
+    """Returns a match as a dict: address, keys, messages to its agents, and the verdict
+    after its end."""
+    facts: Dict[str, Any] = {
+        "number": row.number,
+        "host": row.host,
+        "port": row.port,
+        "keys": row.keys,
+        "map": row.map,
         "verdict": None,
         "agents": None,
         "after": None,
         "page": None,
     }
     if of.is_over:
-        told = seen.ended(it.replay)
-        page = f"/matches/{of.pk}/{it.number}/page" if place(it.page).exists() else None
-        found.update(verdict=verdict(it), after=told and told._asdict(), page=page)
+        match_end = seen.match_end(row.replay)
+        page = (
+            f"/matches/{of.pk}/{row.number}/page"
+            if packed_path(row.page).exists()
+            else None
+        )
+        facts.update(
+            verdict=verdict(row), after=match_end and match_end._asdict(), page=page
+        )
     else:
-        found.update(agents=seen.part(it.part, len(it.keys)).shown())
-    return found
+        facts.update(agents=seen.part(row.part, len(row.keys)).as_list())
+    return facts
 
 
 def time_of(moment: Any) -> Optional[str]:
@@ -82,6 +95,8 @@ def time_of(moment: Any) -> Optional[str]:
 def attempts(team: Any) -> List[Dict[str, Any]]:
     """The newest attempts of a team, at most fifty."""
     return [
-        brief(it)
-        for it in Attempt.objects.filter(team=team).prefetch_related("matches")[:50]
+        brief(attempt_row)
+        for attempt_row in Attempt.objects.filter(team=team).prefetch_related(
+            "matches"
+        )[:50]
     ]

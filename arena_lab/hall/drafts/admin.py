@@ -7,11 +7,11 @@ from django.utils.translation import gettext_lazy as _
 
 from arena_lab.hall.drafts import trying
 from arena_lab.hall.drafts.models import Trial
-from arena_lab.hall.teams.admin import Made
+from arena_lab.hall.teams.admin import ReadOnlyAdmin
 
 
 @admin.register(Trial)
-class TrialTable(Made):
+class TrialTable(ReadOnlyAdmin):
     """All trials, newest first."""
 
     list_display = ("pk", "team", "language", "kind", "state", "asked", "fault", "link")
@@ -35,8 +35,8 @@ class TrialTable(Made):
     @admin.display(description="")
     def link(self, trial: Trial) -> str:
         page = f"/write/trials/{trial.pk}/page"
-        shown = _("Watch it")
-        return format_html('<a href="{}">{}</a>', page, shown) if trial.has_page else ""
+        label = _("Watch it")
+        return format_html('<a href="{}">{}</a>', page, label) if trial.has_page else ""
 
     @admin.action(description=_("Stop"), permissions=["change"])
     def close(self, request: Any, chosen: Any) -> None:

@@ -21,73 +21,79 @@ class HandedDraft(serializers.Serializer):
 
 
 def members_of(request: Any) -> Dict[str, Any]:
-    """The members of the object that is sent, if it is one."""
+    """Returns the request's JSON object, or {} if it sent something else."""
     return request.data if isinstance(request.data, dict) else {}
 
 
 class Writers(ViewSet):
-    """What teams and guests may ask for."""
+    """Base of views for teams and guests."""
 
     authentication_classes = [ByToken, ByWriter]
 
 
 class Drafts(Writers):
-    """What a team writes."""
+    """The drafts of a team."""
 
     def list(self, request: Any) -> Response:
-        found = [writing.draft_of(request.user, it) for it in kits.languages()]
-        return Response([writing.shown(it) for it in found])
+        drafts = [
+            writing.draft_of(request.user, language) for language in kits.languages()
+        ]
+        return Response([writing.draft_dict(draft) for draft in drafts])
 
     def retrieve(self, request: Any, language: str) -> Response:
-        return Response(writing.shown(writing.draft_of(request.user, language)))
+        return Response(writing.draft_dict(writing.draft_of(request.user, language)))
 
     def update(self, request: Any, language: str) -> Response:
-        sent = members_of(request)
-        made = writing.save(
-            request.user, language, sent.get("files"), sent.get("version")
+        members = members_of(request)
+        draft = writing.save(
+            request.user, language, members.get("files"), members.get("version")
         )
         # who sends has the files
-        return Response({**writing.shown(made), "files": None})
+        return Response({**writing.draft_dict(draft), "files": None})
 
     def hand_in(self, request: Any, language: str) -> Response:
-        sent = HandedDraft(data=request.data)
-        sent.is_valid(raise_exception=True)
-        given = sent.validated_data
-        made = writing.hand_in(request.user, language, given["files"], given["contest"])
+        handed_draft = HandedDraft(data=request.data)
+        handed_draft.is_valid(raise_exception=True)
+        hand_in_data = handed_draft.validated_data
+        hand = writing.hand_in(
+            request.user, language, hand_in_data["files"], hand_in_data["contest"]
+        )
         return Response(
-            taking.shown(made),
+            taking.hand_in_dict(hand),
             status=201,
-            headers={"Location": f"/api/hand-ins/{made.pk}"},
+            headers={"Location": f"/api/hand-ins/{hand.pk}"},
         )
 
 
 class Trials(Writers):
-    """What a team tries."""
+    """The trials of a team."""
 
     def list(self, request: Any) -> Response:
-        return Response([trying.brief(it) for it in trying.kept(request.user)])
+        return Response(
+            [trying.brief(trial) for trial in trying.kept_trials(request.user)]
+        )
 
     def create(self, request: Any) -> Response:
-        made = trying.ask(request.user, members_of(request))
+        trial = trying.ask(request.user, members_of(request))
         return Response(
-            trying.shown(made),
+            trying.trial_dict(trial),
             status=201,
-            headers={"Location": f"/api/trials/{made.pk}"},
+            headers={"Location": f"/api/trials/{trial.pk}"},
         )
 
     def retrieve(self, request: Any, number: int) -> Response:
-        return Response(trying.shown(views.own(request, number)))
+        return Response(trying.trial_dict(views.own_trial(request, number)))
 
     def close(self, request: Any, number: int) -> Response:
         """Stops it."""
-        found: Trial = views.own(request, number)
-        trying.close(found)
-        found.refresh_from_db()
-        return Response(trying.shown(found))
+        trial: Trial = views.own_trial(request, number)
+        trying.close(trial)
+        trial.refresh_from_db()
+        return Response(trying.trial_dict(trial))
 
     def files(self, request: Any, number: int) -> Response:
         """The program as it was."""
-        return Response(views.own(request, number).files)
+        return Response(views.own_trial(request, number).files)
 
     def replay(self, request: Any, number: int) -> Any:
         """The replay of the match that was tried, or that shows what to mend."""

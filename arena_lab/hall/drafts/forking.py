@@ -1,6 +1,6 @@
-"""A process of the worker that waits with all modules loaded that a trial needs, and
-forks a process for each trial (arena_lab/commands/trial.py): a trial begins in some
-milliseconds, and loads nothing. It ends with the worker, and each trial with it."""
+"""A fork server for trials (arena_lab/commands/trial.py): a process with all modules
+loaded, which forks one process per trial within milliseconds. It ends with its worker,
+and each trial with it."""
 import contextlib
 import json
 import os
@@ -13,18 +13,18 @@ import threading
 from typing import Callable, Iterator, Optional
 
 from arena_lab.hall.children import FIRST, temporary_folder, variables
-from arena_lab.hall.machine import MachineFault
+from arena_lab.hall.machine import MachineFaultError
 from arena_lab.support.built import TOP
 from arena_lab.support.waiting import is_ready
 
 MODULE = "arena_lab.commands.trial"
-# seconds in which it has to begin, and a process to end that is killed
+# seconds for the start of the fork server, and for the end of a killed process
 PATIENCE = 60.0
 
 
-class TrialParent:
-    """The process that waits. It is started when it is first needed, and again if the
-    machine has ended it, as when memory is short."""
+class ForkServer:
+    """Starts the fork server when it is first needed, and again if the system has
+    killed it (for lack of memory, say)."""
 
     def __init__(self) -> None:
         self._lock = threading.Lock()
@@ -36,20 +36,20 @@ class TrialParent:
         with self._lock, contextlib.suppress(OSError):
             self._open()
 
-    def forked(self, folder: pathlib.Path, temporary: str) -> int:
+    def fork_trial(self, folder: pathlib.Path, temporary: str) -> int:
         """Starts the trial of a folder, in a process of its own; gives that process as a
         descriptor, which can be read once it has ended."""
-        sent = json.dumps({"folder": str(folder), "temporary": temporary}).encode()
+        message = json.dumps({"folder": str(folder), "temporary": temporary}).encode()
         with self._lock:
             for _ in range(2):
                 channel = self._open()
                 with contextlib.suppress(OSError):
-                    channel.send(sent)
-                    found = socket.recv_fds(channel, 1, 1)[1]
-                    if found:
-                        return found[0]
+                    channel.send(message)
+                    descriptors = socket.recv_fds(channel, 1, 1)[1]
+                    if descriptors:
+                        return descriptors[0]
                 self._close()
-        raise MachineFault("no process can be started in which a program is tried")
+        raise MachineFaultError("no process can be started in which a program is tried")
 
     def _open(self) -> socket.socket:
         """The channel to the process, which goes on."""
@@ -80,7 +80,7 @@ class TrialParent:
             self._child = None
 
 
-PARENT = TrialParent()
+FORK_SERVER = ForkServer()
 
 
 @contextlib.contextmanager
@@ -89,7 +89,7 @@ def trial_in(folder: pathlib.Path) -> Iterator[Callable[[float], bool]]:
     that waits for the trial's end for at most this many seconds, and says whether the
     trial has ended."""
     with temporary_folder() as temporary:
-        process = PARENT.forked(folder, temporary)
+        process = FORK_SERVER.fork_trial(folder, temporary)
         try:
             yield lambda seconds: is_ready(process, seconds)
         finally:

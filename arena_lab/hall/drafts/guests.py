@@ -8,7 +8,7 @@ from django.db import transaction
 from django.utils import timezone
 from django.utils.translation import gettext as _
 
-from arena_lab.hall.attempts.asking import RequestRefused
+from arena_lab.hall.attempts.asking import RequestRefusedError
 from arena_lab.hall.drafts.models import Draft
 from arena_lab.hall.drafts.writing import draft_of
 from arena_lab.hall.teams.guards import Buckets
@@ -18,22 +18,24 @@ from arena_lab.hall.teams.models import Team, note
 STAYS = datetime.timedelta(days=1)
 # MB of a guest
 DISK = 8
-# how many guests come from an address within a day: half of all, so that no one of them
-# keeps all others out
-came = Buckets(STAYS.total_seconds())
+# guests admitted per address and day: half of all places, so that one address cannot
+# exclude the others
+arrivals = Buckets(STAYS.total_seconds())
 
 
-def admitted(address: str) -> Team:
+def admit(address: str) -> Team:
     """A new guest, who comes from this address."""
     rules = settings.HALL.editor
-    most = 0 if rules is None else rules.guests
-    if most == 0:
-        raise RequestRefused(404, _("there are no guests here"))
+    limit = 0 if rules is None else rules.guests
+    if limit == 0:
+        raise RequestRefusedError(404, _("there are no guests here"))
     with transaction.atomic():
         remove_gone()
         guests = Team.objects.filter(is_guest=True).count()
-        if guests >= most or came.wait(address, max(1, most // 2)):
-            raise RequestRefused(429, _("there are too many guests: come again later"))
+        if guests >= limit or arrivals.wait(address, max(1, limit // 2)):
+            raise RequestRefusedError(
+                429, _("there are too many guests: come again later")
+            )
         team = Team.objects.create(
             name=f"guest-{secrets.token_hex(5)}",
             display=_("guest"),
@@ -49,6 +51,8 @@ def admitted(address: str) -> Team:
 
 def remove_gone() -> None:
     """Removes guests that have written nothing for long."""
-    written = Draft.objects.filter(at__gte=timezone.now() - STAYS)
-    gone = Team.objects.filter(is_guest=True).exclude(pk__in=written.values("team"))
-    gone.delete()
+    recent_drafts = Draft.objects.filter(at__gte=timezone.now() - STAYS)
+    guests_gone = Team.objects.filter(is_guest=True).exclude(
+        pk__in=recent_drafts.values("team")
+    )
+    guests_gone.delete()

@@ -8,7 +8,7 @@ from django.conf import settings
 from django.utils.translation import gettext as _
 
 from arena_lab.course.exercises import Exercise, exercises
-from arena_lab.hall.attempts.asking import RequestRefused
+from arena_lab.hall.attempts.asking import RequestRefusedError
 from arena_lab.play.agent_files import AGENTS
 from arena_lab.play.kits import KITS
 
@@ -20,7 +20,7 @@ SOURCES: Dict[str, List[str]] = {
     "cpp": ["careful.cpp", "client.hpp", "Makefile"],
 }
 WORDS = "{host} {port} {key} {nodes}"
-# seconds for a line, and for the first one of a program that is compiled before
+# seconds for a line, and for the first line of a program that is compiled first
 LINE = 5
 COMPILED_LINE = 20
 
@@ -50,12 +50,13 @@ def languages() -> List[str]:
 
 @functools.lru_cache(maxsize=1)
 def all_exercises() -> Dict[str, Exercise]:
-    """The exercises, which are part of the lab and do not change."""
+    """Returns all exercises; they are part of the lab and are read once."""
     return exercises()
 
 
 def exercise_of(language: Any) -> Optional[Exercise]:
-    """The exercise of this name, if it is one and there is an editor."""
+    """Returns an exercise by name; None if it does not exist or the hall has no
+    editor."""
     if settings.HALL.editor is None or not isinstance(language, str):
         return None
     return all_exercises().get(language)
@@ -75,18 +76,20 @@ def kit_of(language: Any) -> WrittenKit:
             False,
         )
     if language not in languages():
-        raise RequestRefused(404, _("there is no such kit here"))
+        raise RequestRefusedError(404, _("there is no such kit here"))
     files = files_of(language)
     kit = KITS[language]
-    given = settings.HALL.hand_ins
+    rules = settings.HALL.hand_ins
     main = next(iter(files))
     line = COMPILED_LINE if kit.build else LINE
     if (
-        given is not None
-        and pathlib.Path(given.file).suffix == pathlib.Path(main).suffix
+        rules is not None
+        and pathlib.Path(rules.file).suffix == pathlib.Path(main).suffix
     ):
-        named = {given.file if it == main else it: text for it, text in files.items()}
-        return WrittenKit(language, kit.name, named, given.command, line, True)
+        named_texts = {
+            rules.file if file == main else file: text for file, text in files.items()
+        }
+        return WrittenKit(language, kit.name, named_texts, rules.command, line, True)
     words = f"{kit.play} {WORDS}"
     if kit.build:
         words = f"sh -c '{kit.build} -s >&2 && exec {kit.play} $*' sh {WORDS}"

@@ -10,8 +10,8 @@ from arena_lab.hall.teams.models import Team
 
 
 class Draft(models.Model):
-    """What a team writes with a kit, file by file. Each change has a number, so that
-    members of a team who write at the same time lose nothing of each other."""
+    """A team's version of a kit, file by file. Each change increments a version number,
+    so that members who write at the same time do not lose each other's changes."""
 
     team = models.ForeignKey(Team, models.CASCADE, related_name="drafts")
     language = models.CharField(max_length=40)
@@ -30,8 +30,8 @@ class Draft(models.Model):
 
 
 class Trial(StoredWork):
-    """A match, a check or a search by which a team tries a draft. It has the files as
-    they were: so it is an earlier version of them, until they are removed."""
+    """A match, check or exploration of a draft. It stores the draft's files, and so
+    also serves as an earlier version of the draft until they are deleted."""
 
     FOLDERS = "trials"
     team = models.ForeignKey(Team, models.CASCADE, related_name="trials")

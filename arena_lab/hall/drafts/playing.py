@@ -9,7 +9,16 @@ from typing import Any, Dict
 from django.conf import settings
 from django.db import transaction
 
-from arena_lab.course.trials import ASKED, CHECK, EXPLORE, FILES, FOUND, LOG, PAGE, PLAY
+from arena_lab.course.trials import (
+    REQUEST_FILE,
+    CHECK,
+    EXPLORE,
+    FILES,
+    RESULT_FILE,
+    LOG,
+    PAGE,
+    PLAY,
+)
 from arena_lab.hall import conditions, machine, packing
 from arena_lab.hall.children import last_line
 from arena_lab.hall.drafts import writing
@@ -18,21 +27,25 @@ from arena_lab.hall.drafts.kits import WrittenKit, exercise_of, kit_of
 from arena_lab.hall.drafts.models import Draft, Trial
 from arena_lab.hall.handins.windows import window_of
 from arena_lab.hall.place import write_whole
-from arena_lab.hall.steps import Lease, Stages, WorkLost, do_in_folder, step
+from arena_lab.hall.steps import Lease, Stages, WorkLostError, do_in_folder, step
 from arena_lab.rules import draws
 from arena_lab.sandbox import sandboxes
 from arena_lab.support import fields
-from arena_lab.support.faults import Fault
+from arena_lab.support.faults import ArenaError
 
 # seconds that the process may take beside its programs, and bytes of what it finds
-BESIDE = 20
-MOST_FOUND = 1 << 20
+EXTRA_SECONDS = 20
+MAX_RESULT = 1 << 20
 # seconds between two looks at the process, and between two that ask whether the team
 # has stopped it
 LOOK = 0.05
 ASKS = 0.7
 # what a check plays if nothing is handed in
-USUAL: Dict[str, Any] = {"holes": 1, "schedulers": ["fair", "slow-agents"], "seeds": 1}
+DEFAULT_CONDITIONS: Dict[str, Any] = {
+    "holes": 1,
+    "schedulers": ["fair", "slow-agents"],
+    "seeds": 1,
+}
 RINGS = ["ring:3", "ring:4", "ring:5", "ring:8"]
 
 
@@ -50,7 +63,7 @@ def prepare(work: Trial, folder: pathlib.Path) -> None:
         path.write_text(text, encoding="utf-8", newline="\n")
     kit = kit_of(work.language)
     exercise = exercise_of(work.language)
-    asked = {
+    request = {
         "kind": work.kind,
         "exercise": exercise.name if exercise else "",
         "command": kit.command,
@@ -63,30 +76,30 @@ def prepare(work: Trial, folder: pathlib.Path) -> None:
         "isolation": sandboxes.strongest().name,
         "program": settings.PLACE.program,
     }
-    write_whole(folder / ASKED, json.dumps(asked))
+    write_whole(folder / REQUEST_FILE, json.dumps(request))
 
 
 def seconds_of(work: Trial) -> int:
-    """How long its programs may take."""
+    """Returns how long its programs may take."""
     rules = settings.HALL.editor
     return int(rules.seconds if work.kind == PLAY else rules.search)
 
 
 def conditions_of(work: Trial, kit: WrittenKit) -> Dict[str, Any]:
-    """The conditions of a trial, as the file of a course has them. A program that can be
-    handed in is checked under the conditions of its grading."""
+    """Returns the conditions of a trial as a course file has them. A check of a program
+    that can be handed in uses the conditions of grading."""
     window = window_of(None)
     if work.kind == CHECK and kit.is_handed_in and window is not None:
         return fields.table_of(conditions.text_of(settings.HALL, window.public, {}))
     if work.kind == CHECK:
-        return {**USUAL, "networks": RINGS}
+        return {**DEFAULT_CONDITIONS, "networks": RINGS}
     if work.kind == EXPLORE:
-        return {**USUAL, "networks": [work.network], "ports": draws.GIVEN}
+        return {**DEFAULT_CONDITIONS, "networks": [work.network], "ports": draws.GIVEN}
     net = settings.HALL.nets.get(work.network)
     if net is None:
-        raise Fault("the hall has no such network any more")
+        raise ArenaError("the hall has no such network any more")
     return {
-        **USUAL,
+        **DEFAULT_CONDITIONS,
         "networks": [net.word],
         "holes": net.holes,
         "schedulers": [work.scheduler],
@@ -100,40 +113,40 @@ def conditions_of(work: Trial, kit: WrittenKit) -> Dict[str, Any]:
 def run(work: Trial, holder: str, folder: pathlib.Path) -> None:
     """Runs the process, until it ends, its time is up or its team stops it."""
     lease = Lease(work, holder, ASKS)
-    seconds = seconds_of(work) + BESIDE
+    seconds = seconds_of(work) + EXTRA_SECONDS
     until = time.monotonic() + seconds
     with trial_in(folder) as has_ended:
         while not has_ended(LOOK):
             lease.wait(0)
             if time.monotonic() > until:
-                raise Fault(f"it was ended after {seconds} s")
-    if not (folder / FOUND).exists():
-        raise Fault(f"it could not be tried: {last_line(folder / LOG)}")
+                raise ArenaError(f"it was ended after {seconds} s")
+    if not (folder / RESULT_FILE).exists():
+        raise ArenaError(f"it could not be tried: {last_line(folder / LOG)}")
 
 
 def finish(work: Trial, holder: str, folder: pathlib.Path) -> None:
-    """Notes what came of it, and puts its files where they are looked at, both or
-    neither."""
-    path = folder / FOUND
-    if path.stat().st_size > MOST_FOUND:
-        raise Fault("what came of it is too much to be told")
+    """Stores the result of a trial and moves its files into place, in one
+    transaction."""
+    path = folder / RESULT_FILE
+    if path.stat().st_size > MAX_RESULT:
+        raise ArenaError("what came of it is too much to be told")
     text = path.read_text(encoding="utf-8")
-    found = json.loads(text)
+    report = json.loads(text)
     path.unlink()
     shutil.rmtree(folder / FILES)
-    packed = packing.pack(folder)
+    size = packing.pack(folder)
     with transaction.atomic():
         is_mine = step(
             work,
             machine.FINISH,
             holder,
-            found=found,
-            has_page=packing.place(folder / PAGE).exists(),
-            size=work.size + len(text) + packed,
+            found=report,
+            has_page=packing.packed_path(folder / PAGE).exists(),
+            size=work.size + len(text) + size,
         )
         if not is_mine:
-            raise WorkLost
-        if found["right"] and exercise_of(work.language):
+            raise WorkLostError
+        if report["right"] and exercise_of(work.language):
             note_done(work)
         shutil.rmtree(work.folder, ignore_errors=True)
         folder.rename(work.folder)
@@ -141,9 +154,9 @@ def finish(work: Trial, holder: str, folder: pathlib.Path) -> None:
 
 def note_done(work: Trial) -> None:
     """Notes that a team has done an exercise."""
-    kept, _ = Draft.objects.get_or_create(
+    draft, _ = Draft.objects.get_or_create(
         team=work.team,
         language=work.language,
         defaults={"files": work.files, "size": writing.size_of(work.files)},
     )
-    Draft.objects.filter(pk=kept.pk).update(is_done=True)
+    Draft.objects.filter(pk=draft.pk).update(is_done=True)

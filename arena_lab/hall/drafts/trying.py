@@ -8,86 +8,88 @@ from django.utils.translation import gettext as _
 
 from arena_lab.course.trials import EXPLORE, KINDS, PLAY
 from arena_lab.hall import machine
-from arena_lab.hall.attempts.asking import RequestRefused, make_room, open_networks
+from arena_lab.hall.attempts.asking import RequestRefusedError, make_room, open_networks
 from arena_lab.hall.attempts.shown import time_of
 from arena_lab.hall.drafts import writing
 from arena_lab.hall.drafts.kits import all_exercises, exercise_of, kit_of
 from arena_lab.hall.drafts.models import Draft, Trial
 from arena_lab.hall.steps import step
 from arena_lab.hall.teams.models import Team, note, today
-from arena_lab.play.schedulers import NAMED
+from arena_lab.play.schedulers import SCHEDULER_MAKERS
 
 # where every schedule is tried: of larger networks nobody waits for all
 SMALL = ("ring:3", "ring:4", "ring:5")
-SCHEDULERS = tuple(NAMED)
-MOST_SEED = 999_999
-# what is asked for if nothing is said
-USUAL = {"kind": PLAY, "network": "", "scheduler": SCHEDULERS[0], "seed": 0}
+SCHEDULERS = tuple(SCHEDULER_MAKERS)
+MAX_SEED = 999_999
+# default members of a request for a trial
+DEFAULT_REQUEST = {"kind": PLAY, "network": "", "scheduler": SCHEDULERS[0], "seed": 0}
 # seconds after which a team asks again whose program is being tried
-AGAIN = 2
+RETRY_SECONDS = 2
 # trials of a team that are kept
-KEPT = 30
+MAX_TRIALS_KEPT = 30
 
 
-def ask(team: Team, given: Dict[str, Any]) -> Trial:
+def ask(team: Team, values: Dict[str, Any]) -> Trial:
     """Has a draft tried."""
-    kit = kit_of(given.get("language"))
-    files = writing.checked(given.get("files"))
-    asked = {name: given.get(name, usual) for name, usual in USUAL.items()}
+    kit = kit_of(values.get("language"))
+    files = writing.check_files(values.get("files"))
+    request = {
+        name: values.get(name, default) for name, default in DEFAULT_REQUEST.items()
+    }
     exercise = exercise_of(kit.language)
     if exercise is None:
-        check(**asked)
+        check(**request)
     else:
-        # it has matches of its own
-        asked = {**USUAL, "kind": EXPLORE if exercise.every else PLAY}
+        # an exercise defines its own matches
+        request = {**DEFAULT_REQUEST, "kind": EXPLORE if exercise.every else PLAY}
     size = writing.size_of(files)
     with transaction.atomic():
         team = Team.objects.select_for_update().get(pk=team.pk)
         check_limits(team)
         make_room(team, size)
-        made = Trial.objects.create(
-            team=team, language=kit.language, files=files, size=size, **asked
+        trial = Trial.objects.create(
+            team=team, language=kit.language, files=files, size=size, **request
         )
         remove_old(team)
-        note(team.name, f"tries {made.pk}: {made.kind} on {made.network}")
-    return made
+        note(team.name, f"tries {trial.pk}: {trial.kind} on {trial.network}")
+    return trial
 
 
 def check(kind: Any, network: Any, scheduler: Any, seed: Any) -> None:
     """Refuses what cannot be tried."""
-    offered = SMALL if kind == EXPLORE else open_networks()
-    is_number = type(seed) is int and 0 <= seed <= MOST_SEED
+    networks = SMALL if kind == EXPLORE else open_networks()
+    is_number = type(seed) is int and 0 <= seed <= MAX_SEED
     if (
         kind not in KINDS
-        or network not in offered
+        or network not in networks
         or scheduler not in SCHEDULERS
         or not is_number
     ):
-        raise RequestRefused(400, _("there is no such network, schedule or seed"))
+        raise RequestRefusedError(400, _("there is no such network, schedule or seed"))
 
 
 def check_limits(team: Team) -> None:
     """Refuses what is more than a team may try."""
-    own = Trial.objects.filter(team=team)
-    if own.filter(state__in=(machine.WAITING, *machine.ACTIVE)).exists():
-        raise RequestRefused(
+    trials = Trial.objects.filter(team=team)
+    if trials.filter(state__in=(machine.WAITING, *machine.ACTIVE)).exists():
+        raise RequestRefusedError(
             429,
             _("a program of your team is being tried: wait for it, or stop it"),
-            wait=AGAIN,
+            wait=RETRY_SECONDS,
         )
-    most = settings.HALL.editor.a_day
-    if own.filter(asked__gte=today()).count() >= most:
-        raise RequestRefused(
-            429, _("your team has tried %(count)s programs today") % {"count": most}
+    limit = settings.HALL.editor.a_day
+    if trials.filter(asked__gte=today()).count() >= limit:
+        raise RequestRefusedError(
+            429, _("your team has tried %(count)s programs today") % {"count": limit}
         )
 
 
 def remove_old(team: Team) -> None:
     """Removes the files of old trials, and all that is known of those of other days."""
-    own = Trial.objects.filter(team=team)
-    for old in own.filter(state__in=machine.ENDED, size__gt=0)[KEPT:]:
+    trials = Trial.objects.filter(team=team)
+    for old in trials.filter(state__in=machine.ENDED, size__gt=0)[MAX_TRIALS_KEPT:]:
         forget(old)
-    own.filter(state__in=machine.ENDED, size=0, asked__lt=today()).delete()
+    trials.filter(state__in=machine.ENDED, size=0, asked__lt=today()).delete()
 
 
 def forget(trial: Trial) -> None:
@@ -97,30 +99,32 @@ def forget(trial: Trial) -> None:
     shutil.rmtree(trial.folder, ignore_errors=True)
 
 
-def due(most: int, resting: Collection[int] = ()) -> List[Trial]:
+def due(limit: int, resting: Collection[int] = ()) -> List[Trial]:
     """The trials that may begin, at most this number; those that rest wait. Matches come
     before searches, which leave one place to them, and teams before guests."""
     active = Trial.objects.filter(state__in=machine.ACTIVE)
     searches = active.exclude(kind=PLAY).count()
-    free = most - active.count()
+    free = limit - active.count()
     waiting = Trial.objects.filter(state=machine.WAITING).exclude(pk__in=resting)
-    found: List[Trial] = []
-    ordered = waiting.select_related("team").order_by("pk")
-    for trial in sorted(ordered, key=lambda it: (it.kind != PLAY, it.team.is_guest)):
+    trials: List[Trial] = []
+    order = waiting.select_related("team").order_by("pk")
+    for trial in sorted(
+        order, key=lambda trial: (trial.kind != PLAY, trial.team.is_guest)
+    ):
         if trial.kind != PLAY:
             searches += 1
-        if len(found) < free and (trial.kind == PLAY or searches <= max(1, most - 1)):
-            found.append(trial)
-    return found
+        if len(trials) < free and (trial.kind == PLAY or searches <= max(1, limit - 1)):
+            trials.append(trial)
+    return trials
 
 
 def exercises_of(team: Team) -> List[Dict[str, Any]]:
-    """The exercises, and which of them a team has done."""
+    """Lists the exercises, each with whether the team has solved it."""
     drafts = Draft.objects.filter(team=team, is_done=True)
-    done = set(drafts.values_list("language", flat=True))
+    languages_done = set(drafts.values_list("language", flat=True))
     return [
-        {"name": name, "title": one.title, "is_done": name in done}
-        for name, one in all_exercises().items()
+        {"name": name, "title": exercise.title, "is_done": name in languages_done}
+        for name, exercise in all_exercises().items()
     ]
 
 
@@ -129,14 +133,14 @@ def close(trial: Trial) -> bool:
     return step(trial, machine.CANCEL)
 
 
-def kept(team: Team) -> List[Trial]:
+def kept_trials(team: Team) -> List[Trial]:
     """The trials of a team whose files are kept, the newest first."""
     return list(Trial.objects.filter(team=team, size__gt=0))
 
 
 def brief(trial: Trial) -> Dict[str, Any]:
     """A trial in a line."""
-    found = trial.found or {}
+    report = trial.found or {}
     return {
         "id": trial.pk,
         "language": trial.language,
@@ -147,13 +151,13 @@ def brief(trial: Trial) -> Dict[str, Any]:
         "state": trial.state,
         "asked": time_of(trial.asked),
         "fault": trial.fault,
-        "right": found.get("right"),
-        "verdict": found.get("verdict", ""),
+        "right": report.get("right"),
+        "verdict": report.get("verdict", ""),
     }
 
 
-def shown(trial: Trial) -> Dict[str, Any]:
-    """A trial, as its team is told it."""
+def trial_dict(trial: Trial) -> Dict[str, Any]:
+    """Returns a trial as its team sees it."""
     return {
         **brief(trial),
         "found": trial.found,

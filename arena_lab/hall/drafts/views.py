@@ -8,24 +8,24 @@ from django.utils import timezone
 from django.views.decorators.http import require_POST
 
 from arena_lab.course.trials import PAGE, REPLAY
-from arena_lab.hall.attempts.asking import RequestRefused, open_networks
-from arena_lab.hall.attempts.views import sent
+from arena_lab.hall.attempts.asking import RequestRefusedError, open_networks
+from arena_lab.hall.attempts.views import send_file
 from arena_lab.hall.drafts import guests, kits, trying, words, writing
 from arena_lab.hall.drafts.models import Trial
 from arena_lab.hall.handins.windows import Window, windows
 from arena_lab.hall.teams import guards, logins
 from arena_lab.hall.teams.models import Team
-from arena_lab.hall.teams.views import owned
+from arena_lab.hall.teams.views import owned_row
 from arena_lab.play.kits import KITS
 
-# the page has a match in a frame, which is a page of the hall
+# the page shows a match in a frame from the hall itself
 CONTENT = f"{guards.STRICT}; frame-src 'self'"
 
 
-def own(request: Any, number: int) -> Trial:
+def own_trial(request: Any, number: int) -> Trial:
     """A trial."""
-    found: Trial = owned(request, Trial, number, "drafts.view_trial", "writer")
-    return found
+    trial: Trial = owned_row(request, Trial, number, "drafts.view_trial", "writer")
+    return trial
 
 
 def taking_now(team: Team) -> List[Window]:
@@ -34,14 +34,14 @@ def taking_now(team: Team) -> List[Window]:
         return []
     now = timezone.now()
     return [
-        it
-        for it in windows()
-        if it.has_begun() and ((end := it.end_for(team)) is None or end >= now)
+        window
+        for window in windows()
+        if window.has_begun() and ((end := window.end_for(team)) is None or end >= now)
     ]
 
 
 def page(request: Any) -> HttpResponse:
-    """Where a team or a guest writes with a kit."""
+    """Shows the editor of a kit to a team or a guest."""
     rules = settings.HALL.editor
     if rules is None:
         raise Http404
@@ -51,24 +51,24 @@ def page(request: Any) -> HttpResponse:
     language = request.GET.get("language") or kits.languages()[0]
     try:
         kit = kits.kit_of(language)
-        draft = writing.shown(writing.draft_of(team, language))
-    except RequestRefused:
+        draft = writing.draft_dict(writing.draft_of(team, language))
+    except RequestRefusedError:
         raise Http404 from None
     exercise = kits.exercise_of(language)
-    given: Dict[str, Any] = {
+    context: Dict[str, Any] = {
         "exercise": exercise,
         "exercises": trying.exercises_of(team),
         "draft": {**draft, "kit": kit.files, "team": team.name},
-        "kits": [(it, KITS[it].name) for it in kits.languages()],
+        "kits": [(language, KITS[language].name) for language in kits.languages()],
         "chosen": language,
         "networks": open_networks(),
         "small": trying.SMALL,
         "schedulers": trying.SCHEDULERS,
         "open": taking_now(team) if kit.is_handed_in else [],
         "words": words.words(),
-        "most_seed": trying.MOST_SEED,
+        "most_seed": trying.MAX_SEED,
     }
-    response = render(request, "write.html", given)
+    response = render(request, "write.html", context)
     response["Content-Security-Policy"] = CONTENT
     return response
 
@@ -77,17 +77,17 @@ def page(request: Any) -> HttpResponse:
 def begin_as_guest(request: Any) -> HttpResponse:
     """Lets somebody without a token write and try."""
     try:
-        logins.log_in(request, guests.admitted(guards.address_of(request)))
-    except RequestRefused as fault:
+        logins.log_in(request, guests.admit(guards.address_of(request)))
+    except RequestRefusedError as fault:
         return guards.refusal(fault.status_code, str(fault))
     return redirect("/write")
 
 
-def watched(request: Any, number: int) -> StreamingHttpResponse:
-    """The page of a match that was tried. What programs said stands in it, so it may
-    reach nothing; the hall's own page alone has it in a frame."""
-    trial = own(request, number)
-    response = sent(trial.folder / PAGE, "text/html; charset=utf-8")
+def match_page(request: Any, number: int) -> StreamingHttpResponse:
+    """Sends the page of a trial's match. It quotes programs, so its policy forbids all
+    requests, and only the hall's own page may frame it."""
+    trial = own_trial(request, number)
+    response = send_file(trial.folder / PAGE, "text/html; charset=utf-8")
     response["Content-Security-Policy"] = guards.BOXED_INSIDE
     response["X-Frame-Options"] = "SAMEORIGIN"
     return response
@@ -95,5 +95,5 @@ def watched(request: Any, number: int) -> StreamingHttpResponse:
 
 def replay(request: Any, number: int) -> StreamingHttpResponse:
     """The replay of a match that was tried."""
-    path = own(request, number).folder / REPLAY
-    return sent(path, "text/plain; charset=utf-8", f"trial{number}.jsonl")
+    path = own_trial(request, number).folder / REPLAY
+    return send_file(path, "text/plain; charset=utf-8", f"trial{number}.jsonl")

@@ -1,5 +1,4 @@
-"""The words of the page on which one writes, in the language of who reads it: its script
-has none of its own."""
+"""Texts of the editor page in the reader's language; its script contains none."""
 from typing import Dict
 
 from django.utils.translation import gettext as _

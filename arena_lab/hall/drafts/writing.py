@@ -8,7 +8,7 @@ from django.db import transaction
 from django.utils import timezone
 from django.utils.translation import gettext as _
 
-from arena_lab.hall.attempts.asking import RequestRefused, make_room
+from arena_lab.hall.attempts.asking import RequestRefusedError, make_room
 from arena_lab.hall.attempts.shown import time_of
 from arena_lab.hall.drafts.kits import kit_of
 from arena_lab.hall.drafts.models import Draft
@@ -18,52 +18,52 @@ from arena_lab.hall.teams.guards import Buckets
 from arena_lab.hall.teams.models import Team
 
 # bytes of a draft, its files, and characters of a file's name
-MOST_BYTES = 128 << 10
-MOST_FILES = 12
-MOST_NAME = 60
+MAX_BYTES = 128 << 10
+MAX_FILES = 12
+MAX_NAME = 60
 # how often a team may save a minute
 SAVES = 40
-saved = Buckets(60)
+saves = Buckets(60)
 
 
 def draft_of(team: Team, language: str) -> Draft:
-    """What a team writes with a kit, which is the kit at first."""
+    """Returns a team's draft of a kit, initially the kit itself."""
     kit = kit_of(language)
-    found = Draft.objects.filter(team=team, language=language).first()
-    return found or Draft(team=team, language=language, files=kit.files)
+    draft = Draft.objects.filter(team=team, language=language).first()
+    return draft or Draft(team=team, language=language, files=kit.files)
 
 
-def checked(files: Any) -> Dict[str, str]:
-    """Files that may be a draft."""
+def check_files(files: Any) -> Dict[str, str]:
+    """Returns the files if they form a valid draft, else raises RequestRefusedError."""
     if not is_draft(files):
-        raise RequestRefused(
+        raise RequestRefusedError(
             400,
             _("a draft has 1 to %(count)s files, with names of letters and digits")
-            % {"count": MOST_FILES},
+            % {"count": MAX_FILES},
         )
-    found: Dict[str, str] = files
-    if size_of(found) > MOST_BYTES:
-        raise RequestRefused(
-            413, _("a draft has at most %(count)s KB") % {"count": MOST_BYTES >> 10}
+    texts: Dict[str, str] = files
+    if size_of(texts) > MAX_BYTES:
+        raise RequestRefusedError(
+            413, _("a draft has at most %(count)s KB") % {"count": MAX_BYTES >> 10}
         )
-    return found
+    return texts
 
 
 def is_draft(files: Any) -> bool:
-    """Whether these are texts by names that files may have."""
+    """Returns whether the value maps valid file names to texts."""
     return (
         isinstance(files, dict)
-        and 1 <= len(files) <= MOST_FILES
+        and 1 <= len(files) <= MAX_FILES
         and all(isinstance(text, str) for text in files.values())
         and all(map(is_name, files))
     )
 
 
 def is_name(name: str) -> bool:
-    """Whether a file of a draft may have this name."""
+    """Returns whether a file of a draft may have this name."""
     plain = name.translate(str.maketrans("", "", "._-"))
     is_plain = plain.isascii() and plain.isalnum() and name[0] not in ".-"
-    return is_plain and len(name) <= MOST_NAME
+    return is_plain and len(name) <= MAX_NAME
 
 
 def size_of(files: Dict[str, str]) -> int:
@@ -73,7 +73,7 @@ def size_of(files: Dict[str, str]) -> int:
     except UnicodeEncodeError:
         sizes = []
     if not sizes or any("\0" in text for text in files.values()):
-        raise RequestRefused(400, _("a draft is text in UTF-8"))
+        raise RequestRefusedError(400, _("a draft is text in UTF-8"))
     return sum(sizes)
 
 
@@ -81,47 +81,47 @@ def save(team: Team, language: str, files: Any, version: Any) -> Draft:
     """Keeps what a team has written, unless somebody of it has written something else
     since this version."""
     kit_of(language)
-    files = checked(files)
-    if saved.wait(team.name, SAVES):
-        raise RequestRefused(429, _("your team saves too often: wait a moment"))
+    files = check_files(files)
+    if saves.wait(team.name, SAVES):
+        raise RequestRefusedError(429, _("your team saves too often: wait a moment"))
     size = size_of(files)
     with transaction.atomic():
         # two requests of a team at the same time are taken one after the other
         Team.objects.select_for_update().get(pk=team.pk)
-        found = Draft.objects.filter(team=team, language=language).first()
-        if found is not None and found.files == files:
-            return found
-        if version != (found.version if found else 0):
-            raise RequestRefused(
+        draft = Draft.objects.filter(team=team, language=language).first()
+        if draft is not None and draft.files == files:
+            return draft
+        if version != (draft.version if draft else 0):
+            raise RequestRefusedError(
                 409, _("somebody of your team has changed it meanwhile")
             )
-        found = found or Draft(team=team, language=language)
-        make_room(team, size - found.size)
-        found.files = files
-        found.size = size
-        found.version += 1
-        found.at = timezone.now()
-        found.save()
-    return found
+        draft = draft or Draft(team=team, language=language)
+        make_room(team, size - draft.size)
+        draft.files = files
+        draft.size = size
+        draft.version += 1
+        draft.at = timezone.now()
+        draft.save()
+    return draft
 
 
 def hand_in(team: Team, language: str, files: Any, contest: Optional[int]) -> HandIn:
     """Hands in what a team has written."""
     kit = kit_of(language)
-    files = checked(files)
+    files = check_files(files)
     if team.is_guest:
-        raise RequestRefused(403, _("guests hand in nothing"))
+        raise RequestRefusedError(403, _("guests hand in nothing"))
     if not kit.is_handed_in:
-        raise RequestRefused(400, _("hand-ins are of another language here"))
-    made = io.BytesIO()
-    with zipfile.ZipFile(made, "w", zipfile.ZIP_DEFLATED) as archive:
+        raise RequestRefusedError(400, _("hand-ins are of another language here"))
+    buffer = io.BytesIO()
+    with zipfile.ZipFile(buffer, "w", zipfile.ZIP_DEFLATED) as archive:
         for name, text in files.items():
             archive.writestr(name, text)
-    return taking.take(team, f"{kit.main}.zip", ContentFile(made.getvalue()), contest)
+    return taking.take(team, f"{kit.main}.zip", ContentFile(buffer.getvalue()), contest)
 
 
-def shown(draft: Draft) -> Dict[str, Any]:
-    """A draft, as its team is told it."""
+def draft_dict(draft: Draft) -> Dict[str, Any]:
+    """Returns a draft as its team sees it."""
     kit = kit_of(draft.language)
     return {
         "language": kit.language,

@@ -13,13 +13,13 @@ from arena_lab.hall import machine
 from arena_lab.hall.handins.models import Contest, Extension, Grading, HandIn
 from arena_lab.hall.handins.windows import window_of
 from arena_lab.hall.standings.models import Reveal
-from arena_lab.hall.standings.tables import ungraded
-from arena_lab.hall.teams.admin import Made
+from arena_lab.hall.standings.tables import teams_without_grade
+from arena_lab.hall.teams.admin import ReadOnlyAdmin
 from arena_lab.hall.teams.models import Team
 
 
 @admin.register(Grading)
-class Gradings(Made):
+class Gradings(ReadOnlyAdmin):
     """All gradings, newest first."""
 
     list_display = (
@@ -56,16 +56,16 @@ class Gradings(Made):
             hand_in = grading.hand_in
             is_secret = grading.is_secret
             grading.delete()
-            made = Grading.objects.create(hand_in=hand_in, is_secret=is_secret)
+            new_grading = Grading.objects.create(hand_in=hand_in, is_secret=is_secret)
             self.log_change(
                 request,
-                made,
+                new_grading,
                 f"hand-in {hand_in.pk} of {hand_in.team.name} is graded again",
             )
 
 
 @admin.register(HandIn)
-class HandIns(Made):
+class HandIns(ReadOnlyAdmin):
     """All hand-ins, newest first, with their sources."""
 
     list_display = ("pk", "team", "contest", "at", "name", "files", "size", "link")
@@ -93,8 +93,8 @@ class ContestForm(forms.ModelForm):
         label=_("networks"), widget=forms.CheckboxSelectMultiple
     )
 
-    def __init__(self, *given: Any, **named: Any) -> None:
-        super().__init__(*given, **named)
+    def __init__(self, *args: Any, **options: Any) -> None:
+        super().__init__(*args, **options)
         if "networks" in self.fields:
             self.fields["networks"].choices = [
                 (name, name) for name in settings.HALL.nets
@@ -103,7 +103,7 @@ class ContestForm(forms.ModelForm):
 
 @admin.register(Contest)
 class Contests(admin.ModelAdmin):
-    """Contests. What one has begun with stays."""
+    """Contests in the admin. A started contest keeps its fields."""
 
     form = ContestForm
     list_display = ("name", "start", "end", "freeze")
@@ -134,17 +134,23 @@ class RevealForm(forms.ModelForm):
     )
 
     def clean(self) -> Any:
-        found = super().clean()
-        window = window_of(found.get("contest"))
-        if found.get("what") != Reveal.SECRET or found.get("anyway") or window is None:
-            return found
-        left = Team.objects.filter(pk__in=ungraded(window), hidden=False)
-        if left:
+        values = super().clean()
+        window = window_of(values.get("contest"))
+        if (
+            values.get("what") != Reveal.SECRET
+            or values.get("anyway")
+            or window is None
+        ):
+            return values
+        teams_left = Team.objects.filter(
+            pk__in=teams_without_grade(window), hidden=False
+        )
+        if teams_left:
             raise ValidationError(
                 _("The last hand-ins of these teams are not graded: %(names)s")
-                % {"names": ", ".join(map(str, left))}
+                % {"names": ", ".join(map(str, teams_left))}
             )
-        return found
+        return values
 
 
 @admin.register(Reveal)

@@ -10,7 +10,7 @@ from arena_lab.hall.handins.models import HandIn
 
 
 class Sent(serializers.Serializer):
-    """What a script hands in."""
+    """The request of a script that hands in a program."""
 
     file = serializers.FileField(max_length=80, allow_empty_file=True)
     contest = serializers.IntegerField(
@@ -23,21 +23,24 @@ class HandIns(ViewSet):
 
     def list(self, request: Any) -> Response:
         return Response(
-            [taking.shown(it) for it in HandIn.objects.filter(team=request.user)[:50]]
+            [
+                taking.hand_in_dict(hand_in)
+                for hand_in in HandIn.objects.filter(team=request.user)[:50]
+            ]
         )
 
     def create(self, request: Any) -> Response:
-        sent = Sent(data=request.data)
-        sent.is_valid(raise_exception=True)
-        file = sent.validated_data["file"]
-        made = taking.take(
-            request.user, file.name, file, sent.validated_data["contest"]
+        serializer = Sent(data=request.data)
+        serializer.is_valid(raise_exception=True)
+        file = serializer.validated_data["file"]
+        hand_in = taking.take(
+            request.user, file.name, file, serializer.validated_data["contest"]
         )
         return Response(
-            taking.shown(made),
+            taking.hand_in_dict(hand_in),
             status=201,
-            headers={"Location": f"/api/hand-ins/{made.pk}"},
+            headers={"Location": f"/api/hand-ins/{hand_in.pk}"},
         )
 
     def retrieve(self, request: Any, number: int) -> Response:
-        return Response(taking.shown(views.own(request, number)))
+        return Response(taking.hand_in_dict(views.own_hand_in(request, number)))

@@ -23,8 +23,8 @@ from arena_lab.hall.children import LOG, child_of, last_line
 from arena_lab.hall.handins.models import Grading
 from arena_lab.hall.handins.windows import window_of
 from arena_lab.hall.place import SECRET, write_whole
-from arena_lab.hall.steps import Lease, Stages, WorkLost, do_in_folder, step
-from arena_lab.support.faults import Fault
+from arena_lab.hall.steps import Lease, Stages, WorkLostError, do_in_folder, step
+from arena_lab.support.faults import ArenaError
 
 # for how long it is known how long a team's programs took
 RECENT = datetime.timedelta(days=1)
@@ -35,8 +35,8 @@ TEAM_PAGE = "team-{team}.html"
 # of matches: failed and solved ones
 MATCHES = ("failed", "solved")
 # MB that a grading at once may write in any case
-LEAST_SPACE = 16
-SOLVED = "solved"
+MIN_SPACE = 16
+SOLVED_FOLDER = "solved"
 
 
 def grade(number: int, holder: str) -> None:
@@ -48,26 +48,26 @@ def grade(number: int, holder: str) -> None:
 def prepare(work: Grading, folder: pathlib.Path) -> None:
     """Writes the file of a course that has this team alone, and the secret of its
     draws."""
-    given = settings.HALL.hand_ins
+    rules = settings.HALL.hand_ins
     team = work.hand_in.team
     window = window_of(work.hand_in.contest)
     names = window and (window.secret if work.is_secret else window.public)
     if not names:
-        raise Fault(
+        raise ArenaError(
             "the hall takes no hand-ins any more, or has no network of this contest"
         )
     folder.mkdir(mode=0o700)
     shutil.copytree(work.hand_in.folder / FILES, folder / FILES)
     # what decides in the end has all the room that a course gives it
-    left = max(LEAST_SPACE, bytes_of(team) - own_bytes(team) >> 20)
-    more = {} if work.is_secret else {"team_space": left}
-    own = {
+    megabytes_left = max(MIN_SPACE, bytes_of(team) - own_bytes(team) >> 20)
+    extra_limits = {} if work.is_secret else {"team_space": megabytes_left}
+    team_table = {
         "name": team.name,
         "files": [FILES],
-        "command": given.command,
+        "command": rules.command,
     }
-    text = conditions.text_of(settings.HALL, names, more)
-    text += "\n[[team]]\n" + conditions.rows_in(own)
+    text = conditions.text_of(settings.HALL, names, extra_limits)
+    text += "\n[[team]]\n" + conditions.rows_in(team_table)
     write_whole(folder / COURSE, text)
     write_whole(
         folder / SECRET, hashlib.sha256(drawn_from(work).encode()).hexdigest() + "\n"
@@ -75,7 +75,7 @@ def prepare(work: Grading, folder: pathlib.Path) -> None:
 
 
 def drawn_from(work: Grading) -> str:
-    """Of what the draws of a grading are made."""
+    """Returns the seed text of a grading's draws."""
     secret = settings.PLACE.secret(SECRET)
     contest = work.hand_in.contest_id
     if not work.is_secret:
@@ -84,9 +84,9 @@ def drawn_from(work: Grading) -> str:
 
 
 def run(work: Grading, holder: str, folder: pathlib.Path) -> None:
-    """Runs `grade`. It ends with this worker, and its sandboxes with it. Whatever a
-    program does, `grade` tells it in its rows: if it fails itself, the machine has a
-    fault."""
+    """Runs `grade` as a child that ends with this worker, like its sandboxes. Faults of
+    programs appear in the rows that `grade` writes; if `grade` itself fails, the
+    machine is at fault."""
     words = [
         sys.executable,
         "-m",
@@ -107,16 +107,16 @@ def run(work: Grading, holder: str, folder: pathlib.Path) -> None:
         while child.poll() is None:
             lease.wait()
     if child.returncode != 0:
-        raise machine.MachineFault(
+        raise machine.MachineFaultError(
             f"`grade` ended with status {child.returncode}: {last_line(folder / LOG)}"
         )
 
 
 def finish(work: Grading, holder: str, folder: pathlib.Path) -> None:
-    """Notes what came of a grading, and puts its files where they are looked at, both
-    or neither."""
+    """Stores the result of a grading and moves its files into place, in one
+    transaction."""
     rows = rows_of(folder / OUT, work.hand_in.team.name)
-    solved = [row for row in rows if row["solved"]]
+    solved_rows = [row for row in rows if row["solved"]]
     networks = {row["network"]: [0, 0] for row in rows}
     for row in rows:
         networks[row["network"]][0] += row["solved"]
@@ -130,21 +130,22 @@ def finish(work: Grading, holder: str, folder: pathlib.Path) -> None:
             work,
             machine.FINISH,
             holder,
-            solved=len(solved),
+            solved=len(solved_rows),
             matches=len(rows),
             networks=networks,
             size=packing.size_of(folder),
-            moves=sum(row["moves"] for row in solved),
-            lost=sum(row["lost"] for row in solved),
+            moves=sum(row["moves"] for row in solved_rows),
+            lost=sum(row["lost"] for row in solved_rows),
         ):
-            raise WorkLost
+            raise WorkLostError
         for earlier in set(folder.parent.glob(f"{work.folder.name}*")) - {folder}:
             shutil.rmtree(earlier, ignore_errors=True)
         folder.rename(work.folder)
 
 
 def rows_of(out: pathlib.Path, team: str) -> List[Dict[str, Any]]:
-    """The matches of the results. A match that does not repeat is not solved."""
+    """Reads the rows of a grading. A match whose repetition differed counts as
+    failed."""
     repeats: Dict[str, str] = {}
     with contextlib.suppress(FileNotFoundError), (out / "repeats.csv").open(
         encoding="utf-8", newline=""
@@ -156,7 +157,7 @@ def rows_of(out: pathlib.Path, team: str) -> List[Dict[str, Any]]:
                 "network": row["network"],
                 "moves": int(row["moves"]),
                 "lost": int(row["lost"]),
-                "solved": row["outcome"] == SOLVED
+                "solved": row["outcome"] == SOLVED_FOLDER
                 and not row["fault"]
                 and not repeats.get(row["run"]),
             }
@@ -165,20 +166,20 @@ def rows_of(out: pathlib.Path, team: str) -> List[Dict[str, Any]]:
         ]
 
 
-def due(most: int, resting: Collection[int] = ()) -> List[Grading]:
-    """The gradings that may begin, at most this number; those that rest wait. A team has
-    one at a time. First come the teams whose last grading took the shortest time, so
-    that a program that hangs keeps few waiting, then those graded least lately."""
+def due(limit: int, resting: Collection[int] = ()) -> List[Grading]:
+    """Returns at most `limit` gradings to start, without those that rest. A team has
+    one grading at a time. Teams whose last grading was shortest come first, so that
+    hanging programs delay few others; then the teams graded least recently."""
     waiting = Grading.objects.filter(state=machine.WAITING).exclude(pk__in=resting)
     busy = set(
         Grading.objects.filter(state__in=machine.ACTIVE).values_list(
             "hand_in__team", flat=True
         )
     )
-    ended = Grading.objects.exclude(begun=None).exclude(ended=None).order_by("ended")
+    order = Grading.objects.exclude(begun=None).exclude(ended=None).order_by("ended")
     last = {
-        team: (ended - begun, ended)
-        for team, begun, ended in ended.filter(
+        team: (end - begin, end)
+        for team, begin, end in order.filter(
             ended__gt=timezone.now() - RECENT
         ).values_list("hand_in__team", "begun", "ended")
     }
@@ -187,7 +188,8 @@ def due(most: int, resting: Collection[int] = ()) -> List[Grading]:
     for work in waiting.select_related("hand_in").order_by("pk"):
         if work.hand_in.team_id not in busy:
             first.setdefault(work.hand_in.team_id, work)
-    found = sorted(
-        first.values(), key=lambda it: (*last.get(it.hand_in.team_id, never), it.pk)
+    gradings = sorted(
+        first.values(),
+        key=lambda grading: (*last.get(grading.hand_in.team_id, never), grading.pk),
     )
-    return found[: max(0, most - len(busy))]
+    return gradings[: max(0, limit - len(busy))]

@@ -92,8 +92,7 @@ class Extension(models.Model):
 
 
 class HandIn(models.Model):
-    """A program that a team has handed in, for the course or for a contest. Its files
-    never change."""
+    """A program handed in for the course or for a contest. Its files never change."""
 
     team = models.ForeignKey(Team, models.CASCADE, related_name="hand_ins")
     contest = models.ForeignKey(
@@ -144,5 +143,5 @@ class Grading(Work):
 
     @property
     def folder(self) -> pathlib.Path:
-        """Where its results are."""
+        """Returns the folder of its results."""
         return self.hand_in.folder / ("secret" if self.is_secret else "public")

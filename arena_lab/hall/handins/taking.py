@@ -11,7 +11,7 @@ from django.utils import timezone
 from django.utils.translation import gettext as _
 
 from arena_lab.hall import machine
-from arena_lab.hall.attempts.asking import RequestRefused, make_room
+from arena_lab.hall.attempts.asking import RequestRefusedError, make_room
 from arena_lab.hall.attempts.shown import time_of
 from arena_lab.hall.handins import unpacking
 from arena_lab.hall.handins.grading import FILES
@@ -23,18 +23,18 @@ from arena_lab.hall.handins.windows import (
     window_of,
     windows,
 )
-from arena_lab.hall.place import tell
+from arena_lab.hall.place import log_line
 from arena_lab.hall.teams.guards import Buckets
 from arena_lab.hall.teams.models import Team, note, today
 from arena_lab.play.mistakes import plain
 
 # how many of a team may wait to be graded, and how often a team may send something in a
 # minute, taken or not
-MOST_WAITING = 3
+MAX_WAITING = 3
 A_MINUTE = 12
 # with what the folder of files that are not taken yet begins
 NEW = "new-"
-sent = Buckets(60)
+submissions = Buckets(60)
 
 
 def take(team: Team, name: str, file: Any, number: Optional[int] = None) -> HandIn:
@@ -43,8 +43,8 @@ def take(team: Team, name: str, file: Any, number: Optional[int] = None) -> Hand
     contest = None if number is None else Contest.objects.filter(pk=number).first()
     window = None if contest is None and number is not None else window_of(contest)
     check(team, file.size, window)
-    if sent.wait(team.name, A_MINUTE):
-        raise RequestRefused(
+    if submissions.wait(team.name, A_MINUTE):
+        raise RequestRefusedError(
             429,
             _(
                 "your team has handed in %(count)s times this minute: wait for it to pass"
@@ -53,25 +53,25 @@ def take(team: Team, name: str, file: Any, number: Optional[int] = None) -> Hand
         )
     new = settings.PLACE.folder / "hand-ins" / f"{NEW}{secrets.token_hex(8)}"
     try:
-        found = unpacking.unpacked(
-            file.read(unpacking.MOST_SENT + 1), settings.HALL.hand_ins.file, new / FILES
+        files = unpacking.unpack(
+            file.read(unpacking.MAX_SENT + 1), settings.HALL.hand_ins.file, new / FILES
         )
-        return kept(team, plain(name)[:80], found, window, new)
-    except unpacking.NoHandIn as fault:
-        raise RequestRefused(400, str(fault)) from None
+        return keep_hand_in(team, plain(name)[:80], files, window, new)
+    except unpacking.HandInError as fault:
+        raise RequestRefusedError(400, str(fault)) from None
     except OSError as fault:
-        tell(f"{new}: {fault}")
-        raise RequestRefused(
+        log_line(f"{new}: {fault}")
+        raise RequestRefusedError(
             503, _("the hall cannot write this now: tell your teacher")
         ) from None
     finally:
         shutil.rmtree(new, ignore_errors=True)
 
 
-def kept(
+def keep_hand_in(
     team: Team,
     name: str,
-    found: unpacking.Unpacked,
+    unpacked_files: unpacking.UnpackedFiles,
     window: Optional[Window],
     new: pathlib.Path,
 ) -> HandIn:
@@ -79,36 +79,42 @@ def kept(
     all."""
     with transaction.atomic():
         team = Team.objects.select_for_update().get(pk=team.pk)
-        check(team, found.size, window)
-        made = HandIn.objects.create(
-            team=team, contest=window and window.contest, name=name, **found._asdict()
+        check(team, unpacked_files.size, window)
+        hand_in = HandIn.objects.create(
+            team=team,
+            contest=window and window.contest,
+            name=name,
+            **unpacked_files._asdict(),
         )
-        # of a hand-in that was not kept, whose number comes again
-        shutil.rmtree(made.folder, ignore_errors=True)
-        new.rename(made.folder)
-        Grading.objects.create(hand_in=made)
-        note(team.name, f"hands in {made.pk}: {made.files} files, {made.size} bytes")
-    return made
+        # a leftover folder of an aborted hand-in, whose number is reused
+        shutil.rmtree(hand_in.folder, ignore_errors=True)
+        new.rename(hand_in.folder)
+        Grading.objects.create(hand_in=hand_in)
+        note(
+            team.name,
+            f"hands in {hand_in.pk}: {hand_in.files} files, {hand_in.size} bytes",
+        )
+    return hand_in
 
 
 def check(team: Team, size: int, window: Optional[Window]) -> None:
     """Refuses what is more than a team may hand in now. A contest takes any number of
     hand-ins, the course some a day."""
     if window is None:
-        raise RequestRefused(404, _("nothing is handed in here"))
+        raise RequestRefusedError(404, _("nothing is handed in here"))
     if not window.has_begun():
-        raise RequestRefused(403, _("the contest has not begun"))
+        raise RequestRefusedError(403, _("the contest has not begun"))
     end = window.end_for(team)
     if end is not None and timezone.now() > end:
-        raise RequestRefused(403, _("the deadline has passed"))
-    if size > unpacking.MOST_SENT:
-        raise RequestRefused(
+        raise RequestRefusedError(403, _("the deadline has passed"))
+    if size > unpacking.MAX_SENT:
+        raise RequestRefusedError(
             413,
             _("a hand-in has at most %(count)s MB")
-            % {"count": unpacking.MOST_SENT >> 20},
+            % {"count": unpacking.MAX_SENT >> 20},
         )
     if window.contest is None and not left_today(team):
-        raise RequestRefused(
+        raise RequestRefusedError(
             429,
             _("your team has handed in %(count)s times today")
             % {"count": settings.HALL.hand_ins.a_day},
@@ -117,26 +123,28 @@ def check(team: Team, size: int, window: Optional[Window]) -> None:
         Grading.objects.filter(
             hand_in__team=team, state=machine.WAITING, is_secret=False
         ).count()
-        >= MOST_WAITING
+        >= MAX_WAITING
     ):
-        raise RequestRefused(
+        raise RequestRefusedError(
             429,
             _("%(count)s hand-ins of your team wait to be graded: wait for one")
-            % {"count": MOST_WAITING},
+            % {"count": MAX_WAITING},
         )
     make_room(team, size)
 
 
 def left_today(team: Team) -> int:
-    """How many more hand-ins a team has today."""
-    used = HandIn.objects.filter(team=team, contest=None, at__gte=today()).count()
-    return max(0, int(settings.HALL.hand_ins.a_day - used))
+    """Returns how many more hand-ins a team has today."""
+    used_count = HandIn.objects.filter(team=team, contest=None, at__gte=today()).count()
+    return max(0, int(settings.HALL.hand_ins.a_day - used_count))
 
 
-def shown(hand_in: HandIn) -> Dict[str, Any]:
-    """What a team is told of a hand-in. What came of the secret draw is told when the
-    teacher shows it."""
-    public = next((it for it in hand_in.gradings.all() if not it.is_secret), None)
+def hand_in_dict(hand_in: HandIn) -> Dict[str, Any]:
+    """Returns a hand-in as its team sees it. The result of the secret draw is included
+    once the teacher has shown it."""
+    public = next(
+        (grading for grading in hand_in.gradings.all() if not grading.is_secret), None
+    )
     return {
         "id": hand_in.pk,
         "contest": hand_in.contest_id,
@@ -152,7 +160,7 @@ def shown(hand_in: HandIn) -> Dict[str, Any]:
 
 
 def result_of(grading: Optional[Grading]) -> Optional[Dict[str, Any]]:
-    """What came of a grading, once it is over."""
+    """Returns the result of a finished grading, else None."""
     if grading is None or not grading.is_over:
         return None
     window = window_of(grading.hand_in.contest)
@@ -162,7 +170,9 @@ def result_of(grading: Optional[Grading]) -> Optional[Dict[str, Any]]:
         "matches": grading.matches,
         "moves": grading.moves,
         "lost": grading.lost,
-        "networks": {names.get(it, it): of for it, of in grading.networks.items()},
+        "networks": {
+            names.get(network, network): of for network, of in grading.networks.items()
+        },
     }
 
 
@@ -170,7 +180,7 @@ def grade_secretly(now: datetime.datetime) -> int:
     """Asks for the grading of each team's last hand-in by the secret draw, once the
     window has ended for that team; gives how many were asked for."""
     teams = list(Team.objects.filter(is_guest=False))
-    graded = set(
+    graded_hand_ins = set(
         Grading.objects.filter(is_secret=True).values_list("hand_in", flat=True)
     )
     new: List[int] = []
@@ -180,7 +190,9 @@ def grade_secretly(now: datetime.datetime) -> int:
         new += [
             pk
             for team, pk in last.items()
-            if pk not in graded and (end := until[team]) is not None and now > end
+            if pk not in graded_hand_ins
+            and (end := until[team]) is not None
+            and now > end
         ]
     for pk in new:
         Grading.objects.get_or_create(hand_in_id=pk, is_secret=True)

@@ -13,49 +13,52 @@ from django.utils.html import escape
 
 from arena_lab.hall import conditions as given_to
 from arena_lab.hall import packing
-from arena_lab.hall.attempts.asking import RequestRefused
-from arena_lab.hall.attempts.views import sent
+from arena_lab.hall.attempts.asking import RequestRefusedError
+from arena_lab.hall.attempts.views import send_file
 from arena_lab.hall.handins import taking
 from arena_lab.hall.handins.grading import FILES, OUT, TEAM_PAGE
 from arena_lab.hall.handins.models import HandIn
 from arena_lab.hall.handins.windows import windows
-from arena_lab.hall.teams.guards import BOXED
-from arena_lab.hall.teams.views import for_teams, owned
+from arena_lab.hall.teams.guards import SANDBOX_POLICY
+from arena_lab.hall.teams.views import for_teams, owned_row
 from arena_lab.play.mistakes import plain
 
 NUMBER = re.compile("[0-9]{1,9}")
-# what of the results of a grading a team may look at: its page, and what that leads to
-KEPT = re.compile(r"failed/[\w-]+/(?:smallest/)?[\w.-]+")
-# what may be no character that one sees
+# result files that a team may read: its page, and the files that it links
+RESULT_PATH = re.compile(r"failed/[\w-]+/(?:smallest/)?[\w.-]+")
+# characters other than printable ASCII
 UNSEEN = re.compile(r"[^\n\t -~]")
 # bytes of sources that a page has, and hand-ins whose sources are kept as pages have
 # them
-MOST_SHOWN = 400_000
-MOST_KEPT = 16
+MAX_SHOWN = 400_000
+MAX_PAGES = 16
 KINDS = {".html": "text/html; charset=utf-8"}
 
 
 @for_teams
-def listed(request: Any, refusal: str = "", status: int = 200) -> HttpResponse:
-    """What a team has handed in, and a form for more."""
-    own = (
+def list_hand_ins(request: Any, refusal: str = "", status: int = 200) -> HttpResponse:
+    """Shows a team's hand-ins, and a form for another one."""
+    hand_ins = (
         HandIn.objects.filter(team=request.team)
         .select_related("contest")
         .prefetch_related("gradings")[:50]
     )
     open_now = [
-        {"contest": it.contest, "end": end}
-        for it in windows()
-        if it.has_begun()
-        and ((end := it.end_for(request.team)) is None or end >= timezone.now())
+        {"contest": window.contest, "end": end}
+        for window in windows()
+        if window.has_begun()
+        and ((end := window.end_for(request.team)) is None or end >= timezone.now())
     ]
-    given = {
-        "hand_ins": [{**taking.shown(it), "of": it.contest or ""} for it in own],
+    context = {
+        "hand_ins": [
+            {**taking.hand_in_dict(hand_in), "of": hand_in.contest or ""}
+            for hand_in in hand_ins
+        ],
         "open": open_now,
         "left": taking.left_today(request.team) if settings.HALL.hand_ins else 0,
         "refusal": refusal,
     }
-    return render(request, "hand_ins.html", given, status=status)
+    return render(request, "hand_ins.html", context, status=status)
 
 
 @for_teams
@@ -66,18 +69,18 @@ def take(request: Any) -> HttpResponse:
     if request.method != "POST" or file is None:
         return redirect("/hand-ins")
     try:
-        # what is no number is the number of no contest
+        # a contest number that is no number matches no contest
         number = int(contest) if NUMBER.fullmatch(contest) else 0
         taking.take(request.team, file.name, file, number if contest else None)
-    except RequestRefused as fault:
-        return listed(request, str(fault), fault.status_code)
+    except RequestRefusedError as fault:
+        return list_hand_ins(request, str(fault), fault.status_code)
     return redirect("/hand-ins")
 
 
 @for_teams
 def conditions(request: Any, number: int = 0) -> HttpResponse:
-    """What hand-ins of the course or of a contest are graded by, for a team that checks
-    its program."""
+    """Sends the conditions of grading in the course or in a contest, for checks by the
+    team."""
     for window in windows():
         if (
             window.has_begun()
@@ -88,66 +91,71 @@ def conditions(request: Any, number: int = 0) -> HttpResponse:
     raise Http404
 
 
-def own(request: Any, number: int) -> HandIn:
+def own_hand_in(request: Any, number: int) -> HandIn:
     """A hand-in of the team that asks, or of any if who asks may see gradings."""
-    return owned(request, HandIn, number, "handins.view_grading")
+    return owned_row(request, HandIn, number, "handins.view_grading")
 
 
-def one(request: Any, number: int) -> HttpResponse:
+def show_hand_in(request: Any, number: int) -> HttpResponse:
     """A hand-in with its sources, as far as they are texts that a page takes."""
-    hand_in = own(request, number)
+    hand_in = own_hand_in(request, number)
     return render(
         request,
         "hand_in.html",
         {
-            "told": taking.shown(hand_in),
+            "told": taking.hand_in_dict(hand_in),
             "of": hand_in,
             "files": sources(hand_in.folder / FILES),
         },
     )
 
 
-@functools.lru_cache(MOST_KEPT)
-def sources(place: pathlib.Path) -> List[Dict[str, Any]]:
-    """The files of a hand-in, each with its text as a page has it. They never change,
-    and a look at large ones takes a third of a second."""
-    left = MOST_SHOWN
-    found = []
+@functools.lru_cache(MAX_PAGES)
+def sources(folder: pathlib.Path) -> List[Dict[str, Any]]:
+    """Returns the files of a hand-in with their texts as HTML. The result is cached,
+    since large files take a third of a second."""
+    characters_left = MAX_SHOWN
+    sources = []
     for path in sorted(
-        it for it in place.rglob("*") if it.is_file() and not it.is_symlink()
+        file for file in folder.rglob("*") if file.is_file() and not file.is_symlink()
     ):
         size = path.stat().st_size
         text = None
-        if size <= left:
+        if size <= characters_left:
             with contextlib.suppress(UnicodeDecodeError):
                 text = escape(as_seen(path.read_text(encoding="utf-8")))
-                left -= size
-        found.append(
-            {"name": as_seen(str(path.relative_to(place))), "size": size, "text": text}
+                characters_left -= size
+        sources.append(
+            {"name": as_seen(str(path.relative_to(folder))), "size": size, "text": text}
         )
-    return found
+    return sources
 
 
 def as_seen(text: str) -> str:
     """A text in which nothing hides: what turns the direction of writing, or is not
     seen, is shown by its code."""
-    return UNSEEN.sub(lambda found: plain(found[0]), text)
+    return UNSEEN.sub(lambda match: plain(match[0]), text)
 
 
 def result(request: Any, number: int, path: str) -> StreamingHttpResponse:
-    """The page of a team's results, or a file that it leads to. What programs said
-    stands there, so it may reach nothing."""
-    hand_in = own(request, number)
+    """Sends the page of a team's results, or a file that it links. It quotes programs,
+    so its policy forbids all requests."""
+    hand_in = own_hand_in(request, number)
     grading = hand_in.gradings.filter(is_secret=False).first()
     if grading is None or not grading.is_over:
         raise Http404
     name = TEAM_PAGE.format(team=hand_in.team.name) if not path else path
-    if path and (not KEPT.fullmatch(path) or ".." in path):
+    if path and (not RESULT_PATH.fullmatch(path) or ".." in path):
         raise Http404
     out = (grading.folder / OUT).resolve()
-    place = out / name
-    if place.resolve() != place or not packing.place(place).is_file():
+    result_path = out / name
+    if (
+        result_path.resolve() != result_path
+        or not packing.packed_path(result_path).is_file()
+    ):
         raise Http404
-    response = sent(place, KINDS.get(place.suffix, "text/plain; charset=utf-8"))
-    response["Content-Security-Policy"] = BOXED
+    response = send_file(
+        result_path, KINDS.get(result_path.suffix, "text/plain; charset=utf-8")
+    )
+    response["Content-Security-Policy"] = SANDBOX_POLICY
     return response

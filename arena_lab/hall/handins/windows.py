@@ -1,5 +1,5 @@
-"""Windows: when programs are handed in, and on which networks they are graded. The
-course has one, until its deadline, and each contest has another."""
+"""Windows: the times for hand-ins and the networks of their grading. The course has one
+window, which ends at its deadline, and each contest has one."""
 import datetime
 from typing import Dict, List, NamedTuple, Optional
 
@@ -25,7 +25,7 @@ class Window(NamedTuple):
     freeze: Moment
 
     def end_for(self, team: Team) -> Moment:
-        """When it ends for a team, which may have a deadline of its own."""
+        """Returns the window's end for a team, which may have an extension."""
         return ends(self, [team])[team.pk]
 
     def has_begun(self) -> bool:
@@ -35,16 +35,16 @@ class Window(NamedTuple):
 def window_of(contest: Optional[Contest]) -> Optional[Window]:
     """The window of a contest, or of the course if none is named; nothing if the hall
     takes no hand-ins."""
-    given = settings.HALL.hand_ins
-    if given is None:
+    rules = settings.HALL.hand_ins
+    if rules is None:
         return None
     if contest is None:
         return Window(
             None,
-            given.networks,
-            given.secret,
+            rules.networks,
+            rules.secret,
             None,
-            given.deadline,
+            rules.deadline,
             settings.HALL.freeze,
         )
     nets = [
@@ -57,24 +57,24 @@ def window_of(contest: Optional[Contest]) -> Optional[Window]:
 
 
 def windows() -> List[Window]:
-    """The window of the course and those of all contests."""
-    found = [window_of(None), *map(window_of, Contest.objects.all())]
-    return [window for window in found if window is not None]
+    """Lists the windows of the course and of all contests."""
+    all_windows = [window_of(None), *map(window_of, Contest.objects.all())]
+    return [window for window in all_windows if window is not None]
 
 
 def ends(window: Window, teams: List[Team]) -> Dict[int, Moment]:
-    """When a window ends for each of these teams."""
-    own = Extension.objects.filter(contest=window.contest, team__in=teams).order_by(
+    """Returns the window's end for each team."""
+    order = Extension.objects.filter(contest=window.contest, team__in=teams).order_by(
         "pk"
     )
     return {
         **{team.pk: window.end for team in teams},
-        **dict(own.values_list("team", "until")),
+        **dict(order.values_list("team", "until")),
     }
 
 
 def last_of_teams(window: Window) -> Dict[int, int]:
-    """Of each team its last hand-in in a window."""
+    """Returns for each team its last hand-in in a window."""
     return dict(
         HandIn.objects.filter(contest=window.contest)
         .order_by("pk")

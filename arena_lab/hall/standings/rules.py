@@ -5,8 +5,8 @@ from typing import Dict, List, NamedTuple, Sequence, Tuple
 
 
 class GradedTeam(NamedTuple):
-    """What came of a team's program: on all networks, and of each network how many
-    matches of how many it solved."""
+    """The grading of a team's program: totals, and solved and played matches by
+    network."""
 
     team: str
     solved: int
@@ -16,12 +16,15 @@ class GradedTeam(NamedTuple):
     networks: Dict[str, Sequence[int]]
 
 
-def league(found: Sequence[GradedTeam]) -> List[Tuple[int, GradedTeam]]:
+def league(graded_teams: Sequence[GradedTeam]) -> List[Tuple[int, GradedTeam]]:
     """Programs with their places, the best first."""
-    ordered = sorted(found, key=league_rank)
-    ranks = [league_rank(it) for it in ordered]
-    return [(1 + ranks.index(league_rank(it)), it) for it in ordered]
+    ranking = sorted(graded_teams, key=league_rank)
+    ranks = [league_rank(graded_team) for graded_team in ranking]
+    return [
+        (1 + ranks.index(league_rank(graded_team)), graded_team)
+        for graded_team in ranking
+    ]
 
 
-def league_rank(graded: GradedTeam) -> Tuple[int, int, int]:
-    return -graded.solved, graded.moves, graded.lost
+def league_rank(graded_team: GradedTeam) -> Tuple[int, int, int]:
+    return -graded_team.solved, graded_team.moves, graded_team.lost

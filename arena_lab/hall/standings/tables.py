@@ -1,5 +1,4 @@
-"""The table of the course or of a contest, as it is now, or as it was when it was
-frozen."""
+"""Computes the table of the course or of a contest, at present or at its freeze."""
 from typing import Any, Dict, List, NamedTuple, Set
 
 from django.db import models
@@ -14,8 +13,8 @@ from arena_lab.hall.teams.models import Team
 
 
 class StandingsTable(NamedTuple):
-    """A table: its networks, a row for each team, whether the matches are those of the
-    secret draw, and since when it is frozen."""
+    """A table of standings: networks, a row per team, whether it is of the secret draw,
+    and the time of the freeze."""
 
     networks: List[str]
     rows: List[Dict[str, Any]]
@@ -23,21 +22,21 @@ class StandingsTable(NamedTuple):
     frozen: Moment
 
     @property
-    def ungraded(self) -> List[str]:
+    def ungraded_teams(self) -> List[str]:
         """The names of the teams whose last hand-in is not graded."""
         return [row["name"] for row in self.rows if not row["graded"]]
 
 
 def is_shown(window: Window, what: str, since: Moment = None) -> bool:
-    """Whether the teacher has shown something of a window, since a moment if one is
-    named."""
-    found = Reveal.objects.filter(contest=window.contest, what=what)
-    return bool((found if since is None else found.filter(at__gte=since)).exists())
+    """Returns whether the teacher has shown something of a window, since a moment if
+    one is named."""
+    reveals = Reveal.objects.filter(contest=window.contest, what=what)
+    return bool((reveals if since is None else reveals.filter(at__gte=since)).exists())
 
 
 def frozen_at(window: Window) -> Moment:
-    """Since when a table is frozen; None if it is not. An unveiling ends the freezes
-    before it, and none after it."""
+    """Returns the time of a table's freeze, or None. Unveiling ends earlier freezes,
+    but not later ones."""
     if (
         window.freeze is None
         or timezone.now() < window.freeze
@@ -57,13 +56,13 @@ def tables(window: Window, for_teacher: bool) -> List[StandingsTable]:
         "state": machine.OVER,
     }
     is_shown_to = for_teacher or is_shown(window, Reveal.SECRET)
-    found = (
+    tables_shown = (
         [table(window, True, for_teacher)]
         if is_shown_to and Grading.objects.filter(**secret).exists()
         else []
     )
-    return found + (
-        [table(window, False, for_teacher)] if for_teacher or not found else []
+    return tables_shown + (
+        [table(window, False, for_teacher)] if for_teacher or not tables_shown else []
     )
 
 
@@ -74,30 +73,30 @@ def table(window: Window, is_secret: bool, for_teacher: bool) -> StandingsTable:
     if not for_teacher:
         teams = teams.filter(hidden=False)
     names = window.secret if is_secret else window.public
-    found = graded(window, is_secret, frozen)
-    missing = ungraded(window) if is_secret else set()
+    graded = graded_teams(window, is_secret, frozen)
+    missing = teams_without_grade(window) if is_secret else set()
     places = rules.league(
         [
-            found[team.pk]._replace(team=team.name)
+            graded[team.pk]._replace(team=team.name)
             for team in teams
-            if team.pk in found and team.pk not in missing
+            if team.pk in graded and team.pk not in missing
         ]
     )
-    shown = {team.name: str(team) for team in teams}
+    team_names = {team.name: str(team) for team in teams}
     rows = [
         {
-            "place": place,
-            "team": it.team,
-            "name": shown.pop(it.team),
+            "place": rank,
+            "team": graded_team.team,
+            "name": team_names.pop(graded_team.team),
             "absent": False,
             "graded": True,
-            "solved": it.solved,
-            "matches": it.matches,
-            "moves": it.moves,
-            "lost": it.lost,
-            "cells": [cell(it.networks.get(word)) for word in names],
+            "solved": graded_team.solved,
+            "matches": graded_team.matches,
+            "moves": graded_team.moves,
+            "lost": graded_team.lost,
+            "cells": [cell(graded_team.networks.get(word)) for word in names],
         }
-        for place, it in places
+        for rank, graded_team in places
     ]
     last = 1 + len(rows)
     rows += [
@@ -114,12 +113,12 @@ def table(window: Window, is_secret: bool, for_teacher: bool) -> StandingsTable:
             "cells": [None] * len(names),
         }
         for team in teams
-        if team.name in shown
+        if team.name in team_names
     ]
     return StandingsTable(list(names.values()), rows, is_secret, frozen)
 
 
-def ungraded(window: Window) -> Set[int]:
+def teams_without_grade(window: Window) -> Set[int]:
     """The teams whose last hand-in is not graded by the secret draw."""
     over = set(
         Grading.objects.filter(is_secret=True, state=machine.OVER).values_list(
@@ -129,16 +128,16 @@ def ungraded(window: Window) -> Set[int]:
     return {team for team, last in last_of_teams(window).items() if last not in over}
 
 
-def cell(found: Any) -> Any:
-    """What a team has on a network."""
-    return None if found is None else {"solved": found[0], "matches": found[1]}
+def cell(counts: Any) -> Any:
+    """Returns the cell of a team and a network."""
+    return None if counts is None else {"solved": counts[0], "matches": counts[1]}
 
 
-def graded(
+def graded_teams(
     window: Window, is_secret: bool, before: Moment
 ) -> Dict[int, rules.GradedTeam]:
-    """What came of each team's last hand-in that is graded. A freeze hides what was
-    handed in later."""
+    """Returns the result of each team's last graded hand-in. Hand-ins after a freeze
+    are hidden."""
     rows = Grading.objects.filter(
         hand_in__contest=window.contest, is_secret=is_secret, state=machine.OVER
     ).order_by()
@@ -148,8 +147,13 @@ def graded(
         rows.values("hand_in__team").annotate(last=models.Max("hand_in")).values("last")
     )
     return {
-        it.hand_in.team_id: rules.GradedTeam(
-            "", it.solved, it.matches, it.moves, it.lost, it.networks
+        grading.hand_in.team_id: rules.GradedTeam(
+            "",
+            grading.solved,
+            grading.matches,
+            grading.moves,
+            grading.lost,
+            grading.networks,
         )
-        for it in rows.filter(hand_in__in=last).select_related("hand_in")
+        for grading in rows.filter(hand_in__in=last).select_related("hand_in")
     }

@@ -27,19 +27,19 @@ SEES_ALL = "handins.view_grading"
 
 
 def may_see(request: Any) -> bool:
-    """Whether one may see the standings."""
+    """Returns whether the request may read the standings."""
     return bool(
         settings.HALL.public or request.team is not None or request.user.is_staff
     )
 
 
 def is_teacher(request: Any) -> bool:
-    """Whether one may see what a freeze hides."""
+    """Returns whether one may see what a freeze hides."""
     return bool(request.user.is_staff and request.user.has_perm(SEES_ALL))
 
 
-def begun(number: Optional[int]) -> Optional[Window]:
-    """The window of a contest that has begun, or of the course."""
+def open_window(number: Optional[int]) -> Optional[Window]:
+    """Returns the window of a started contest, or of the course for None."""
     return window_of(
         None
         if number is None
@@ -47,23 +47,26 @@ def begun(number: Optional[int]) -> Optional[Window]:
     )
 
 
-def shown(window: Optional[Window], for_teacher: bool) -> List[tables.StandingsTable]:
+def visible_tables(
+    window: Optional[Window], for_teacher: bool
+) -> List[tables.StandingsTable]:
     """The tables of a window. Those of teams are made once in a while, however often
     they are asked for."""
     if window is None or for_teacher:
         return [] if window is None else tables.tables(window, True)
     name = f"tables-{0 if window.contest is None else window.contest.pk}"
-    found: List[tables.StandingsTable] = cache.get_or_set(
+    standings_tables: List[tables.StandingsTable] = cache.get_or_set(
         name, lambda: tables.tables(window, False), SECONDS
     )
-    return found
+    return standings_tables
 
 
 def page(request: Any, number: Optional[int] = None) -> HttpResponse:
-    """The standings of the course or of a contest, or the page on which one logs in."""
+    """Shows the standings of the course or of a contest; redirects to the login page if
+    they are private."""
     if not may_see(request):
         return redirect("/login")
-    window = begun(number)
+    window = open_window(number)
     contests = (
         Contest.objects.filter(start__lte=timezone.now()) if number is None else []
     )
@@ -71,7 +74,7 @@ def page(request: Any, number: Optional[int] = None) -> HttpResponse:
         request,
         "standings.html",
         {
-            "tables": shown(window, is_teacher(request)),
+            "tables": visible_tables(window, is_teacher(request)),
             "is_teacher": is_teacher(request),
             "contests": contests,
             "contest": window and window.contest,
@@ -84,11 +87,11 @@ def screen(request: Any, number: Optional[int] = None) -> HttpResponse:
     hides."""
     if not may_see(request):
         return redirect("/login")
-    window = begun(number)
+    window = open_window(number)
     return render(
         request,
         "screen.html",
-        {"tables": shown(window, False), "contest": window and window.contest},
+        {"tables": visible_tables(window, False), "contest": window and window.contest},
     )
 
 
@@ -116,11 +119,11 @@ def as_rows(table: tables.StandingsTable) -> List[List[Any]]:
             for cell in row["cells"]
             for what in ("solved", "matches")
         ]
-        place = row["place"] if row["graded"] else "not graded"
-        place = "absent" if row["absent"] else place
+        rank = row["place"] if row["graded"] else "not graded"
+        rank = "absent" if row["absent"] else rank
         rows.append(
             [
-                place,
+                rank,
                 *(
                     row[name]
                     for name in ("team", "name", "solved", "matches", "moves", "lost")
@@ -132,12 +135,12 @@ def as_rows(table: tables.StandingsTable) -> List[List[Any]]:
 
 
 def as_csv(rows: List[List[Any]]) -> str:
-    made = io.StringIO()
-    csv.writer(made).writerows(safe(rows))
-    return made.getvalue()
+    buffer = io.StringIO()
+    csv.writer(buffer).writerows(safe(rows))
+    return buffer.getvalue()
 
 
-def attached(text: str, name: str) -> HttpResponse:
+def attachment(text: str, name: str) -> HttpResponse:
     """A table that a browser keeps as a file."""
     response = HttpResponse(text, content_type="text/csv; charset=utf-8")
     response["Content-Disposition"] = f'attachment; filename="{name}"'
@@ -148,10 +151,10 @@ def attached(text: str, name: str) -> HttpResponse:
 @permission_required(SEES_ALL, raise_exception=True)
 def export(request: Any, number: Optional[int] = None) -> HttpResponse:
     """The first table that the teacher sees, for a gradebook."""
-    found = shown(begun(number), True)
-    if not found:
+    standings_tables = visible_tables(open_window(number), True)
+    if not standings_tables:
         raise Http404
-    return attached(as_csv(as_rows(found[0])), "standings.csv")
+    return attachment(as_csv(as_rows(standings_tables[0])), "standings.csv")
 
 
 class MaySee(BasePermission):
@@ -162,13 +165,17 @@ class MaySee(BasePermission):
 
 
 class Standings(APIView):
-    """The standings of the course or of a contest."""
+    """Lists the standings of the course or of a contest."""
 
     permission_classes = [MaySee]
 
     def get(self, request: Any, number: Optional[int] = None) -> Response:
-        found = shown(begun(number), False)
-        table = found[0] if found else tables.StandingsTable([], [], False, None)
+        standings_tables = visible_tables(open_window(number), False)
+        table = (
+            standings_tables[0]
+            if standings_tables
+            else tables.StandingsTable([], [], False, None)
+        )
         return Response(
             {
                 "networks": table.networks,
@@ -180,7 +187,7 @@ class Standings(APIView):
 
 
 class Contests(APIView):
-    """All contests; the networks of one are told once it has begun."""
+    """Lists all contests; the networks of a contest are included once it has begun."""
 
     permission_classes = [MaySee]
 
@@ -189,12 +196,12 @@ class Contests(APIView):
         return Response(
             [
                 {
-                    "id": it.pk,
-                    "name": it.name,
-                    "start": time_of(it.start),
-                    "end": time_of(it.end),
-                    "networks": it.networks if it.start <= now else [],
+                    "id": contest.pk,
+                    "name": contest.name,
+                    "start": time_of(contest.start),
+                    "end": time_of(contest.end),
+                    "networks": contest.networks if contest.start <= now else [],
                 }
-                for it in Contest.objects.all()
+                for contest in Contest.objects.all()
             ]
         )

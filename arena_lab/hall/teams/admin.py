@@ -9,15 +9,15 @@ from django.utils.translation import gettext_lazy as _
 
 from arena_lab.hall.attempts.asking import own_bytes
 from arena_lab.hall.keys import HEAD, new_tokens
-from arena_lab.hall.standings.views import as_csv, attached
+from arena_lab.hall.standings.views import as_csv, attachment
 from arena_lab.hall.teams.models import Entry, Message, Switch, Team
 
 admin.site.site_header = admin.site.site_title = settings.HALL.title
 admin.site.index_title = _("Teacher")
 
 
-class Made(admin.ModelAdmin):
-    """What the hall makes, and nobody adds."""
+class ReadOnlyAdmin(admin.ModelAdmin):
+    """An admin of rows that only the hall creates."""
 
     def has_add_permission(self, request: Any) -> bool:
         return False
@@ -27,7 +27,7 @@ class Made(admin.ModelAdmin):
 class Teams(admin.ModelAdmin):
     """Teams: new key sheets, hidden or not."""
 
-    list_display = ("name", "display", "hidden", "used", "disk")
+    list_display = ("name", "display", "hidden", "used_megabytes", "disk")
     list_editable = ("display", "hidden", "disk")
     search_fields = ("name", "display")
     actions = ("draw_tokens",)
@@ -36,7 +36,7 @@ class Teams(admin.ModelAdmin):
         return super().get_queryset(request).filter(is_guest=False)
 
     @admin.display(description=_("MB used"))
-    def used(self, team: Team) -> int:
+    def used_megabytes(self, team: Team) -> int:
         return own_bytes(team) >> 20
 
     @admin.action(
@@ -47,11 +47,11 @@ class Teams(admin.ModelAdmin):
             list(HEAD),
             *(list(row) for row in new_tokens(list(chosen), request.user)),
         ]
-        return attached(as_csv(rows), "keys.csv")
+        return attachment(as_csv(rows), "keys.csv")
 
 
 @admin.register(Switch)
-class Switches(Made):
+class Switches(ReadOnlyAdmin):
     """Networks, which are open or closed."""
 
     list_display = ("network", "is_open")
@@ -67,19 +67,19 @@ class Messages(admin.ModelAdmin):
     list_select_related = ("team",)
 
 
-class Log(Made):
+class Log(ReadOnlyAdmin):
     """A log, which nobody changes."""
 
-    def has_change_permission(self, request: Any, one: Any = None) -> bool:
+    def has_change_permission(self, request: Any, row: Any = None) -> bool:
         return False
 
-    def has_delete_permission(self, request: Any, one: Any = None) -> bool:
+    def has_delete_permission(self, request: Any, row: Any = None) -> bool:
         return False
 
 
 @admin.register(Entry)
 class Entries(Log):
-    """What teams have asked for, and what the hall has done."""
+    """The hall's log: requests of teams, and actions of the hall."""
 
     list_display = ("at", "who", "what")
     search_fields = ("who", "what")
@@ -87,7 +87,7 @@ class Entries(Log):
 
 @admin.register(LogEntry)
 class Doings(Log):
-    """What teachers and tutors have done on their pages: Django's own log."""
+    """Django's log of the actions of teachers and tutors."""
 
     list_display = ("action_time", "user", "content_type", "__str__")
     list_filter = ("user", "content_type")

@@ -8,24 +8,24 @@ from rest_framework.views import exception_handler
 
 
 def error_response(fault: Exception, context: Dict[str, Any]) -> Optional[Response]:
-    """What the REST answers are if something is refused: an object with `error`, a line
-    that says what to change."""
+    """Returns the REST response to an exception: an object with `error`, a line that
+    says what to change."""
     if isinstance(fault, RecursionError):
         # lists in lists in lists
         fault = exceptions.ParseError()
     response = exception_handler(fault, context)
     if response is not None:
-        said = (
+        detail = (
             fault.detail
             if isinstance(fault, exceptions.APIException)
             else _("there is no such thing")
         )
-        response.data = {"error": first_of(said)}
+        response.data = {"error": first_of(detail)}
     return response
 
 
-def first_of(said: Any) -> str:
+def first_of(detail: Any) -> str:
     """The first line of what REST says of faults."""
-    while isinstance(said, (dict, list)):
-        said = next(iter(said.values() if isinstance(said, dict) else said), "")
-    return str(said)
+    while isinstance(detail, (dict, list)):
+        detail = next(iter(detail.values() if isinstance(detail, dict) else detail), "")
+    return str(detail)

@@ -22,14 +22,16 @@ STRICT = (
     "default-src 'none'; style-src 'self'; script-src 'self'; img-src 'self' data:; font-src 'self'; "
     "connect-src 'self'; form-action 'self'; base-uri 'none'; frame-ancestors 'none'"
 )
-# pages that are made of what strangers said have their scripts in them, and may reach
-# nothing, not even cookies
-BOXED = (
+# policy of pages that quote strangers: only inline scripts run, and no request is
+# possible, not even with cookies
+SANDBOX_POLICY = (
     "sandbox allow-scripts; default-src 'none'; style-src 'unsafe-inline'; script-src 'unsafe-inline'; "
     "base-uri 'none'; form-action 'none'; frame-ancestors 'none'"
 )
 # such a page where the hall's own page has it in a frame
-BOXED_INSIDE = BOXED.replace("frame-ancestors 'none'", "frame-ancestors 'self'")
+BOXED_INSIDE = SANDBOX_POLICY.replace(
+    "frame-ancestors 'none'", "frame-ancestors 'self'"
+)
 # what each answer has: nothing is taken from elsewhere, framed or kept
 HEADERS = {
     "Content-Security-Policy": STRICT,
@@ -45,15 +47,15 @@ STRANGERS = 600
 TRIES = 10
 # what begins the names of teachers here, and of no team
 STAFF = "@"
-# bytes that are sent with a request: a hand-in, or of who has not logged in a form
-MOST_SENT = (8 << 20) + (64 << 10)
-MOST_OF_STRANGERS = 64 << 10
+# request size in bytes: with a hand-in, and for a form of a client without login
+MAX_SENT = (8 << 20) + (64 << 10)
+MAX_SENT_BY_STRANGERS = 64 << 10
 # what is kept in mind at most
-MOST = 20_000
+MAX_ENTRIES = 20_000
 # where programs ask, and how they send their token
 REST = "/api/"
 BEARER = "bearer "
-# the bits of an address of IPv6 that say whose it is
+# prefix length in bits of an IPv6 network, which stands for one client
 OF_ONE = 64
 
 
@@ -68,29 +70,29 @@ class Buckets:
         )
         self._lock = threading.Lock()
 
-    def wait(self, key: str, most: int) -> float:
+    def wait(self, key: str, limit: int) -> float:
         """Takes one of what is left, and gives 0; if nothing is left, gives the seconds
         to wait."""
         with self._lock:
-            left = self._refilled(key, most)
-            is_enough = left >= 1
-            self._put(key, left - 1 if is_enough else left)
-        return 0.0 if is_enough else (1 - left) * self._seconds / most
+            tokens = self._refilled(key, limit)
+            is_enough = tokens >= 1
+            self._put(key, tokens - 1 if is_enough else tokens)
+        return 0.0 if is_enough else (1 - tokens) * self._seconds / limit
 
-    def is_empty(self, key: str, most: int) -> bool:
-        """Whether a use of this key would have to wait. Takes nothing."""
+    def is_empty(self, key: str, limit: int) -> bool:
+        """Returns whether the key's bucket is empty, without taking from it."""
         with self._lock:
-            self._put(key, self._refilled(key, most))
+            self._put(key, self._refilled(key, limit))
             return self._left[key][0] < 1
 
-    def _refilled(self, key: str, most: int) -> float:
+    def _refilled(self, key: str, limit: int) -> float:
         now = time.monotonic()
-        left, then = self._left.pop(key, (float(most), now))
-        return min(float(most), left + (now - then) * most / self._seconds)
+        tokens, then = self._left.pop(key, (float(limit), now))
+        return min(float(limit), tokens + (now - then) * limit / self._seconds)
 
-    def _put(self, key: str, left: float) -> None:
-        self._left[key] = (left, time.monotonic())
-        while len(self._left) > MOST:
+    def _put(self, key: str, tokens: float) -> None:
+        self._left[key] = (tokens, time.monotonic())
+        while len(self._left) > MAX_ENTRIES:
             self._left.popitem(last=False)
 
     def clear(self) -> None:
@@ -98,26 +100,26 @@ class Buckets:
             self._left.clear()
 
 
-asked = Buckets(60)
-tried = Buckets(600)
+requests = Buckets(60)
+attempts = Buckets(600)
 # whose credentials are known to be right: of the digest of a token or a session the
 # team's name
-known = ConnectionProxy(caches, "known")
+known_teams = ConnectionProxy(caches, "known")
 
 
 def address_of(request: HttpRequest) -> str:
-    """Who asks: the address, as waitress has it of the server before the hall if there
+    """Returns the client's address; waitress takes it from the reverse proxy, if there
     is one."""
     return network_of(str(request.META.get("REMOTE_ADDR", "")))
 
 
-def network_of(found: str) -> str:
-    """An address, or of one of IPv6 the network, whose addresses are all one
-    person's."""
+def network_of(address_text: str) -> str:
+    """Returns an IPv4 address, or the network of an IPv6 address, since one client may
+    use all addresses of the network."""
     try:
-        address = ipaddress.ip_address(found.partition("%")[0])
+        address = ipaddress.ip_address(address_text.partition("%")[0])
     except ValueError:
-        return found
+        return address_text
     if address.version == 4 or address.ipv4_mapped:
         return str(getattr(address, "ipv4_mapped", None) or address)
     return str(ipaddress.ip_network((address, OF_ONE), strict=False))
@@ -125,36 +127,40 @@ def network_of(found: str) -> str:
 
 def token_in(request: HttpRequest) -> Optional[str]:
     """The token that a program sends with a request of REST. Pages read none."""
-    said = str(request.META.get("HTTP_AUTHORIZATION", ""))
-    is_token = request.path.startswith(REST) and said.lower().startswith(BEARER)
-    return said[len(BEARER) :].strip() if is_token else None
+    header = str(request.META.get("HTTP_AUTHORIZATION", ""))
+    is_token = request.path.startswith(REST) and header.lower().startswith(BEARER)
+    return header[len(BEARER) :].strip() if is_token else None
 
 
 def credential_of(request: HttpRequest) -> Optional[str]:
-    """The digest of the token or of the session by which one asks: of the one that the
-    hall will look at."""
+    """Returns the digest of the request's token or session, whichever the hall
+    checks."""
     token = token_in(request)
     session = request.COOKIES.get(settings.SESSION_COOKIE_NAME)
-    said = (
+    credential = (
         f"token {token}"
         if token is not None
         else f"session {session}"
         if session
         else ""
     )
-    return hashlib.sha256(said.encode(errors="replace")).hexdigest() if said else None
+    return (
+        hashlib.sha256(credential.encode(errors="replace")).hexdigest()
+        if credential
+        else None
+    )
 
 
 def has_tried_too_often(request: HttpRequest, name: str) -> bool:
-    """Whether no token or password of this name is tried any more from this address:
-    too many were wrong. A right one costs no try, however often it is tried at once. So
-    each thread of the hall may look at one more wrong one."""
-    return tried.is_empty(f"{address_of(request)} {name[:40]}", TRIES)
+    """Returns whether no token or password of this name is tried any more from this
+    address: too many were wrong. A right one costs no try, however often it is tried at
+    once. So each thread of the hall may look at one more wrong one."""
+    return attempts.is_empty(f"{address_of(request)} {name[:40]}", TRIES)
 
 
 def was_wrong(request: HttpRequest, name: str) -> None:
     """Counts a wrong token or password of this name."""
-    tried.wait(f"{address_of(request)} {name[:40]}", TRIES)
+    attempts.wait(f"{address_of(request)} {name[:40]}", TRIES)
 
 
 class Guards:
@@ -172,15 +178,15 @@ class Guards:
     def _refused(self, request: HttpRequest) -> Optional[HttpResponse]:
         if request.path.startswith("/static/"):
             return None
-        name = known.get(credential_of(request))
+        name = known_teams.get(credential_of(request))
         is_team = bool(name) and not str(name).startswith(STAFF)
-        most = settings.HALL.limits.requests if is_team else STRANGERS
-        wait = asked.wait(f"known {name}" if name else address_of(request), most)
+        limit = settings.HALL.limits.requests if is_team else STRANGERS
+        wait = requests.wait(f"known {name}" if name else address_of(request), limit)
         if wait:
             return too_many(wait)
-        # what comes with a token is read once the token is found right
+        # the body of a request with a token is read after the token was verified
         if length_of(request) > (
-            MOST_SENT if name or token_in(request) else MOST_OF_STRANGERS
+            MAX_SENT if name or token_in(request) else MAX_SENT_BY_STRANGERS
         ):
             return refusal(413, _("that is too much"))
         if any(word in request.GET for word in ("token", "key", "password")):
@@ -195,16 +201,16 @@ class Guards:
 
 
 def length_of(request: HttpRequest) -> int:
-    """How many bytes are sent with a request. Without a word of that Django reads
-    none."""
-    said = str(request.META.get("CONTENT_LENGTH") or 0)
-    return int(said) if said.isdecimal() and len(said) < 12 else MOST_SENT + 1
+    """Returns how many bytes are sent with a request. Without a word of that Django
+    reads none."""
+    header = str(request.META.get("CONTENT_LENGTH") or 0)
+    return int(header) if header.isdecimal() and len(header) < 12 else MAX_SENT + 1
 
 
-def refusal(status: int, text: str, **more: str) -> HttpResponse:
+def refusal(status: int, text: str, **extra: str) -> HttpResponse:
     """A refusal as an object, which programs and people can read."""
     response = JsonResponse({"error": text}, status=status)
-    for name, value in more.items():
+    for name, value in extra.items():
         response[name.replace("_", "-")] = value
     return response
 

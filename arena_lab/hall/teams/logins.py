@@ -21,7 +21,7 @@ SESSION_TEAM = "team"
 SESSION_GENERATION = "generation"
 
 
-def tried(request: HttpRequest, token: str) -> Optional[Team]:
+def team_of_token(request: HttpRequest, token: str) -> Optional[Team]:
     """The team of a token, whose tries are limited by address."""
     name = token.partition(DOT)[0]
     if guards.has_tried_too_often(request, name):
@@ -33,7 +33,7 @@ def tried(request: HttpRequest, token: str) -> Optional[Team]:
 
 
 def log_in(request: Any, team: Team) -> None:
-    """Begins a session of a team, in the place of any before it."""
+    """Starts a session for a team, and ends any previous session of the browser."""
     request.session.flush()
     request.session[SESSION_TEAM] = team.pk
     request.session[SESSION_GENERATION] = team.generation
@@ -62,11 +62,11 @@ class Teams:
         if guards.token_in(request) is None:
             digest = guards.credential_of(request)
             if writer is not None:
-                guards.known.set(digest, writer.name)
+                guards.known_teams.set(digest, writer.name)
             elif request.user.is_staff:
-                guards.known.set(digest, f"{guards.STAFF}{request.user.pk}")
+                guards.known_teams.set(digest, f"{guards.STAFF}{request.user.pk}")
             else:
-                guards.known.delete(digest)
+                guards.known_teams.delete(digest)
         return self._answer(request)
 
 
@@ -79,11 +79,15 @@ class ByToken(BaseAuthentication):
             return None
         digest = guards.credential_of(request)
         # a token that was right costs no try, and is asked for anew each time
-        team = team_of(token) if guards.known.get(digest) else tried(request, token)
+        team = (
+            team_of(token)
+            if guards.known_teams.get(digest)
+            else team_of_token(request, token)
+        )
         if team is None:
-            guards.known.delete(digest)
+            guards.known_teams.delete(digest)
             raise exceptions.AuthenticationFailed(WRONG)
-        guards.known.set(digest, team.name)
+        guards.known_teams.set(digest, team.name)
         request._request.team = request._request.writer = team
         return team, None
 
@@ -106,7 +110,7 @@ class BySession(SessionAuthentication):
 
 
 class ByWriter(BySession):
-    """The session of a team or of a guest."""
+    """Authenticates the session of a team or of a guest."""
 
     who = "writer"
 
@@ -124,24 +128,24 @@ class Teachers(ModelBackend):
     a stranger at the same address has tried."""
 
     def authenticate(
-        self, request: Any, username: Any = None, password: Any = None, **given: Any
+        self, request: Any, username: Any = None, password: Any = None, **options: Any
     ) -> Any:
         name = f"{guards.STAFF}{username}"
         if request is not None and guards.has_tried_too_often(request, name):
             password, _, word = str(password).rpartition(" ")
-            own = settings.PLACE.secret(LOGIN)
-            if not secrets.compare_digest(word.encode(), own.encode()):
+            hash_text = settings.PLACE.secret(LOGIN)
+            if not secrets.compare_digest(word.encode(), hash_text.encode()):
                 return None
         user = super().authenticate(
-            request, username=username, password=password, **given
+            request, username=username, password=password, **options
         )
         if user is None and request is not None:
             guards.was_wrong(request, name)
         return user
 
 
-def shown(request: Any) -> Dict[str, Any]:
-    """What each page has."""
+def page_context(request: Any) -> Dict[str, Any]:
+    """Returns the template variables of all pages."""
     hall = settings.HALL
     return {
         "hall": hall,

@@ -68,8 +68,8 @@ class Team(models.Model):
 
 
 def digest_of(token: str) -> str:
-    """What is kept of a token. It has 144 bits by chance, so nobody can try them
-    all."""
+    """Returns the stored digest of a token. Tokens have 144 random bits, which
+    exhaustive search cannot find."""
     return hmac.new(
         settings.SECRET_KEY.encode(), token.encode(), hashlib.sha256
     ).hexdigest()
@@ -89,7 +89,7 @@ def team_of(token: str) -> Optional[Team]:
 
 
 class Message(models.Model):
-    """An announcement to all teams, or a question of one of them with its answer."""
+    """An announcement to all teams, or a team's question with its answer."""
 
     team = models.ForeignKey(
         Team,
@@ -117,8 +117,7 @@ class Message(models.Model):
 
 
 class Entry(models.Model):
-    """A line of the hall's log: who did what. It has no token, no key and no
-    password."""
+    """A line of the audit log: who did what. It contains no token, key or password."""
 
     at = models.DateTimeField(default=timezone.now, db_index=True)
     who = models.CharField(max_length=40)

@@ -1,4 +1,4 @@
-"""Pages on which a team logs in and out."""
+"""Pages for login and logout of teams."""
 from typing import Any, Callable
 
 from django import forms
@@ -15,7 +15,7 @@ from arena_lab.hall.teams import logins
 from arena_lab.hall.teams.models import Message, Team
 
 # how many questions of a team may wait for an answer
-MOST_WAITING = 5
+MAX_WAITING = 5
 
 
 class Token(forms.Form):
@@ -37,7 +37,7 @@ def login(request: Any) -> HttpResponse:
     status = 400 if request.method == "POST" else 200
     if form.is_valid():
         try:
-            team = logins.tried(request, form.cleaned_data["token"])
+            team = logins.team_of_token(request, form.cleaned_data["token"])
         except Throttled:
             team = None
             status = 429
@@ -58,10 +58,10 @@ def logout(request: Any) -> HttpResponse:
 def for_teams(view: Callable[..., HttpResponse]) -> Callable[..., HttpResponse]:
     """A page for teams alone."""
 
-    def shown(request: Any, *words: Any, **given: Any) -> HttpResponse:
-        return view(request, *words, **given) if request.team else redirect("/login")
+    def view_for(request: Any, *words: Any, **options: Any) -> HttpResponse:
+        return view(request, *words, **options) if request.team else redirect("/login")
 
-    return shown
+    return view_for
 
 
 class Question(forms.ModelForm):
@@ -85,30 +85,32 @@ def messages(request: Any) -> HttpResponse:
             # requests at the same time are taken one after the other
             Team.objects.select_for_update().get(pk=request.team.pk)
             waiting = Message.objects.filter(team=request.team, answer="").count()
-            if waiting < MOST_WAITING and form.is_valid():
+            if waiting < MAX_WAITING and form.is_valid():
                 Message.objects.create(
                     team=request.team, text=form.cleaned_data["text"]
                 )
                 return redirect("/messages")
-        status = 400 if waiting < MOST_WAITING else 429
+        status = 400 if waiting < MAX_WAITING else 429
         if status == 429:
             form.add_error("text", _("your questions wait for answers: wait for one"))
-    found = Message.objects.filter(
+    rows = Message.objects.filter(
         Q(team=None) | Q(team=request.team) | Q(is_public=True) & ~Q(answer="")
     )
     return render(
-        request, "messages.html", {"messages": found[:100], "form": form}, status=status
+        request, "messages.html", {"messages": rows[:100], "form": form}, status=status
     )
 
 
-def owned(request: Any, kind: Any, number: int, right: str, who: str = "team") -> Any:
-    """What the team that asks has under this number, or any team if a teacher or tutor
-    asks who has a right. Another team's is as if there were none."""
-    found = get_object_or_404(kind.objects.select_related("team"), pk=number)
+def owned_row(
+    request: Any, kind: Any, number: int, right: str, who: str = "team"
+) -> Any:
+    """Returns the row of this number if it belongs to the requesting team, or if staff
+    with the permission `right` asks; else raises Http404."""
+    row = get_object_or_404(kind.objects.select_related("team"), pk=number)
     if (
-        getattr(request, who) == found.team
+        getattr(request, who) == row.team
         or request.user.is_staff
         and request.user.has_perm(right)
     ):
-        return found
+        return row
     raise Http404

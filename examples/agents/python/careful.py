@@ -22,8 +22,9 @@ def board_of(safe: List[int]) -> str:
 
 
 def safe_on(board: str) -> List[int]:
-    """How many nodes of each side are safe, as the whiteboard of the home base says."""
-    return [int(it) for it in board.split()]
+    """Returns how many nodes of each side are safe, as the whiteboard of the home base
+    says."""
+    return [int(part) for part in board.split()]
 
 
 def choose_side(agent: Agent, here: Here) -> Tuple[int, str]:
@@ -69,27 +70,27 @@ def search(agent: Agent, key: str, nodes: int) -> None:
         ahead = side if mine == 0 else 1 - back(walk(agent, side, mine))
         if mine + theirs == nodes - 2:
             return agent.accuse(ahead)
-        found = agent.depart(ahead)
+        here = agent.depart(ahead)
         mine += 1
-        board = note(agent, side, mine, walk(agent, back(found), mine).board)
+        board = note(agent, side, mine, walk(agent, back(here), mine).board)
 
 
-def words_of(given: List[str]) -> List[str]:
+def words_of(arguments: List[str]) -> List[str]:
     """HOST, PORT, KEY and NODES. Of the first three, those that are not given are taken
     from the environment."""
-    if len(given) == 1:
-        known = os.environ.get
+    if len(arguments) == 1:
+        environment = os.environ.get
         return [
-            known("ARENA_HOST", "127.0.0.1"),
-            known("ARENA_PORT", "4000"),
-            known("ARENA_KEY", ""),
-            *given,
+            environment("ARENA_HOST", "127.0.0.1"),
+            environment("ARENA_PORT", "4000"),
+            environment("ARENA_KEY", ""),
+            *arguments,
         ]
-    return given
+    return arguments
 
 
-def main(given: List[str]) -> int:
-    words = words_of(given)
+def main(arguments: List[str]) -> int:
+    words = words_of(arguments)
     if len(words) != 4:
         print((__doc__ or "").strip(), file=sys.stderr)
         return 2

@@ -1,13 +1,13 @@
 """Does the home base show how many nodes there are?"""
 from typing import List
 
-from arena_lab.course.exercises import board_at_home, done
+from arena_lab.course.exercises import board_at_home, events_of
 from arena_lab.rules.model import Match
 
 
 def check(match: Match) -> List[str]:
     nodes = match.setup.nodes
-    moves = len(done(match, "depart"))
+    moves = len(events_of(match, "depart"))
     board = board_at_home(match)
     if board == str(nodes):
         return []

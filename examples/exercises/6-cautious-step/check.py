@@ -1,13 +1,13 @@
 """Is one agent lost at most, and is what is safe written?"""
 from typing import List
 
-from arena_lab.course.exercises import board_at_home, done
+from arena_lab.course.exercises import board_at_home, events_of
 from arena_lab.rules.model import Match
 
 
 def check(match: Match) -> List[str]:
     lost = sum(agent.lost for agent in match.agents)
-    went = {it["agent"] for it in done(match, "depart")}
+    went = {event["agent"] for event in events_of(match, "depart")}
     if not went:
         return ["no agent went through port 0: one of them has to look"]
     if lost > 1:

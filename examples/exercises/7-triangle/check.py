@@ -1,7 +1,7 @@
 """Is the black hole named?"""
 from typing import List
 
-from arena_lab.course.exercises import done
+from arena_lab.course.exercises import events_of
 from arena_lab.rules.model import Match, judge
 
 
@@ -10,11 +10,13 @@ def check(match: Match) -> List[str]:
         return []
     if all(agent.lost for agent in match.agents):
         return ["both agents were lost: they took the same side"]
-    if not done(match, "accuse"):
+    if not events_of(match, "accuse"):
         return [
             "nobody accused: who comes back from its side knows where the black hole is"
         ]
-    node, port = next(it for it in match.accused if not match.doomed(*it))
+    node, port = next(
+        link_end for link_end in match.accused if not match.destroys(*link_end)
+    )
     return [
         f"an agent accused port {port} of node {node}, which leads to a safe node: a port means something at its "
         "own node alone, and the black hole is on the side from which nobody has come back"

@@ -1,24 +1,24 @@
 """Is the black hole named, and by nobody who has only waited?"""
 from typing import List
 
-from arena_lab.course.exercises import done
+from arena_lab.course.exercises import events_of
 from arena_lab.rules.model import Match, judge
 
 
 def check(match: Match) -> List[str]:
-    waited = [
-        it["agent"]
-        for it in done(match, "accuse")
-        if not done(match, "depart", it["agent"])
+    waiters = [
+        event["agent"]
+        for event in events_of(match, "accuse")
+        if not events_of(match, "depart", event["agent"])
     ]
-    if judge(match).is_solved and not waited:
+    if judge(match).is_solved and not waiters:
         return []
-    if waited:
+    if waiters:
         return [
-            f"agent {waited[0]} accused a port without having gone anywhere: it took an agent for lost that was only "
+            f"agent {waiters[0]} accused a port without having gone anywhere: it took an agent for lost that was only "
             "slow, or would have; how long one waits tells nothing"
         ]
-    if not done(match, "accuse"):
+    if not events_of(match, "accuse"):
         return [
             "nobody accused: who comes back from its side knows where the black hole is"
         ]

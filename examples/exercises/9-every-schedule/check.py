@@ -1,14 +1,14 @@
 """Is the black hole named, whatever the order of events?"""
 from typing import List
 
-from arena_lab.course.exercises import done
+from arena_lab.course.exercises import events_of
 from arena_lab.rules.model import Match, Object, judge
 
 
 def check(match: Match) -> List[str]:
     if judge(match).is_solved:
         return []
-    writes = [it for it in done(match, "write") if it["expect"]]
+    writes = [event for event in events_of(match, "write") if event["expect"]]
     for event in writes:
         if event["reply"]["ok"] == "written" and has_erased(event):
             return [
@@ -25,7 +25,7 @@ def check(match: Match) -> List[str]:
         return [
             "both agents were lost: they explored the same side; only one of them may take a side"
         ]
-    if not done(match, "accuse"):
+    if not events_of(match, "accuse"):
         return [
             "nobody accused: who sees that one node is left knows where the black hole is"
         ]
@@ -35,14 +35,19 @@ def check(match: Match) -> List[str]:
 
 
 def has_erased(event: Object) -> bool:
-    """Whether a note says of a side that fewer nodes are safe than stood there."""
+    """Returns whether a note says of a side that fewer nodes are safe than stood
+    there."""
     sides = zip(event["expect"].split(), event["put"].split())
     return any(int(old) > int(new) for old, new in sides)
 
 
 def is_noted(match: Match, event: Object) -> bool:
-    """Whether the agent writes again, before it does anything else, what it could not
-    write."""
-    own = [it for it in match.log if it.get("agent") == event["agent"]]
-    after = own[own.index(event) + 1 :]
+    """Returns whether the agent repeats its failed write before it does anything
+    else."""
+    own_events = [
+        event_there
+        for event_there in match.log
+        if event_there.get("agent") == event["agent"]
+    ]
+    after = own_events[own_events.index(event) + 1 :]
     return bool(after) and after[0]["do"] == "write"

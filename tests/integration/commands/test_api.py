@@ -13,13 +13,13 @@ from unittest import mock
 import networkx
 
 import arena_lab.api as lab
-from arena_lab.play.agent_files import NoAgent
-from arena_lab.rules.engines import BY_MODEL, TOP, Differs, name_of
-from arena_lab.rules.networks import NoNetwork, of_graph, ring
+from arena_lab.play.agent_files import AgentError
+from arena_lab.rules.engines import BY_MODEL, TOP, EnginesDifferError, name_of
+from arena_lab.rules.networks import NetworkError, of_graph, ring
 from tests.support.matches import RING, InFolder, program
 
 NOTEBOOK = TOP / "examples" / "notebook.ipynb"
-drawn: List[float] = []
+draws: List[float] = []
 count = 0
 
 
@@ -31,11 +31,11 @@ def accuser(agent: Any, key: str) -> None:
 
 
 def waiter(
-    agent: Any, key: str, nodes: int, home: int, sleep: Any, more: int = 3
+    agent: Any, key: str, nodes: int, home: int, sleep: Any, extra: int = 3
 ) -> None:
     """Sleeps without end once it has entered."""
     agent.enter(key)
-    assert (nodes, home, more) == (3, 0, 3)
+    assert (nodes, home, extra) == (3, 0, 3)
     while True:
         sleep(1)
 
@@ -45,7 +45,7 @@ def counter(agent: Any, key: str) -> None:
     global count
     count = step(count)
     agent.enter(key)
-    drawn.append(random.random())
+    draws.append(random.random())
     agent.depart(1)
     agent.accuse(1 if count == 1 else 0)
 
@@ -96,20 +96,22 @@ class Api(InFolder):
             row["faults"], ["agent 1: sleeps, and nothing changes any more"]
         )
         with self.assertRaisesRegex(
-            NoAgent,
+            AgentError,
             "it has a parameter width; behind the agent and its key stand nodes",
         ):
             lab.play("ring:3", needy)
-        with self.assertRaisesRegex(NoAgent, "3 agents are named, and the match has 2"):
+        with self.assertRaisesRegex(
+            AgentError, "3 agents are named, and the match has 2"
+        ):
             lab.play("ring:3", [accuser] * 3, count=2)
 
     def test_a_function_has_its_own_variables(self) -> None:
-        drawn.clear()
+        draws.clear()
         rows = lab.play("ring:3", counter, holes=[1], seeds=3)
         self.assertEqual([row["failed"] for row in rows], [False] * 3)
         self.assertEqual(count, 0)
         # each agent of each match has a chance of its own
-        self.assertEqual(len(set(drawn)), 6)
+        self.assertEqual(len(set(draws)), 6)
 
     def test_a_network_is_a_graph(self) -> None:
         graph = networkx.petersen_graph()
@@ -134,7 +136,7 @@ class Api(InFolder):
             networkx.path_graph(2),
             networkx.MultiGraph([(0, 1), (0, 1), (1, 2)]),
         ):
-            with self.assertRaises(NoNetwork):
+            with self.assertRaises(NetworkError):
                 of_graph(wrong)
 
     def test_networks_that_the_rules_refuse_are_refused(self) -> None:
@@ -152,7 +154,7 @@ class Api(InFolder):
             ),
             (lab.Network(2, [(0, 0, 1, 0)]), "has 3 to 4096 nodes, and not 2"),
         ):
-            with self.subTest(why), self.assertRaisesRegex(NoNetwork, why):
+            with self.subTest(why), self.assertRaisesRegex(NetworkError, why):
                 lab.play(wrong, RING.words)
 
     def test_seeds_are_not_negative(self) -> None:
@@ -181,10 +183,10 @@ class Api(InFolder):
         self.assertEqual([row["outcome"] for row in rows], ["solved"] * 3)
 
     def test_what_fails_beside_a_network_that_is_solved_is_told(self) -> None:
-        found = lab.explore("ring:3", [accuser, waiter], holes=[1])
-        self.assertTrue(found.fails)
+        result = lab.explore("ring:3", [accuser, waiter], holes=[1])
+        self.assertTrue(result.fails)
         fault = "agent 1: sleeps, and nothing changes any more"
-        self.assertRegex(str(found), f"a schedule fails; .* moves .*; {fault}$")
+        self.assertRegex(str(result), f"a schedule fails; .* moves .*; {fault}$")
         self.assertRegex(
             str(lab.hunt("ring:3", [accuser, waiter], holes=[1], runs=3)),
             f"the team fails; .*; {fault}$",
@@ -201,14 +203,14 @@ class Api(InFolder):
         self.assertTrue(wrong.fails and not wrong.solves)
         few = lab.explore("ring:6", RING.words, states=10)
         self.assertFalse(few.is_whole or few.solves)
-        found = lab.hunt(
+        result = lab.hunt(
             "ring:8",
             f"{TOP}/arena_lab/mutants/reads_once.py {{nodes}}",
             runs=500,
             engine=program(),
         )
-        self.assertTrue(found.fails)
-        self.assertEqual(found.verdict.outcome, "silent")
+        self.assertTrue(result.fails)
+        self.assertEqual(result.verdict.outcome, "silent")
         self.assertEqual(
             lab.hunt("ring:5", RING.words, "moves", runs=50).verdict.outcome, "solved"
         )
@@ -261,16 +263,16 @@ class Api(InFolder):
 
     def test_the_program_draws_schedules(self) -> None:
         draws = lab.SampleRequest(500, 3, "fair", "moves")
-        found = lab.explore(
+        result = lab.explore(
             "ring:8", RING.words, holes=[4], engine=program(), draws=draws
         )
-        self.assertTrue(found.is_whole and not found.solves and not found.fails)
-        self.assertEqual([row["drawn"] for row in found.rows], [500])
+        self.assertTrue(result.is_whole and not result.solves and not result.fails)
+        self.assertEqual([row["drawn"] for row in result.rows], [500])
         self.assertLessEqual(
-            found.most_moves, lab.explore("ring:8", RING.words, holes=[4]).most_moves
+            result.most_moves, lab.explore("ring:8", RING.words, holes=[4]).most_moves
         )
         self.assertIn(
-            "no drawn schedule fails, which says nothing of the others", str(found)
+            "no drawn schedule fails, which says nothing of the others", str(result)
         )
         with self.assertRaisesRegex(ValueError, "draws need a program"):
             lab.explore("ring:8", RING.words, draws=draws)
@@ -289,20 +291,20 @@ class Api(InFolder):
             "        search(Agent.connect(host, int(port)), key, int(nodes))\n"
             "    except MatchOver:\n        pass\n"
         )
-        found = lab.hunt(
+        result = lab.hunt(
             "ring:5",
             lab.program(f"{sys.executable} {path} {{host}} {{port}} {{key}} {{nodes}}"),
             runs=60,
         )
-        self.assertTrue(found.fails)
-        self.assertNotEqual(found.verdict.outcome, "solved")
-        self.assertEqual(found.best.faults(), [])
+        self.assertTrue(result.fails)
+        self.assertNotEqual(result.verdict.outcome, "solved")
+        self.assertEqual(result.best.faults(), [])
 
     def test_a_match_shows_itself(self) -> None:
         record = lab.play("ring:5", RING.words)[0].match()
-        shown = record._repr_html_()
-        self.assertTrue(shown.startswith('<iframe srcdoc="&lt;!DOCTYPE html&gt;'))
-        self.assertNotIn("<script", shown)
+        view = record._repr_html_()
+        self.assertTrue(view.startswith('<iframe srcdoc="&lt;!DOCTYPE html&gt;'))
+        self.assertNotIn("<script", view)
         self.assertIn(
             "the Python model played it", "\n".join(record.keep(self.folder / "kept"))
         )
@@ -316,15 +318,15 @@ class Api(InFolder):
         self,
     ) -> None:
         row = lab.play("ring:3", forgetful, holes=[1], count=1)[0]
-        with self.assertRaises(Differs):
+        with self.assertRaises(EnginesDifferError):
             row.match()
 
 
 def forgetful(agent: Any, key: str) -> None:
     """Writes how often it was played, in a list that all matches share."""
-    drawn.append(0)
+    draws.append(0)
     agent.enter(key)
-    agent.write("", str(len(drawn)))
+    agent.write("", str(len(draws)))
 
 
 class Notebook(unittest.TestCase):
@@ -334,36 +336,38 @@ class Notebook(unittest.TestCase):
             "".join(cell["source"]) for cell in cells if cell["cell_type"] == "code"
         ]
         self.assertGreater(len(code), 4)
-        said = json.dumps(
-            [printed(cell) for cell in cells if cell["cell_type"] == "code"]
+        output = json.dumps(
+            [output_of(cell) for cell in cells if cell["cell_type"] == "code"]
         )
-        ran = subprocess.run(
+        result = subprocess.run(
             [sys.executable, "-c", RUNNER, json.dumps(code), program()],
             cwd=TOP / "examples",
             text=True,
             capture_output=True,
         )
-        self.assertEqual(ran.returncode, 0, ran.stderr)
-        found: List[str] = json.loads(ran.stdout)
-        for text, wanted, source in zip(found, json.loads(said), code):
+        self.assertEqual(result.returncode, 0, result.stderr)
+        report: List[str] = json.loads(result.stdout)
+        for text, expectation, source in zip(report, json.loads(output), code):
             with self.subTest(source):
                 self.assertRegex(
                     text,
                     "^"
-                    + ".*".join(map(re.escape, re.split(r"\d+\.\d s", wanted)))
+                    + ".*".join(map(re.escape, re.split(r"\d+\.\d s", expectation)))
                     + "$",
                 )
 
 
-def printed(cell: Dict[str, Any]) -> str:
+def output_of(cell: Dict[str, Any]) -> str:
     """What a cell of a notebook printed when it was saved."""
     return "".join(
-        "".join(it["text"]) for it in cell["outputs"] if it["output_type"] == "stream"
+        "".join(output["text"])
+        for output in cell["outputs"]
+        if output["output_type"] == "stream"
     )
 
 
-# runs cells one after the other, and gives what each printed; the program is the one of
-# these tests
+# runs a notebook's cells in order and prints their outputs as JSON; uses the program
+# under test
 RUNNER = """
 import contextlib, io, json, pathlib, sys
 sys.path.insert(0, str(pathlib.Path.cwd().parent))

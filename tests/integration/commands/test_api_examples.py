@@ -12,12 +12,12 @@ class Examples(unittest.TestCase):
         self.addCleanup(os.chdir, os.getcwd())
         os.chdir(TOP)
         finder = doctest.DocTestFinder(exclude_empty=False)
-        found = {it.name.rpartition(".")[2]: it for it in finder.find(api)}
+        results = {it.name.rpartition(".")[2]: it for it in finder.find(api)}
         functions = [name for name in api.__all__ if callable(getattr(api, name))]
         public = [name for name in functions if name[0].islower()]
         self.assertTrue(public)
         runner = doctest.DocTestRunner()
         for name in public:
             with self.subTest(name):
-                self.assertTrue(found[name].examples)
-                self.assertEqual(runner.run(found[name]).failed, 0)
+                self.assertTrue(results[name].examples)
+                self.assertEqual(runner.run(results[name]).failed, 0)

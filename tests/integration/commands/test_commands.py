@@ -46,23 +46,24 @@ ELSEWHERE = re.compile(r"--cluster|strace|agent\.py|careful\.wasm|page TOURNAMEN
 def commands() -> Dict[str, List[str]]:
     """The commands of each page, without options in brackets and what a comment
     says."""
-    found: Dict[str, List[str]] = {}
-    for path in (it for pattern in PAGES for it in sorted(TOP.glob(pattern))):
-        shown = (
+    results: Dict[str, List[str]] = {}
+    for path in (path for pattern in PAGES for path in sorted(TOP.glob(pattern))):
+        view = (
             re.sub(r"\\\n\s*", "", it)
             for it in COMMAND.findall(path.read_text(encoding="utf-8"))
         )
-        found[str(path.relative_to(TOP))] = [
+        results[str(path.relative_to(TOP))] = [
             re.sub(r" \[[^\]]*\]|\s+#.*| &$", "", it)
-            for it in shown
+            for it in view
             if not ELSEWHERE.search(it)
         ]
-    return found
+    return results
 
 
 class Commands(InFolder):
     def place_for(self, page: str) -> pathlib.Path:
-        """A folder with what a clone has, in which the commands of a page are given."""
+        """Returns a folder with the contents of a clone, in which the commands of a
+        page run."""
         folder = self.folder / page.replace("/", "-")
         for name in ("examples", "experiments"):
             shutil.copytree(TOP / name, folder / name)
@@ -75,33 +76,36 @@ class Commands(InFolder):
             (folder / name).chmod(0o755)
         return folder
 
-    def given(self, page: str, shown: List[str]) -> List[str]:
+    def failing_commands(self, page: str, view: List[str]) -> List[str]:
         """The commands of a page that fail, each with what it said: what the page says
         of a failure aside."""
         folder = self.place_for(page)
-        failed = []
+        failures = []
         text = (TOP / page).read_text(encoding="utf-8")
-        for command in shown:
-            for place, stands_for in PLACES.items():
-                command = re.sub(rf"(?<!/)\b{re.escape(place)}", stands_for, command)
+        for command in view:
+            for position, stands_for in PLACES.items():
+                command = re.sub(rf"(?<!/)\b{re.escape(position)}", stands_for, command)
             command = re.sub(r"--port \d+", lambda _: f"--port {free_port()}", command)
-            status, said = ended(command, folder)
-            if status not in (0, 1) and said.strip().rpartition("\n")[2] not in text:
-                failed.append(f"{page}: {command}: {status} {said}")
-        return failed
+            status, output = run_until_end(command, folder)
+            if status not in (0, 1) and output.strip().rpartition("\n")[2] not in text:
+                failures.append(f"{page}: {command}: {status} {output}")
+        return failures
 
     def test_each_command_runs(self) -> None:
-        found = commands()
-        self.assertGreater(sum(map(len, found.values())), 35)
+        result = commands()
+        self.assertGreater(sum(map(len, result.values())), 35)
         with concurrent.futures.ThreadPoolExecutor(
             len(os.sched_getaffinity(0))
         ) as pool:
-            failed = list(pool.map(lambda it: self.given(*it), found.items()))
-        self.assertFalse(sum(failed, []), "\n".join(sum(failed, [])))
+            failures = list(
+                pool.map(lambda it: self.failing_commands(*it), result.items())
+            )
+        self.assertFalse(sum(failures, []), "\n".join(sum(failures, [])))
 
 
-def ended(command: str, folder: pathlib.Path) -> Tuple[int, str]:
-    """The status of a command and what it said; 0 if it goes on."""
+def run_until_end(command: str, folder: pathlib.Path) -> Tuple[int, str]:
+    """Runs a command; returns its status (0 if it is still running at the limit) and
+    its output."""
     child = subprocess.Popen(
         ["bash", "-c", command],
         cwd=folder,
@@ -113,8 +117,8 @@ def ended(command: str, folder: pathlib.Path) -> Tuple[int, str]:
         env={**os.environ, "PYTHONPATH": str(TOP)},
     )
     try:
-        said, _ = child.communicate(timeout=SECONDS)
-        return child.returncode, said
+        output, _ = child.communicate(timeout=SECONDS)
+        return child.returncode, output
     except subprocess.TimeoutExpired:
         os.killpg(child.pid, signal.SIGKILL)
         child.communicate()

@@ -29,8 +29,8 @@ class TestLessons(InTemporary):
         for name in ("examples", "arena_lab"):
             (self.folder / name).symlink_to(TOP / name)
 
-    def said(self, words: List[str]) -> str:
-        ran = subprocess.run(
+    def output(self, words: List[str]) -> str:
+        result = subprocess.run(
             [sys.executable, "-m", "arena_lab", *words[1:]],
             cwd=self.folder,
             input="enter\nwait\n",
@@ -40,30 +40,30 @@ class TestLessons(InTemporary):
             timeout=300,
             env={**os.environ, "PYTHONPATH": str(TOP)},
         )
-        self.assertIn(ran.returncode, (0, 1), ran.stdout)
-        return ran.stdout
+        self.assertIn(result.returncode, (0, 1), result.stdout)
+        return result.stdout
 
     def test_by_hand(self) -> None:
-        found = commands("1 By hand")
-        self.assertEqual(4, len(found))
-        for words in found:
+        result = commands("1 By hand")
+        self.assertEqual(4, len(result))
+        for words in result:
             with self.subTest(words):
-                asked = [it for it in words if it != "--page"]
-                self.assertIn("The match is over", self.said(asked))
+                request = [word for word in words if word != "--page"]
+                self.assertIn("The match is over", self.output(request))
 
     def test_a_ring(self) -> None:
         begin, run, hunt, explore = commands("2 A ring")
-        self.assertIn(f"Complete {EXERCISE}/agent.py", self.said(begin))
-        self.assertIn("; failed 4\n", self.said(run))
-        self.assertRegex(self.said(hunt), r"the team fails, first under number \d+\n")
+        self.assertIn(f"Complete {EXERCISE}/agent.py", self.output(begin))
+        self.assertIn("; failed 4\n", self.output(run))
+        self.assertRegex(self.output(hunt), r"the team fails, first under number \d+\n")
         agent = self.folder / EXERCISE / exercises.AGENT
-        agent.write_text(exercises.read(EXERCISE).solution(), encoding="utf-8")
-        self.assertIn("50 schedules: solved 50; failed 0", self.said(run))
-        self.assertIn("no schedule fails", self.said(explore))
+        agent.write_text(exercises.read_exercise(EXERCISE).solution(), encoding="utf-8")
+        self.assertIn("50 schedules: solved 50; failed 0", self.output(run))
+        self.assertIn("no schedule fails", self.output(explore))
 
     def test_fewer_moves(self) -> None:
         two, halves, wrong = commands("3 Fewer moves")
         for words in (two, halves):
             with self.subTest(words):
-                self.assertIn("solve", self.said(words))
-        self.assertIn("silent", self.said(wrong))
+                self.assertIn("solve", self.output(words))
+        self.assertIn("silent", self.output(wrong))

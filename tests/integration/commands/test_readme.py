@@ -10,7 +10,7 @@ from arena_lab.__main__ import main
 from arena_lab.rules.engines import TOP, name_of
 from arena_lab.support import built
 from tests.support.matches import InFolder, program
-from tests.support.output import ran
+from tests.support.output import run_call
 
 README = TOP / "arena_lab" / "README.md"
 PAGES = (README, TOP / "docs" / "PROVING.md")
@@ -20,9 +20,9 @@ NO_PROGRAM = ("network", "tournament", "invariant")
 
 
 def examples() -> Iterator[Tuple[str, List[str]]]:
-    """Each command of the pages, and the lines below it."""
+    """Yields each command of the pages with the output shown below it."""
     command = ""
-    said = []
+    lines = []
     for line in (
         "\n".join(page.read_text(encoding="utf-8") for page in PAGES)
         .replace("\\\n", "")
@@ -30,30 +30,30 @@ def examples() -> Iterator[Tuple[str, List[str]]]:
     ):
         text = line.strip()
         if command and (not line.startswith("    ") or text.startswith("$")):
-            yield command, said
+            yield command, lines
             command = ""
-            said = []
+            lines = []
         if line.startswith("    ") and text.startswith(LAB):
             command = text[len(LAB) :]
-            said = []
+            lines = []
         elif command:
-            said.append(text)
+            lines.append(text)
 
 
 class Readme(InFolder):
     def test_each_command_says_what_stands_below_it(self) -> None:
-        found = list(examples())
-        self.assertGreater(len(found), 7)
-        for command, wanted in found:
+        results = list(examples())
+        self.assertGreater(len(results), 7)
+        for command, result in results:
             with self.subTest(command):
-                said = self.said(command)
-                for line in wanted:
+                output = self.output(command)
+                for line in result:
                     line = line.replace("out/", f"{self.folder}/").replace(
                         built.PROGRAM, name_of(program())
                     )
                     parts = [re.escape(part) for part in line.split("..")]
                     self.assertRegex(
-                        said, re.compile("^" + ".*".join(parts) + "$", re.M)
+                        output, re.compile("^" + ".*".join(parts) + "$", re.M)
                     )
 
     def test_the_adversary_is_the_one_of_the_examples(self) -> None:
@@ -68,7 +68,7 @@ class Readme(InFolder):
             code, (TOP / "examples" / "adversaries.py").read_text(encoding="utf-8")
         )
 
-    def said(self, command: str) -> str:
+    def output(self, command: str) -> str:
         words = [
             word.replace("out/", f"{self.folder}/").replace(
                 "python3 ", f"{sys.executable} "
@@ -79,4 +79,4 @@ class Readme(InFolder):
             words += ["--database", str(self.folder / "database")]
         if words[0] not in NO_PROGRAM:
             words += ["--program", program()]
-        return str(ran(main, words).said)
+        return str(run_call(main, words).output)

@@ -16,9 +16,9 @@ UNIT = (TOP / "examples" / "arena.service").read_text(encoding="utf-8")
 
 def command(name: str) -> str:
     """What systemd gives the shell: it takes `sh -c '..'` apart."""
-    found = re.search(rf"^{name}=/bin/sh -c '(.*)'$", UNIT, re.MULTILINE)
-    assert found is not None
-    return found[1]
+    match = re.search(rf"^{name}=/bin/sh -c '(.*)'$", UNIT, re.MULTILINE)
+    assert match is not None
+    return match[1]
 
 
 class TestService(InTemporary):
@@ -45,10 +45,10 @@ class TestService(InTemporary):
             assert server.stdout is not None
             self.assertTrue(server.stdout.readline().startswith("listening "))
             stop = command("ExecStop").replace("$MAINPID", str(server.pid))
-            told = subprocess.Popen(["sh", "-c", stop], **how)
+            process = subprocess.Popen(["sh", "-c", stop], **how)
             self.assertIn("silent", server.stdout.read())
             self.assertEqual(0, server.wait(30))
-            self.assertEqual(0, told.wait(30))
+            self.assertEqual(0, process.wait(30))
         finally:
             server.kill()
             server.communicate()

@@ -11,5 +11,5 @@ MYPY = "/usr/bin/mypy"
 class Types(unittest.TestCase):
     @unittest.skipUnless(shutil.which(MYPY), "mypy is not installed")
     def test_types_are_right(self) -> None:
-        ran = subprocess.run([MYPY], cwd=TOP, capture_output=True, text=True)
-        self.assertEqual(ran.returncode, 0, ran.stdout + ran.stderr)
+        result = subprocess.run([MYPY], cwd=TOP, capture_output=True, text=True)
+        self.assertEqual(result.returncode, 0, result.stdout + result.stderr)

@@ -14,18 +14,20 @@ from arena_lab.rules.engines import TOP
 from arena_lab.sandbox import sandboxes
 from arena_lab.sandbox.sandboxes import Isolation, SandboxOptions
 from tests.support.courses import HEAD, grade_words, rows_of_teams, team
-from tests.support.output import ran
+from tests.support.output import run_call
 
-HAS_WALLS = sandboxes.strongest() is Isolation.ALL
+HAS_SANDBOX = sandboxes.strongest() is Isolation.ALL
 IS_ROOT = os.geteuid() == 0
 # all that can keep programs apart for the user who runs the tests
-ALL_WALLS = (
-    [Isolation.ALL] * HAS_WALLS
+ALL_ISOLATION = (
+    [Isolation.ALL] * HAS_SANDBOX
     + [Isolation.USER] * IS_ROOT
     + [Isolation.NONE] * (not IS_ROOT)
 )
 SECRET = "a secret of the tests"
-WALLED = unittest.skipUnless(HAS_WALLS, f"no walls here: {sandboxes.weakness()}")
+NEEDS_SANDBOX = unittest.skipUnless(
+    HAS_SANDBOX, f"no walls here: {sandboxes.weakness()}"
+)
 
 # begins an agent's program: `ask` plays, by the port and the key that stand first in
 # the command
@@ -50,15 +52,15 @@ ask(do="enter", key=sys.argv[2])
 EVIL = "python3 evil.py {port} {key}"
 
 
-def first_match(graded: GradingRun) -> PlayedMatch:
+def first_match(grading: GradingRun) -> PlayedMatch:
     """Plays the first match of a grading."""
-    return graded.match(graded.course.cases()[0], schedulers.fair(0), None)[1]
+    return grading.match(grading.course.cases()[0], schedulers.fair(0), None)[1]
 
 
 class Course(unittest.TestCase):
     """A course of one team, whose program a test writes."""
 
-    # what the keys of its matches are drawn from
+    # secret from which the keys of its matches are derived
     SECRET = SECRET
 
     def setUp(self) -> None:
@@ -92,24 +94,24 @@ class Course(unittest.TestCase):
             self.folder / "out",
         )
 
-    def played(
-        self, isolation: Isolation, code: str, *agents: int, **more: Any
+    def play(
+        self, isolation: Isolation, code: str, *agents: int, **extra: Any
     ) -> PlayedMatch:
         """A match of the team."""
-        return first_match(self.grading(isolation, code, *agents, **more))
+        return first_match(self.grading(isolation, code, *agents, **extra))
 
-    def said(
-        self, isolation: Isolation, code: str, agents: int = 1, **more: Any
+    def last_words(
+        self, isolation: Isolation, code: str, agents: int = 1, **extra: Any
     ) -> List[str]:
         """The last words of the team's programs, each of which ends before it
         connects."""
-        faults = self.played(isolation, code, agents, **more).faults
+        faults = self.play(isolation, code, agents, **extra).faults
         return [fault.partition("before it connected: ")[2] for fault in faults]
 
-    def graded(self, text: str, out: str = "out", status: int = 0) -> Dict[str, Any]:
+    def grade(self, text: str, out: str = "out", status: int = 0) -> Dict[str, Any]:
         """Grades a course by the command, and gives the rows of each team."""
         file = self.folder / "course.toml"
         file.write_text(text)
         words = grade_words(file, self.folder / out, 2)
-        self.assertEqual(ran(main, words).status, status)
+        self.assertEqual(run_call(main, words).status, status)
         return rows_of_teams(self.folder / out)

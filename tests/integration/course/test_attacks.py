@@ -25,38 +25,38 @@ from arena_lab.sandbox import sandboxes
 from arena_lab.sandbox.sandboxes import Isolation
 from arena_lab.support.missing import DEBIANS_PYTHON
 from tests.integration.course.attacked_course import (
-    ALL_WALLS,
+    ALL_ISOLATION,
     BEGINS,
     ENTERS,
     EVIL,
-    HAS_WALLS,
+    HAS_SANDBOX,
     IS_ROOT,
     Course,
     first_match,
 )
 from tests.integration.play.test_programs import running
 from tests.support.courses import HEAD, HONEST, team
-from tests.support.output import ran
+from tests.support.output import run_call
 
 
 class Stopping(Course):
     """Nothing that a team does or hands in ends the command."""
 
     def test_folders_in_folders(self) -> None:
-        """1,200 of them were not removed by a call that goes down into each, and no
-        course went on after that."""
+        """1,200 nested folders exceeded the recursion limit of rmtree, and the course
+        could not continue."""
         own = self.folder / "sandboxes"
         own.mkdir()
-        for isolation in ALL_WALLS:
+        for isolation in ALL_ISOLATION:
             with self.subTest(isolation), mock.patch.object(
                 tempfile, "tempdir", str(own)
             ):
-                said = self.said(
+                output = self.last_words(
                     isolation,
                     "import os, sys\nfor _ in range(1200):\n    os.mkdir('d')\n    os.chdir('d')\n"
                     "sys.exit('has made them')",
                 )
-                self.assertEqual(said, ["has made them"])
+                self.assertEqual(output, ["has made them"])
         self.assertEqual(
             [name for name in os.listdir(own) if name.startswith("lab-sandbox")], []
         )
@@ -66,18 +66,18 @@ class Stopping(Course):
         for name in names:
             (self.folder / name).mkdir()
             (self.folder / name / "evil.py").write_text("raise SystemExit('ran')")
-        place = os.open(self.folder / "deep", os.O_RDONLY)
+        folder = os.open(self.folder / "deep", os.O_RDONLY)
         for _ in range(1200):
-            os.mkdir("d", dir_fd=place)
-            place, above = os.open("d", os.O_RDONLY, dir_fd=place), place
+            os.mkdir("d", dir_fd=folder)
+            folder, above = os.open("d", os.O_RDONLY, dir_fd=folder), folder
             os.close(above)
-        os.close(place)
+        os.close(folder)
         with open(self.folder / "large" / "file", "wb") as file:
             file.truncate(200 << 30)
         (self.folder / "linked" / "log").symlink_to("/proc/kmsg")
         (self.folder / "closed" / "file").write_text("x")
         (self.folder / "closed" / "file").chmod(0)
-        rows = self.graded(
+        rows = self.grade(
             HEAD + "".join(team(name, [name], EVIL, 1) for name in names) + HONEST
         )
         self.assertEqual(rows["right"][0]["outcome"], "solved")
@@ -94,15 +94,13 @@ class Stopping(Course):
         (self.team / "evil.py").write_text("pass")
         play = GradingRun.match
 
-        def match(graded: GradingRun, case: Any, *given: Any) -> Any:
+        def match(grading: GradingRun, case: Any, *args: Any) -> Any:
             if case.team.name == "evil":
                 raise RecursionError("so deep")
-            return play(graded, case, *given)
+            return play(grading, case, *args)
 
         with mock.patch.object(GradingRun, "match", match):
-            rows = self.graded(
-                HEAD + team("evil", ["evil"], EVIL, 1) + HONEST, status=1
-            )
+            rows = self.grade(HEAD + team("evil", ["evil"], EVIL, 1) + HONEST, status=1)
         self.assertEqual(
             rows["evil"][0]["fault"],
             "not played, as the lab failed: RecursionError: so deep",
@@ -116,31 +114,35 @@ class TwoCommands(Course):
         """The same match twice at a time: whoever kills by user must not share it."""
         for isolation in {Isolation.USER, sandboxes.strongest()}:
             with self.subTest(isolation):
-                graded = self.grading(
+                grading = self.grading(
                     isolation,
                     ENTERS + "time.sleep(0.5)\nask(do='look')\nask(do='leave')\n",
                 )
                 # the first match takes what the team hands in, and the others begin
                 # while one is played
-                self.assertEqual(first_match(graded).faults, [])
+                self.assertEqual(first_match(grading).faults, [])
                 with concurrent.futures.ThreadPoolExecutor(3) as pool:
-                    found: "List[concurrent.futures.Future[PlayedMatch]]" = []
+                    results: "List[concurrent.futures.Future[PlayedMatch]]" = []
                     for _ in range(3):
-                        found.append(pool.submit(first_match, graded))
+                        results.append(pool.submit(first_match, grading))
                         time.sleep(0.2)
-                self.assertEqual([it.result().faults for it in found], [[]] * 3)
+                self.assertEqual(
+                    [result.result().faults for result in results], [[]] * 3
+                )
 
 
 class Guessing(Course):
     def test_a_programs_user_does_not_tell_its_match(self) -> None:
         code = "import os, sys\nsys.exit(f'{os.getuid()} {os.getgid()} {os.getcwd()}')"
-        if HAS_WALLS:
+        if HAS_SANDBOX:
             self.assertEqual(
-                self.said(Isolation.ALL, code, 2), ["1000 1000 /agent"] * 2
+                self.last_words(Isolation.ALL, code, 2), ["1000 1000 /agent"] * 2
             )
         if IS_ROOT:
-            told = {tuple(self.said(Isolation.USER, code, 2)) for _ in range(3)}
-            self.assertEqual(len(told), 3)
+            message = {
+                tuple(self.last_words(Isolation.USER, code, 2)) for _ in range(3)
+            }
+            self.assertEqual(len(message), 3)
 
 
 class Timing(Course):
@@ -156,22 +158,24 @@ server.sendall("".join(json.dumps(command) + "\\n" for command in said).encode()
 os._exit(0)
 """
         )
-        for isolation in ALL_WALLS:
+        for isolation in ALL_ISOLATION:
             with self.subTest(isolation):
                 for _ in range(3):
-                    played = self.played(isolation, code)
+                    match = self.play(isolation, code)
                     self.assertEqual(
-                        (played.faults, tuple(played.verdict())), ([], ("solved", 3, 0))
+                        (match.faults, tuple(match.verdict())), ([], ("solved", 3, 0))
                     )
 
     def test_sets_have_the_same_order_on_each_run(self) -> None:
         code = "import sys\nsys.exit(str({'a', 'b', 'c', 'd', 'e', 'f', 'g'}))"
-        for isolation in ALL_WALLS:
-            self.assertEqual(len({self.said(isolation, code)[0] for _ in range(3)}), 1)
+        for isolation in ALL_ISOLATION:
+            self.assertEqual(
+                len({self.last_words(isolation, code)[0] for _ in range(3)}), 1
+            )
         (self.folder / "it.py").write_text(code + "\n")
-        told = set()
+        message = set()
         for _ in range(3):
-            out = ran(
+            out = run_call(
                 main,
                 [
                     "run",
@@ -184,15 +188,15 @@ os._exit(0)
                     "--command",
                     f"python3 {self.folder}/it.py {{port}} {{key}}",
                 ],
-            ).said
-            told.add(out)
-        self.assertEqual(len(told), 1)
+            ).output
+            message.add(out)
+        self.assertEqual(len(message), 1)
 
 
 class Saying(Course):
     def test_a_script_that_cannot_be_started_says_what_to_change(self) -> None:
         script = "#!/bin/sh\nexit 3\n"
-        for text, mode, said in (
+        for text, mode, message in (
             (
                 script.replace("\n", "\r\n"),
                 0o755,
@@ -210,15 +214,15 @@ class Saying(Course):
             ),
             (script, 0o755, "has ended with status 3 before it connected"),
         ):
-            with self.subTest(said):
+            with self.subTest(message):
                 (self.team / "go.sh").write_text(text, newline="")
                 (self.team / "go.sh").chmod(mode)
                 sandboxes.remove(self.folder / "out")
-                found = self.graded(
+                result = self.grade(
                     HEAD + team("evil", ["evil"], "./go.sh {port} {key}", 1),
                     f"out-{mode}-{len(text)}",
                 )
-                self.assertIn(said, found["evil"][0]["fault"])
+                self.assertIn(message, result["evil"][0]["fault"])
 
     def test_who_meets_a_bound_is_told_which(self) -> None:
         threads = (
@@ -226,7 +230,7 @@ class Saying(Course):
             "    threading.Thread(target=time.sleep, args=(60,)).start()\n"
         )
         files = "found = [open('/dev/null') for _ in range(300)]\n"
-        for code, said in (
+        for code, message in (
             (
                 threads,
                 "has sent no line for 3 s: RuntimeError: can't start new thread (evil.py, line "
@@ -238,11 +242,11 @@ class Saying(Course):
                 "files)",
             ),
         ):
-            with self.subTest(said):
-                fault = self.played(
-                    ALL_WALLS[0], code, head=HEAD.replace("60", "3")
+            with self.subTest(message):
+                fault = self.play(
+                    ALL_ISOLATION[0], code, head=HEAD.replace("60", "3")
                 ).faults[0]
-                self.assertIn(said, fault)
+                self.assertIn(message, fault)
 
     def test_last_words_are_one_fault_and_do_nothing_to_a_terminal(self) -> None:
         code = (
@@ -250,11 +254,11 @@ class Saying(Course):
             '\\r\\u2028".encode() + b"\\xff\\n")\nsys.exit(3)'
         )
         (self.team / "evil.py").write_text(code)
-        rows = self.graded(HEAD + team("evil", ["evil"], EVIL, 1))
-        said = "\\x1b]0;it\\x07\\x9b31m\\u202e\\x00; agent 1: forged\\r\\u2028\ufffd"
+        rows = self.grade(HEAD + team("evil", ["evil"], EVIL, 1))
+        output = "\\x1b]0;it\\x07\\x9b31m\\u202e\\x00; agent 1: forged\\r\\u2028\ufffd"
         self.assertEqual(
             rows["evil"][0]["faults"],
-            [f"agent 0: has ended with status 3 before it connected: {said}"],
+            [f"agent 0: has ended with status 3 before it connected: {output}"],
         )
         page = (self.folder / "out" / "team-evil.html").read_text(encoding="utf-8")
         self.assertEqual(
@@ -285,10 +289,10 @@ while not os.path.exists("still-there"):
 open("/tmp/left-by-a-program", "w").close()
 sys.exit(f"has left one {sys.argv[2]}")
 """
-        for isolation in set(ALL_WALLS) - {Isolation.NONE}:
+        for isolation in set(ALL_ISOLATION) - {Isolation.NONE}:
             with self.subTest(isolation):
-                said, _, key = self.said(isolation, code)[0].rpartition(" ")
-                self.assertEqual(said, "has left one")
+                output, _, key = self.last_words(isolation, code)[0].rpartition(" ")
+                self.assertEqual(output, "has left one")
                 self.assertEqual(running(key), [])
                 self.assertFalse(os.path.exists("/tmp/left-by-a-program"))
         self.assertIn("stay when a match has ended", Isolation.NONE.value)
@@ -299,12 +303,12 @@ class NotAsRoot(unittest.TestCase):
     def test_a_user_without_rights_is_as_safe(self) -> None:
         """The tests above, of bounds and of talking, as nobody."""
         nobody = ["setpriv", "--reuid=65534", "--regid=65534", "--clear-groups"]
-        seen = subprocess.run([*nobody, "test", "-r", __file__]).returncode == 0
-        if not seen or os.environ.get("ARENA_AS_NOBODY"):
+        observations = subprocess.run([*nobody, "test", "-r", __file__]).returncode == 0
+        if not observations or os.environ.get("ARENA_AS_NOBODY"):
             self.skipTest(f"who has no rights cannot read {TOP}")
         with tempfile.TemporaryDirectory() as home:
             os.chmod(home, 0o777)
-            ran = subprocess.run(
+            result = subprocess.run(
                 [
                     *nobody,
                     DEBIANS_PYTHON,
@@ -326,4 +330,4 @@ class NotAsRoot(unittest.TestCase):
                 text=True,
                 timeout=300,
             )
-        self.assertEqual(ran.returncode, 0, ran.stderr)
+        self.assertEqual(result.returncode, 0, result.stderr)

@@ -5,11 +5,11 @@ from unittest import mock
 from arena_lab.sandbox import watch
 from arena_lab.sandbox.sandboxes import Isolation
 from tests.integration.course.attacked_course import (
-    ALL_WALLS,
+    ALL_ISOLATION,
     BEGINS,
     ENTERS,
     EVIL,
-    WALLED,
+    NEEDS_SANDBOX,
     Course,
 )
 from tests.support.courses import HEAD, HONEST, team
@@ -18,12 +18,12 @@ from tests.support.courses import HEAD, HONEST, team
 class Stalling(Course):
     def test_a_match_has_a_time(self) -> None:
         code = ENTERS + "while True:\n    time.sleep(0.3)\n    ask(do='look')\n"
-        for isolation in ALL_WALLS:
+        for isolation in ALL_ISOLATION:
             with self.subTest(isolation):
                 began = time.monotonic()
-                played = self.played(isolation, code, head=HEAD + "match_limit = 2\n")
+                match = self.play(isolation, code, head=HEAD + "match_limit = 2\n")
                 self.assertEqual(
-                    played.faults,
+                    match.faults,
                     [
                         "agent 0: has used up the time of its match, 2 s in all, as the lab "
                         "waited for its programs"
@@ -33,7 +33,7 @@ class Stalling(Course):
 
     def test_a_team_has_a_time(self) -> None:
         (self.team / "evil.py").write_text(BEGINS + "time.sleep(0.7)\nsys.exit('slow')")
-        rows = self.graded(
+        rows = self.grade(
             HEAD
             + "seeds = 8\nteam_limit = 1\n"
             + team("evil", ["evil"], EVIL, 1)
@@ -67,12 +67,12 @@ class Taking(Course):
 time.sleep(100)
 """
         )
-        with mock.patch.object(watch, "MOST", 200 << 20):
-            for isolation in ALL_WALLS:
+        with mock.patch.object(watch, "MAX_MEMORY", 200 << 20):
+            for isolation in ALL_ISOLATION:
                 with self.subTest(isolation):
                     began = time.monotonic()
                     self.assertEqual(
-                        self.played(isolation, code).faults,
+                        self.play(isolation, code).faults,
                         [f"agent 0: {watch.TOO_MUCH}"],
                     )
                     self.assertLess(time.monotonic() - began, 30)
@@ -115,17 +115,15 @@ time.sleep(100)
 
     def check_taken(self, code: str) -> None:
         """The program is ended as one that has taken too much."""
-        with mock.patch.object(watch, "MOST", 200 << 20):
-            for isolation in ALL_WALLS:
+        with mock.patch.object(watch, "MAX_MEMORY", 200 << 20):
+            for isolation in ALL_ISOLATION:
                 with self.subTest(isolation):
                     self.assertEqual(
-                        self.played(
-                            isolation, code, head=HEAD.replace("60", "8")
-                        ).faults,
+                        self.play(isolation, code, head=HEAD.replace("60", "8")).faults,
                         [f"agent 0: {watch.TOO_MUCH}"],
                     )
 
-    @WALLED
+    @NEEDS_SANDBOX
     def test_disk(self) -> None:
         """A folder in memory has its size; a file for each byte is memory too."""
         code = """import sys
@@ -139,14 +137,14 @@ except OSError as fault:
     sys.exit(f"{wrote >> 20 <= 64} {fault.strerror}")
 """
         self.assertEqual(
-            self.said(Isolation.ALL, code),
+            self.last_words(Isolation.ALL, code),
             [
                 "True No space left on device (a program's folder, /tmp and "
                 "/dev/shm take 64 MB each)"
             ],
         )
         many = "import time\nfor number in range(200_000):\n    open(str(number), 'w').close()\ntime.sleep(100)"
-        with mock.patch.object(watch, "MOST", 100 << 20):
+        with mock.patch.object(watch, "MAX_MEMORY", 100 << 20):
             self.assertEqual(
-                self.played(Isolation.ALL, many).faults, [f"agent 0: {watch.TOO_MUCH}"]
+                self.play(Isolation.ALL, many).faults, [f"agent 0: {watch.TOO_MUCH}"]
             )

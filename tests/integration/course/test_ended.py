@@ -9,7 +9,7 @@ import time
 from typing import List
 
 from arena_lab.rules.engines import TOP
-from arena_lab.sandbox.processes import below, is_alive, words_of
+from arena_lab.sandbox.processes import below, is_alive, command_words
 from tests.support.matches import program
 from tests.support.output import InTemporary, write
 
@@ -25,15 +25,15 @@ command = "python3 agent.py {host} {port} {key} {nodes}"
 """
 AGENT = ["python3", "agent.py"]
 # the lab, as where programs have no walls
-WITHOUT_WALLS = """
+WITHOUT_SANDBOX = """
 from arena_lab.sandbox import sandboxes
 sandboxes.strongest = lambda: sandboxes.Isolation.USER if sandboxes.os.geteuid() == 0 else sandboxes.Isolation.NONE
 from arena_lab.__main__ import main
 raise SystemExit(main())
 """
 # seconds within which agents have begun, and the grading ends
-BEGUN = 120
-ENDED = 60
+BEGIN_SECONDS = 120
+END_SECONDS = 60
 
 
 class Ended(InTemporary):
@@ -48,12 +48,12 @@ class Ended(InTemporary):
         for signals in ([signal.SIGTERM], [signal.SIGTERM] * 5, [signal.SIGKILL]):
             for title, lab in (
                 ("as it is", ["-m", "arena_lab"]),
-                ("without walls", ["-c", WITHOUT_WALLS]),
+                ("without walls", ["-c", WITHOUT_SANDBOX]),
             ):
                 with self.subTest(title, signals=signals):
-                    self.ended(lab, signals)
+                    self.grade_until_signal(lab, signals)
 
-    def ended(self, lab: List[str], signals: List[signal.Signals]) -> None:
+    def grade_until_signal(self, lab: List[str], signals: List[signal.Signals]) -> None:
         """Grades, and sends these signals once the agents of a match have begun."""
         out = self.enterContext(tempfile.TemporaryDirectory(dir=self.folder))
         words = [
@@ -72,26 +72,29 @@ class Ended(InTemporary):
             stderr=subprocess.DEVNULL,
         )
         self.addCleanup(child.kill)
-        late = time.monotonic() + BEGUN
+        late = time.monotonic() + BEGIN_SECONDS
         while len(agents_of(child.pid)) < 2 and time.monotonic() < late:
             time.sleep(0.1)
-        begun = below(child.pid)
+        start = below(child.pid)
         self.assertEqual(len(agents_of(child.pid)), 2, "not all agents have begun")
         for number in signals:
             child.send_signal(number)
             time.sleep(0.002)
         self.assertEqual(
-            child.wait(ENDED), -number if number == signal.SIGKILL else 128 + number
+            child.wait(END_SECONDS),
+            -number if number == signal.SIGKILL else 128 + number,
         )
-        late = time.monotonic() + ENDED
-        while any(map(is_alive, begun)) and time.monotonic() < late:
+        late = time.monotonic() + END_SECONDS
+        while any(map(is_alive, start)) and time.monotonic() < late:
             time.sleep(0.1)
-        left = [it for it in begun if is_alive(it)]
-        for it in left:
+        remaining = [it for it in start if is_alive(it)]
+        for it in remaining:
             os.kill(it, signal.SIGKILL)
-        self.assertEqual(left, [])
+        self.assertEqual(remaining, [])
 
 
 def agents_of(grading: int) -> List[int]:
     """The agents that a grading has started."""
-    return [process for process in below(grading) if words_of(process)[:2] == AGENT]
+    return [
+        process for process in below(grading) if command_words(process)[:2] == AGENT
+    ]

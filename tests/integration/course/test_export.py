@@ -17,7 +17,7 @@ from arena_lab.__main__ import main
 from arena_lab.course.export import KINDS
 from arena_lab.rules.engines import TOP
 from tests.support.matches import AGENTS, InFolder
-from tests.support.output import ran
+from tests.support.output import run_call
 
 AUTOGRADER = TOP / "examples" / "course" / "autograder"
 COURSE = (
@@ -35,20 +35,20 @@ class Exports(InFolder):
         super().setUp()
         self.out = self.folder / "out"
 
-    def graded(self, *more: str) -> str:
+    def grade(self, *extra: str) -> str:
         (self.folder / "dies.py").write_text("raise SystemExit('no map')\n")
         course = self.folder / "course.toml"
         course.write_text(COURSE)
-        status, said, errors = ran(
+        status, output, errors = run_call(
             main,
-            ["grade", str(course), "--out", str(self.out), "--engine", "model", *more],
+            ["grade", str(course), "--out", str(self.out), "--engine", "model", *extra],
         )
-        return said if status == 0 else errors
+        return output if status == 0 else errors
 
     def test_all_kinds_at_once(self) -> None:
         (self.folder / "students.csv").write_text("team,idnumber\nb,12\na,007\n")
-        said = self.graded("--export", *KINDS)
-        self.assertEqual(said.count("for a gradebook: "), 5)
+        output = self.grade("--export", *KINDS)
+        self.assertEqual(output.count("for a gradebook: "), 5)
         scores = {
             team: json.loads((self.out / f"gradescope-{team}.json").read_text())[
                 "score"
@@ -78,7 +78,7 @@ class Exports(InFolder):
 
     def test_students_are_read_before_anything_is_played(self) -> None:
         self.assertIn(
-            "students.csv: there is no such file", self.graded("--export", "moodle")
+            "students.csv: there is no such file", self.grade("--export", "moodle")
         )
         self.assertFalse(self.out.exists())
 
@@ -98,7 +98,7 @@ class Autograder(InFolder):
         shutil.copy(AGENTS / "client.py", self.place / "submission")
         shutil.copy(AGENTS / "ring.py", self.place / "submission" / "agent.py")
 
-    def ran(
+    def run_script(
         self, script: str, where: pathlib.Path
     ) -> "subprocess.CompletedProcess[str]":
         variables = {
@@ -115,24 +115,24 @@ class Autograder(InFolder):
         )
 
     def results(self) -> Dict[str, Any]:
-        ran = self.ran(f"exec '{AUTOGRADER}/run_autograder'", self.folder)
-        self.assertEqual(ran.returncode, 0, ran.stderr)
-        found: Dict[str, Any] = json.loads(
+        result = self.run_script(f"exec '{AUTOGRADER}/run_autograder'", self.folder)
+        self.assertEqual(result.returncode, 0, result.stderr)
+        report: Dict[str, Any] = json.loads(
             (self.place / "results" / "results.json").read_text()
         )
-        return found
+        return report
 
     def test_gradescope(self) -> None:
-        found = self.results()
-        self.assertEqual(len(found["tests"]), 8)
-        self.assertTrue(0 < found["score"] <= 20)
-        self.assertEqual({test["status"] for test in found["tests"]}, {"passed"})
+        result = self.results()
+        self.assertEqual(len(result["tests"]), 8)
+        self.assertTrue(0 < result["score"] <= 20)
+        self.assertEqual({test["status"] for test in result["tests"]}, {"passed"})
         # a program that cannot be loaded fails its matches, and the autograder still
         # writes results
         (self.place / "submission" / "agent.py").write_text("import nosuchmodule\n")
-        found = self.results()
-        self.assertEqual(found["score"], 0)
-        self.assertIn("nosuchmodule", found["tests"][0]["output"])
+        result = self.results()
+        self.assertEqual(result["score"], 0)
+        self.assertIn("nosuchmodule", result["tests"][0]["output"])
         (self.place / "source" / "course.toml").write_text("title = 1\n")
         self.assertIn("no fault of yours", self.results()["output"])
 
@@ -140,8 +140,10 @@ class Autograder(InFolder):
         self, steps: List[str], where: pathlib.Path, out: pathlib.Path
     ) -> None:
         for step in steps:
-            ran = self.ran(step, where)
-            self.assertEqual(ran.returncode, 0, f"{step}\n{ran.stdout}{ran.stderr}")
+            result = self.run_script(step, where)
+            self.assertEqual(
+                result.returncode, 0, f"{step}\n{result.stdout}{result.stderr}"
+            )
         self.assertEqual(
             ElementTree.parse(out / "junit.xml").getroot()[0].attrib["failures"], "0"
         )
@@ -169,7 +171,7 @@ class Autograder(InFolder):
         self.check_workflow([steps[3]["run"]], self.place, self.place / "out")
         (self.place / "submission" / "agent.py").write_text("")
         shutil.rmtree(self.place / "out")
-        self.assertNotEqual(self.ran(steps[3]["run"], self.place).returncode, 0)
+        self.assertNotEqual(self.run_script(steps[3]["run"], self.place).returncode, 0)
 
     def test_gitlab(self) -> None:
         job = yaml.safe_load((AUTOGRADER / "gitlab.yml").read_text())["grade"]

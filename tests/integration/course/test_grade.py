@@ -24,7 +24,7 @@ from arena_lab.sweep import tables
 from tests.integration.play.test_programs import running
 from tests.support.courses import HEAD, HONEST, rows_of_teams, team
 from tests.support.matches import AGENTS, InFolder, program
-from tests.support.output import ran
+from tests.support.output import run_call
 
 EXAMPLE = TOP / "examples" / "course" / "course.toml"
 # from which the league table of the page of the examples comes
@@ -32,7 +32,7 @@ SECRET = ["--secret", str(EXAMPLE.parent / "secret.txt")]
 MUTANT = TOP / "arena_lab" / "mutants" / "reads_once.py"
 AGENTS_OF_TESTS = TOP / "tests" / "support" / "agents"
 RUDE = "python3 rude.py {how} {{host}} {{port}} {{key}}"
-# of each team how it breaks the rules, and what is said of its agent 1
+# team -> its violation, and the fault reported for its agent 1
 FAULTS = {
     "dies": "has ended with status 1 before it connected: no such map",
     "crash": "has ended with status 137 in the middle of its match",
@@ -80,22 +80,22 @@ class Grading(InFolder):
         }
         self.enterContext(mock.patch.dict(course.FIELDS, slow))
 
-    def graded(self, file: pathlib.Path, out: str, *more: str) -> str:
+    def grade(self, file: pathlib.Path, out: str, *extra: str) -> str:
         """Grades a course; gives what is said."""
-        status, said, _ = ran(
-            main, ["grade", str(file), "--out", str(self.folder / out), *more]
+        status, output, _ = run_call(
+            main, ["grade", str(file), "--out", str(self.folder / out), *extra]
         )
         self.assertEqual(status, 0)
-        return said
+        return output
 
-    def check_same(self, one: Dict[str, bytes], other: Dict[str, bytes]) -> None:
+    def check_same(self, first: Dict[str, bytes], second: Dict[str, bytes]) -> None:
         """That two folders have the same files; names those that differ, since how
         pages differ takes long to say."""
         self.assertEqual(
             [
                 name
-                for name in sorted({*one, *other})
-                if one.get(name) != other.get(name)
+                for name in sorted({*first, *second})
+                if first.get(name) != second.get(name)
             ],
             [],
         )
@@ -103,20 +103,18 @@ class Grading(InFolder):
     def test_the_example_gives_the_same_bytes_three_times_and_names_the_wrong_team(
         self,
     ) -> None:
-        said = self.graded(EXAMPLE, "first", *SECRET, "--program", program())
+        output = self.grade(EXAMPLE, "first", *SECRET, "--program", program())
         self.assertEqual(
-            said.splitlines()[:4], league_in(TOP / "examples" / "README.md")
+            output.splitlines()[:4], league_in(TOP / "examples" / "README.md")
         )
         first = tree(self.folder / "first")
-        self.graded(
-            EXAMPLE, "second", *SECRET, "--program", program(), "--workers", "2"
-        )
+        self.grade(EXAMPLE, "second", *SECRET, "--program", program(), "--workers", "2")
         self.check_same(tree(self.folder / "second"), first)
         # the third was interrupted
         path = self.folder / "second" / tables.RUNS
         path.write_bytes(path.read_bytes()[:-200])
         (self.folder / "second" / league.PAGE).unlink()
-        self.graded(EXAMPLE, "second", "--program", program())
+        self.grade(EXAMPLE, "second", "--program", program())
         self.check_same(tree(self.folder / "second"), first)
         self.check_pages(self.folder / "first")
 
@@ -126,9 +124,9 @@ class Grading(InFolder):
             "program_at",
             side_effect=AssertionError("the program is asked for"),
         ):
-            said = self.graded(EXAMPLE, "home", *SECRET, "--engine", "model")
+            output = self.grade(EXAMPLE, "home", *SECRET, "--engine", "model")
             self.assertEqual(
-                said.splitlines()[:4], league_in(TOP / "examples" / "README.md")
+                output.splitlines()[:4], league_in(TOP / "examples" / "README.md")
             )
             match = self.folder / "home" / "failed" / "cedar-10"
             page = (match / "match0.html").read_text()
@@ -144,9 +142,13 @@ class Grading(InFolder):
         schedules."""
         page = (folder / "team-cedar.html").read_text()
         self.assertIn("then always the first", page)
-        for place in ("failed/cedar-10", "failed/cedar-10/smallest", "failed/cedar-11"):
-            self.assertIn(f'href="{place}/match0.html"', page)
-            self.assertTrue((folder / place / "match0.html").is_file())
+        for position in (
+            "failed/cedar-10",
+            "failed/cedar-10/smallest",
+            "failed/cedar-11",
+        ):
+            self.assertIn(f'href="{position}/match0.html"', page)
+            self.assertTrue((folder / position / "match0.html").is_file())
         self.check_replay(folder / "failed/cedar-10/smallest")
         for name in ("amber", "birch"):
             self.assertIn(
@@ -165,9 +167,9 @@ class Grading(InFolder):
         ):
             shutil.copy(path, own)
         os.chdir(own)
-        status, said, _ = ran(main, ["replay", str(match), "--engine", "model"])
+        status, output, _ = run_call(main, ["replay", str(match), "--engine", "model"])
         self.assertEqual(status, 0)
-        self.assertIn("the replay is the same, byte for byte", said)
+        self.assertIn("the replay is the same, byte for byte", output)
 
     def test_who_breaks_the_rules_fails_alone(self) -> None:
         teams = [
@@ -179,7 +181,7 @@ class Grading(InFolder):
         )
         file = self.folder / "course.toml"
         file.write_text(HEAD + "".join([*teams, HONEST, absent]))
-        self.graded(file, "out", "--engine", "model")
+        self.grade(file, "out", "--engine", "model")
         rows = rows_of_teams(self.folder / "out")
         self.assertEqual([row["fault"] for row in rows["right"]], [""])
         self.assertEqual([row["outcome"] for row in rows["right"]], ["solved"])
@@ -205,7 +207,7 @@ class Grading(InFolder):
                 1,
             )
         )
-        self.graded(file, "out", "--engine", "model")
+        self.grade(file, "out", "--engine", "model")
         self.assertEqual(
             rows_of_teams(self.folder / "out")["silent"][0]["fault"], SILENT
         )
@@ -221,7 +223,7 @@ class Grading(InFolder):
             "nodes = 3\nlinks = [[0, 0, 1, 0], [1, 1, 2, 0]]\n"
         )
         file.write_text(HEAD.replace("ring:4", "net.toml") + HONEST)
-        status, _, errors = ran(
+        status, _, errors = run_call(
             main,
             [
                 "grade",
@@ -244,18 +246,18 @@ class Grading(InFolder):
         file.write_text(
             HEAD + team("dice", ["dice.py"], "python3 dice.py {port} {key}", 1)
         )
-        self.graded(file, "out", "--engine", "model")
+        self.grade(file, "out", "--engine", "model")
         page = self.folder / "out" / "team-dice.html"
         self.assertIn(
             "something else although they are told the same", page.read_text()
         )
 
     def test_a_match_counts_only_if_each_agent_says_the_same_alone(self) -> None:
-        for name, drawn in (
+        for name, draw in (
             ("dice", "secrets.token_hex(8)"),
             ("seeded", "os.environ['ARENA_SEED']"),
         ):
-            (self.folder / f"{name}.py").write_text(LONE.replace("DRAWN", drawn))
+            (self.folder / f"{name}.py").write_text(LONE.replace("DRAWN", draw))
         file = self.folder / "course.toml"
         file.write_text(
             HEAD
@@ -264,9 +266,9 @@ class Grading(InFolder):
                 for name in ("dice", "seeded")
             )
         )
-        said = self.graded(file, "out", "--engine", "model")
+        output = self.grade(file, "out", "--engine", "model")
         self.assertEqual(
-            [line.split()[1:3] for line in said.splitlines()[1:3]],
+            [line.split()[1:3] for line in output.splitlines()[1:3]],
             [["seeded", "1"], ["dice", "0"]],
         )
         page = (self.folder / "out" / "team-dice.html").read_text()
@@ -281,9 +283,9 @@ class Grading(InFolder):
             {(row[1], row[2] != "") for row in csv.reader(lines[1:])},
             {("dice", True), ("seeded", False)},
         )
-        said = self.graded(file, "again", "--engine", "model", "--no-repeat")
+        output = self.grade(file, "again", "--engine", "model", "--no-repeat")
         self.assertEqual(
-            [line.split()[2] for line in said.splitlines()[1:3]], ["1", "1"]
+            [line.split()[2] for line in output.splitlines()[1:3]], ["1", "1"]
         )
 
     def test_a_signal_of_a_living_agent_wins_nothing(self) -> None:
@@ -301,14 +303,16 @@ class Grading(InFolder):
             )
         )
         with mock.patch.object(sandboxes, "strongest", return_value=Isolation.NONE):
-            for out, solved, more in (
+            for out, solved_count, extra in (
                 ("alone", "0", []),
                 ("trusted", "1", ["--no-repeat"]),
             ):
-                said = self.graded(
-                    file, out, "--engine", "model", "--workers", "2", *more
+                output = self.grade(
+                    file, out, "--engine", "model", "--workers", "2", *extra
                 )
-                self.assertEqual(said.splitlines()[1].split()[2], solved, said)
+                self.assertEqual(
+                    output.splitlines()[1].split()[2], solved_count, output
+                )
         page = (self.folder / "alone" / "team-meets.html").read_text()
         self.assertIn("at command 3: in the match `depart port 1`, alone `leave`", page)
 
@@ -356,7 +360,7 @@ for command in ({"do": "enter", "key": sys.argv[2]}, {"do": "write", "expect": "
 
 
 class Spies(unittest.TestCase):
-    """A spy, and a team that has what it looks for."""
+    """A spying team, and a team with the data that it looks for."""
 
     def setUp(self) -> None:
         folder = tempfile.TemporaryDirectory()
@@ -369,8 +373,8 @@ class Spies(unittest.TestCase):
         for path in [self.folder, *self.folder.rglob("*")]:
             path.chmod(0o755 if path.is_dir() else 0o644)
 
-    def found(self, isolation: Isolation, *places: str) -> List[str]:
-        """What each program of the spies says that it has found there."""
+    def observations(self, isolation: Isolation, *places: str) -> List[str]:
+        """Returns what each spying program reports from these places."""
         text = (
             HEAD
             + team("rich", ["rich"], "true {port} {key}")
@@ -380,7 +384,7 @@ class Spies(unittest.TestCase):
                 f"python3 spy.py {{key}} {self.folder} {' '.join(places)} {{port}}",
             )
         )
-        graded = GradingRun(
+        grading = GradingRun(
             text,
             self.folder,
             "a secret of the tests",
@@ -388,16 +392,16 @@ class Spies(unittest.TestCase):
             SandboxOptions(isolation),
             self.folder / "out",
         )
-        case = next(case for case in graded.course.cases() if case.team.name == "spy")
-        _, played = graded.match(case, schedulers.fair(0), None)
-        return [fault.rpartition(": ")[2] for fault in played.faults]
+        case = next(case for case in grading.course.cases() if case.team.name == "spy")
+        _, match = grading.match(case, schedulers.fair(0), None)
+        return [fault.rpartition(": ")[2] for fault in match.faults]
 
     @unittest.skipUnless(
         sandboxes.strongest() is Isolation.ALL, f"no walls here: {sandboxes.weakness()}"
     )
     def test_behind_walls_they_find_nothing(self) -> None:
         self.assertEqual(
-            self.found(Isolation.ALL, "/tmp", "/dev/shm"), ["found nothing"] * 2
+            self.observations(Isolation.ALL, "/tmp", "/dev/shm"), ["found nothing"] * 2
         )
 
     @unittest.skipUnless(os.geteuid() == 0, "only root can let programs be other users")
@@ -405,27 +409,27 @@ class Spies(unittest.TestCase):
         self,
     ) -> None:
         self.folder.chmod(0o700)
-        for said in self.found(Isolation.USER):
-            self.assertNotIn("TREASURE", said)
+        for observation in self.observations(Isolation.USER):
+            self.assertNotIn("TREASURE", observation)
 
     def test_in_one_folder_they_find_all(self) -> None:
         """The spies are good ones: in a body that runs all teams in one folder they
         find what they look for."""
         shutil.copy(self.folder / "rich" / "plan.txt", self.folder)
-        shared = Sandbox(
+        sandbox = Sandbox(
             SandboxOptions(Isolation.NONE),
             ProgramFiles(HandIn({}).archive()),
             None,
             self.folder,
         )
         with mock.patch.object(
-            grounds, "sandboxes_for", lambda *_: in_one_folder(shared)
+            grounds, "sandboxes_for", lambda *_: in_one_folder(sandbox)
         ):
-            for said in self.found(Isolation.NONE):
-                self.assertIn("TREASURE-plan", said)
+            for observation in self.observations(Isolation.NONE):
+                self.assertIn("TREASURE-plan", observation)
 
 
 @contextlib.contextmanager
-def in_one_folder(shared: Sandbox) -> Iterator[List[Sandbox]]:
+def in_one_folder(sandbox: Sandbox) -> Iterator[List[Sandbox]]:
     """Cells as a careless body would make them."""
-    yield [shared, shared]
+    yield [sandbox, sandbox]

@@ -46,11 +46,11 @@ class Fake(unittest.TestCase):
         self.asked: List[pathlib.Path] = []
         write = groups.write
 
-        def written(path: pathlib.Path, text: str) -> None:
+        def write_file(path: pathlib.Path, text: str) -> None:
             self.done.append((str(path.relative_to(self.own)), text))
             write(path, text)
 
-        def removed(path: pathlib.Path) -> None:
+        def remove_file(path: pathlib.Path) -> None:
             # as the kernel does as long as a process has not ended, once
             if path not in self.asked:
                 self.asked.append(path)
@@ -58,18 +58,18 @@ class Fake(unittest.TestCase):
             self.done.append(("rmdir", path.name))
             subprocess.run(["rm", "-r", str(path)], check=True)
 
-        for place, name, value in (
+        for folder, name, value in (
             (groups, "MOUNTS", (str(self.top / "groups"),)),
-            (groups, "OWN", self.top / "own"),
-            (groups, "write", written),
-            (pathlib.Path, "rmdir", removed),
+            (groups, "OWN_GROUP", self.top / "own"),
+            (groups, "write", write_file),
+            (pathlib.Path, "rmdir", remove_file),
         ):
-            patched = mock.patch.object(place, name, value)
-            patched.start()
-            self.addCleanup(patched.stop)
+            patched_value = mock.patch.object(folder, name, value)
+            patched_value.start()
+            self.addCleanup(patched_value.stop)
         self.lab = f"{groups.OF_LAB}{os.getpid()}"
 
-    def divided(self) -> List[Tuple[str, ...]]:
+    def divide(self) -> List[Tuple[str, ...]]:
         """What is done before programs are started, and what afterwards."""
         own = str(os.getpid())
         return [
@@ -85,28 +85,30 @@ class TestDividing(Fake):
     def test_the_lab_has_a_group_beside_those_of_programs_and_nothing_stays(
         self,
     ) -> None:
-        with groups.divided() as folder:
+        with groups.program_group() as folder:
             self.assertEqual(folder, str(self.own))
-            self.assertEqual(self.done, self.divided()[:2])
-        self.assertEqual(self.done, self.divided())
+            self.assertEqual(self.done, self.divide()[:2])
+        self.assertEqual(self.done, self.divide())
         self.assertEqual(list(self.own.glob("arena-*")), [])
 
     def test_nothing_stays_if_the_lab_fails(self) -> None:
         with self.assertRaises(
             RecursionError
-        ), groups.divided() as folder, groups.group_in(folder) as group:
+        ), groups.program_group() as folder, groups.group_in(folder) as group:
             assert group is not None
             raise RecursionError
-        self.assertEqual(self.done[-3:], self.divided()[-3:])
+        self.assertEqual(self.done[-3:], self.divide()[-3:])
         self.assertEqual(list(self.own.glob("arena-*")), [])
 
     def test_a_group_that_cannot_be_divided_is_left_as_it_was(self) -> None:
-        def refused(path: pathlib.Path, text: str) -> None:
+        def refuse_write(path: pathlib.Path, text: str) -> None:
             if text.startswith("+"):
                 raise OSError(16, "Device or resource busy")
             path.write_text(text)
 
-        with mock.patch.object(groups, "write", refused), groups.divided() as folder:
+        with mock.patch.object(
+            groups, "write", refuse_write
+        ), groups.program_group() as folder:
             self.assertEqual(folder, "")
         self.assertEqual(list(self.own.glob("arena-*")), [])
 
@@ -119,18 +121,18 @@ class TestDividing(Fake):
         ):
             before = (self.own / name).read_text()
             (self.own / name).write_text(text)
-            with self.subTest(name), groups.divided() as folder:
+            with self.subTest(name), groups.program_group() as folder:
                 self.assertEqual(folder, "")
             (self.own / name).write_text(before)
         (self.top / "own").write_text("12:cpu:/\n")
-        with groups.divided() as folder, groups.group_in(folder) as group:
+        with groups.program_group() as folder, groups.group_in(folder) as group:
             self.assertEqual((folder, group, self.done), ("", None, []))
 
     def test_the_first_group_of_a_machine_may_have_processes(self) -> None:
         (self.own / "cgroup.type").unlink()
         (self.own / "cgroup.procs").write_text("1\n2\n")
         (self.own / "cgroup.subtree_control").write_text("cpu pids\n")
-        with groups.divided() as folder:
+        with groups.program_group() as folder:
             self.assertEqual(folder, str(self.own))
         self.assertEqual(
             self.done,
@@ -141,17 +143,17 @@ class TestDividing(Fake):
         )
 
     def test_groups_of_commands_that_were_killed_are_removed(self) -> None:
-        ended = subprocess.Popen(["true"])
-        ended.wait()
+        process = subprocess.Popen(["true"])
+        process.wait()
         for name in (
-            f"{groups.OF_LAB}{ended.pid}",
-            f"{groups.OF_PROGRAM}{ended.pid}-3",
+            f"{groups.OF_LAB}{process.pid}",
+            f"{groups.OF_PROGRAM}{process.pid}-3",
             f"{groups.OF_PROGRAM}1-0",
         ):
             (self.own / name).mkdir()
-        with groups.divided():
+        with groups.program_group():
             self.assertEqual(
-                [it.name for it in self.own.glob("arena-*-*")].count(
+                [path.name for path in self.own.glob("arena-*-*")].count(
                     f"{groups.OF_PROGRAM}1-0"
                 ),
                 1,
@@ -167,11 +169,11 @@ class TestPrograms(Fake):
             # the kernel makes them
             for file in ("memory.events", "cgroup.procs"):
                 (self.own / name / file).touch()
-            ran = subprocess.run(
+            result = subprocess.run(
                 [*group.words(), "echo", "a b", "c"], capture_output=True, text=True
             )
             self.assertEqual(
-                (ran.stdout, (self.own / name / "cgroup.procs").read_text()),
+                (result.stdout, (self.own / name / "cgroup.procs").read_text()),
                 ("a b c\n", "0\n"),
             )
             self.assertFalse(group.has_met_its_bound())
@@ -201,30 +203,31 @@ class TestPrograms(Fake):
             self.assertEqual(subprocess.run(words, capture_output=True).stdout, b"")
 
     def test_what_is_said_of_a_program_that_the_kernel_has_ended(self) -> None:
-        kept = ProgramFiles(HandIn({}).archive(), {}, calls.ANY)
-        with mock.patch.object(watch, "MOST", 200 << 20), sandboxes.sandboxes_for(
-            SandboxOptions(Isolation.NONE, groups=str(self.own)), kept, 1
+        files = ProgramFiles(HandIn({}).archive(), {}, calls.ANY)
+        with mock.patch.object(watch, "MAX_MEMORY", 200 << 20), sandboxes.sandboxes_for(
+            SandboxOptions(Isolation.NONE, groups=str(self.own)), files, 1
         ) as made, tempfile.TemporaryFile() as errors:
             child, listener_of = made[0].start(["true"], 0, errors)
             listener_of().close()
             self.assertEqual((child.wait(), made[0].fault()), (0, ""))
-            place = next(self.own.glob("arena-program-*"))
-            self.assertEqual((place / "cgroup.procs").read_text(), "0\n")
-            self.assertEqual((place / "memory.max").read_text(), str(200 << 20))
-            (place / "memory.events").write_text(ENDED)
+            position = next(self.own.glob("arena-program-*"))
+            self.assertEqual((position / "cgroup.procs").read_text(), "0\n")
+            self.assertEqual((position / "memory.max").read_text(), str(200 << 20))
+            (position / "memory.events").write_text(ENDED)
             self.assertEqual(
                 (made[0].takes_too_much(), made[0].fault()), (True, watch.TOO_MUCH)
             )
         self.assertEqual(list(self.own.glob("arena-*")), [])
 
     def test_a_course_is_graded_in_groups(self) -> None:
-        """Each program of a match and of its repetition joins one, and none is left."""
-        joined: List[str] = []
+        """Each program of a match and of its repetition joins a group, and all groups
+        are removed."""
+        joins: List[str] = []
         bound = ControlGroup.bound
 
-        def noted(group: ControlGroup) -> None:
+        def note_group(group: ControlGroup) -> None:
             bound(group)
-            joined.append(group.words()[-1])
+            joins.append(group.words()[-1])
 
         agents = TOP / "examples" / "agents"
         (self.top / "course.toml").write_text(
@@ -233,16 +236,16 @@ class TestPrograms(Fake):
             'command = "python3 ring.py {host} {port} {key} {nodes}"\n'
         )
         course = course_of((self.top / "course.toml").read_text(), self.top, SECRET)
-        copied = mock.patch.object(
-            sandboxes.system_copy, "copied", lambda *given: contextlib.nullcontext("")
+        copied_value = mock.patch.object(
+            sandboxes.system_copy,
+            "copy_system",
+            lambda *conditions: contextlib.nullcontext(""),
         )
-        with copied, mock.patch.object(
-            ControlGroup, "bound", noted
-        ), sandboxes.furnished(
-            SandboxOptions(sandboxes.strongest()), [], []
-        ) as sandbox:
+        with copied_value, mock.patch.object(
+            ControlGroup, "bound", note_group
+        ), sandboxes.furnish(SandboxOptions(sandboxes.strongest()), [], []) as sandbox:
             self.assertEqual(sandbox.groups, str(self.own))
-            graded = GradingRun(
+            grading = GradingRun(
                 course.conditions.text,
                 self.top,
                 SECRET,
@@ -250,42 +253,44 @@ class TestPrograms(Fake):
                 sandbox,
                 self.top / "out",
             )
-            row = graded.play(course.cases()[0]).found
+            row = grading.play(course.cases()[0]).result
             self.assertIn("solved", row)
-            said = rounds.repeated(
-                graded.repeating(),
+            output = rounds.repeat_agents(
+                grading.repeating(),
                 rounds.solved_in([tables.row_of(row)]),
                 1,
                 random.Random(0),
             )
-            self.assertEqual((said, len(set(joined))), ({}, 2))
-            self.assertEqual([it.name for it in self.own.glob("arena-*")], [self.lab])
+            self.assertEqual((output, len(set(joins))), ({}, 2))
+            self.assertEqual(
+                [path.name for path in self.own.glob("arena-*")], [self.lab]
+            )
 
 
 class TestReal(unittest.TestCase):
     def test_the_kernel_ends_what_takes_too_much(self) -> None:
-        with groups.divided() as folder:
+        with groups.program_group() as folder:
             if not folder:
                 self.skipTest(
                     "this process is in no control group of version 2 that it may divide: run the tests by "
                     "`systemd-run --user --scope -p Delegate=yes`"
                 )
-            with mock.patch.object(watch, "MOST", 50 << 20), groups.group_in(
+            with mock.patch.object(watch, "MAX_MEMORY", 50 << 20), groups.group_in(
                 folder
             ) as group:
                 assert group is not None
-                ran = subprocess.run(
+                result = subprocess.run(
                     [*group.words(), "head", "-c", "200M", "/dev/zero"],
                     stdout=subprocess.DEVNULL,
                 )
                 self.assertEqual(
-                    (ran.returncode, group.has_met_its_bound()), (0, False)
+                    (result.returncode, group.has_met_its_bound()), (0, False)
                 )
-                ran = subprocess.run(
+                result = subprocess.run(
                     [*group.words(), "sort", "-S", "1G", "/dev/zero"],
                     stdout=subprocess.DEVNULL,
                 )
                 self.assertEqual(
-                    (ran.returncode, group.has_met_its_bound()), (-9, True)
+                    (result.returncode, group.has_met_its_bound()), (-9, True)
                 )
         self.assertEqual(list(pathlib.Path(folder).glob("arena-*")), [])

@@ -16,7 +16,7 @@ from arena_lab.play import schedules
 from tests.integration.course.attacked_course import EVIL, Course
 from tests.support.courses import HEAD, HONEST, grade_words, rows_of_teams, team
 from tests.support.matches import AGENTS
-from tests.support.output import ran
+from tests.support.output import run_call
 
 RING = "python3 ring.py {host} {port} {key} {nodes}"
 # of a program that is compiled where it runs, as docs/HALL.md has it
@@ -50,7 +50,7 @@ class HandIns(Course):
 
     def row(self, head: str = HEAD, status: int = 0) -> Dict[str, Any]:
         """The row of the team's match."""
-        rows = self.graded(
+        rows = self.grade(
             head + team("evil", ["evil"], RING, 2) + HONEST, status=status
         )
         self.assertEqual(
@@ -62,10 +62,10 @@ class HandIns(Course):
     def test_make_builds_a_kit_where_the_program_runs(self) -> None:
         for name in ("careful.c", "client.c", "client.h", "Makefile"):
             shutil.copy(AGENTS / "c" / name, self.team)
-        needed = 'packages = ["gcc", "libc6-dev", "make"]\n'
-        rows = self.graded(HEAD + needed + team("evil", ["evil"], MADE))
-        found = {(row["outcome"], row["fault"]) for row in rows["evil"]}
-        self.assertEqual(found, {("solved", "")})
+        needed_value = 'packages = ["gcc", "libc6-dev", "make"]\n'
+        rows = self.grade(HEAD + needed_value + team("evil", ["evil"], MADE))
+        results = {(row["outcome"], row["fault"]) for row in rows["evil"]}
+        self.assertEqual(results, {("solved", "")})
 
     def imports(self, name: str) -> None:
         with (self.team / "ring.py").open("a") as file:
@@ -76,7 +76,7 @@ class HandIns(Course):
             (self.team / f"a{number}.py").write_text(f"import a{number + 1}\n")
         self.imports("a0")
         self.assertEqual(self.row()["outcome"], "solved")
-        self.assertEqual(len(intake.taken(self.folder / "out", "evil").files), 702)
+        self.assertEqual(len(intake.record_of(self.folder / "out", "evil").files), 702)
 
     def test_a_name_that_takes_more_memory_than_the_machine_has(self) -> None:
         (self.team / "bomb.py").write_text("import " + ".".join(["a"] * 128_000))
@@ -93,16 +93,18 @@ class HandIns(Course):
         # who is another user finds its folder in there
         long.parent.chmod(0o711)
         self.addCleanup(shutil.rmtree, long.parent)
-        place = os.open(self.team, os.O_RDONLY)
-        left = 4080 - len(str(self.team))
-        while left > 246:
-            os.mkdir("d" * 240, dir_fd=place)
-            above = place
-            place = os.open("d" * 240, os.O_RDONLY, dir_fd=place)
+        folder = os.open(self.team, os.O_RDONLY)
+        remaining = 4080 - len(str(self.team))
+        while remaining > 246:
+            os.mkdir("d" * 240, dir_fd=folder)
+            above = folder
+            folder = os.open("d" * 240, os.O_RDONLY, dir_fd=folder)
             os.close(above)
-            left -= 241
-        os.close(os.open("x" * left + ".py", os.O_CREAT | os.O_WRONLY, dir_fd=place))
-        os.close(place)
+            remaining -= 241
+        os.close(
+            os.open("x" * remaining + ".py", os.O_CREAT | os.O_WRONLY, dir_fd=folder)
+        )
+        os.close(folder)
         with mock.patch.dict(os.environ, {"TMPDIR": str(long)}), mock.patch.object(
             tempfile, "tempdir", str(long)
         ):
@@ -149,7 +151,7 @@ class HandIns(Course):
         self.row(head)
         faults = [
             row["fault"]
-            for row in self.graded(head + team("evil", ["evil"], RING, 2) + HONEST)[
+            for row in self.grade(head + team("evil", ["evil"], RING, 2) + HONEST)[
                 "evil"
             ]
         ]
@@ -166,19 +168,19 @@ class HandIns(Course):
 
     def test_a_reader_that_is_ended(self) -> None:
         """Whatever ends it, the team is told, and nobody else hears of it."""
-        for way in (
+        for variant in (
             "while True: pass",
             "import os; os.abort()",
             "x = bytearray(2 << 30)",
             "print('no')",
         ):
-            with self.subTest(way), mock.patch.object(
+            with self.subTest(variant), mock.patch.object(
                 intake, "SECONDS", 2
-            ), mock.patch.object(intake, "READ", way):
-                found = intake.take(
+            ), mock.patch.object(intake, "READ_PROGRAM", variant):
+                result = intake.take(
                     self.folder / "out", "evil", [self.team], self.folder, RING
                 )
-                self.assertEqual((found.refusal, found.files), (intake.CANNOT, {}))
+                self.assertEqual((result.refusal, result.files), (intake.CANNOT, {}))
                 self.assertEqual(
                     intake.hand_in_of(self.folder / "out", "evil").refusal,
                     intake.CANNOT,
@@ -199,7 +201,9 @@ for command in ({"do": "enter", "key": sys.argv[2]}, {"do": "accuse", "port": po
 class Again(Course):
     """A course is graded again, or files change while it is graded."""
 
-    def grade_with(self, code: str, out: str, *more: str) -> Tuple[Dict[str, Any], str]:
+    def grade_with(
+        self, code: str, out: str, *extra: str
+    ) -> Tuple[Dict[str, Any], str]:
         """The rows of each team, and what is said on standard error."""
         (self.team / "evil.py").write_text(code)
         file = self.folder / "course.toml"
@@ -208,13 +212,13 @@ class Again(Course):
             + team("evil", ["evil"], EVIL, 1)
         )
         words = grade_words(file, self.folder / out, 1)
-        status, _, errors = ran(main, [*words, *more])
+        status, _, errors = run_call(main, [*words, *extra])
         self.assertEqual(status, 0, errors)
         return rows_of_teams(self.folder / out), errors
 
-    def refused(self) -> str:
+    def refusal(self) -> str:
         """What is said on standard error of a course that is not graded."""
-        status, _, errors = ran(
+        status, _, errors = run_call(
             main,
             [
                 "grade",
@@ -231,9 +235,9 @@ class Again(Course):
     def table(self, out: str) -> Dict[str, Tuple[int, int, int]]:
         """What the failed matches show: by its key the home base and the black hole,
         and a port that leads there."""
-        found = {}
-        for place in (self.folder / out / "failed").glob("evil-*"):
-            setup = schedules.read(place / "schedule.txt").fixture
+        results = {}
+        for path in (self.folder / out / "failed").glob("evil-*"):
+            setup = schedules.read_schedule(path / "schedule.txt").fixture
             ports = [
                 (p, w) for v, p, w, _ in setup.setup.links if v == setup.setup.home
             ]
@@ -241,21 +245,21 @@ class Again(Course):
                 (q, v) for v, _, w, q in setup.setup.links if w == setup.setup.home
             ]
             port = next(port for port, far in ports if far in setup.setup.holes)
-            found[setup.keys[0]] = (setup.setup.home, setup.setup.holes[0], port)
-        return found
+            results[setup.keys[0]] = (setup.setup.home, setup.setup.holes[0], port)
+        return results
 
     def test_what_was_shown_of_a_first_grading_wins_nothing_in_a_second_one(
         self,
     ) -> None:
         rows, _ = self.grade_with("raise SystemExit(1)\n", "first")
-        shown = self.table("first")
-        self.assertEqual(len(shown), 4)
+        view = self.table("first")
+        self.assertEqual(len(view), 4)
         secret = ["--secret", str(self.folder / "first" / "secret.txt")]
         again, _ = self.grade_with(
-            KNOWS.replace("TABLE", repr(shown)), "second", *secret
+            KNOWS.replace("TABLE", repr(view)), "second", *secret
         )
         self.assertEqual([row["outcome"] for row in again["evil"]], ["silent"] * 4)
-        self.assertFalse(set(shown) & set(self.table("second")))
+        self.assertFalse(set(view) & set(self.table("second")))
         # by the same files the matches are the same
         same, _ = self.grade_with("raise SystemExit(1)\n", "third", *secret)
         self.assertEqual(
@@ -268,39 +272,41 @@ class Again(Course):
         other words."""
         play = GradingRun.match
 
-        def match(graded: GradingRun, case: Any, *given: Any) -> Any:
+        def match(grading: GradingRun, case: Any, *args: Any) -> Any:
             (self.team / "evil.py").write_text(
                 "import sys\nsys.exit('I was swapped in')\n"
             )
-            return play(graded, case, *given)
+            return play(grading, case, *args)
 
         with mock.patch.object(GradingRun, "match", match):
-            rows, said = self.grade_with("import sys\nsys.exit('I was read')\n", "out")
+            rows, output = self.grade_with(
+                "import sys\nsys.exit('I was read')\n", "out"
+            )
         self.assertEqual(
             {row["fault"].rpartition(": ")[2] for row in rows["evil"]}, {"I was read"}
         )
         self.assertIn(
             "arena-lab: team evil has changed its files since they were read; what was graded is "
             "hand-ins/evil.tar",
-            said,
+            output,
         )
 
     def test_an_interrupted_course_does_not_go_on_with_other_files(self) -> None:
         self.grade_with("import sys\nsys.exit('I was read')\n", "out")
         (self.team / "evil.py").write_text("import sys\nsys.exit('I was swapped in')\n")
-        self.assertIn("team evil differ; name another folder", self.refused())
+        self.assertIn("team evil differ; name another folder", self.refusal())
 
     def test_an_archive_that_is_changed_while_it_is_graded_is_refused(self) -> None:
         take = intake.take
 
-        def other(out: pathlib.Path, name: str, *given: Any) -> Any:
-            found = take(out, name, *given)
+        def change_archive(out: pathlib.Path, name: str, *args: Any) -> Any:
+            result = take(out, name, *args)
             (out / intake.HAND_INS / f"{name}.tar").write_bytes(HandIn({}).archive())
-            return found
+            return result
 
         (self.folder / "course.toml").write_text(HEAD + HONEST)
-        with mock.patch.object(intake, "take", other):
+        with mock.patch.object(intake, "take", change_archive):
             self.assertIn(
                 "right.tar: it is not what the team has handed in, as its digest is another",
-                self.refused(),
+                self.refusal(),
             )

@@ -35,11 +35,11 @@ class Escapes(Folder):
             'agent 0: has ended with status 1: "x"; agent 1: forged, \\r',
             "agent 1: has connected twice",
         ]
-        told = ["nobody accused", "agent 1 still stood at node 3"]
+        message = ["nobody accused", "agent 1 still stood at node 3"]
         pages = league.pages(
             self.course().grid,
             [row(0, "a", 9, "silent", *faults)],
-            {0: Failure(0, 5, False, "", False, told=told)},
+            {0: Failure(0, 5, False, "", False, told=message)},
             "it",
         )
         self.assertEqual(pages["team-a.html"].count("<li>agent"), 3)
@@ -47,16 +47,16 @@ class Escapes(Folder):
 
     def test_equal_failures_are_one_card(self) -> None:
         hung = "agent 0: has sent no line for 20 s"
-        other = "agent 1: has connected twice"
+        second = "agent 1: has connected twice"
         rows = [
             row(0, "a", 9, "silent", hung),
             row(1, "a", 9, "silent", hung),
             row(2, "a", 9, "silent", hung),
-            row(4, "a", 9, "silent", other),
+            row(4, "a", 9, "silent", second),
         ]
-        given = {it: Failure(it, 5, it == 2, "", True) for it in (0, 1, 2, 4)}
-        page = league.pages(self.course().grid, rows, given, "it")["team-a.html"]
-        # one on each network, and one with another fault
+        settings = {it: Failure(it, 5, it == 2, "", True) for it in (0, 1, 2, 4)}
+        page = league.pages(self.course().grid, rows, settings, "it")["team-a.html"]
+        # one card per network, and one for the other fault
         self.assertEqual(page.count('<section class="match">'), 3)
         self.assertEqual(page.count("<li>agent"), 3)
         self.assertIn('<h3 id="match-2">', page)
@@ -76,16 +76,16 @@ class Escapes(Folder):
         self.assertIn("an agent accused a link that leads to no black hole", text)
 
     def test_names_of_teams_and_networks_of_a_contest(self) -> None:
-        shown = [
-            contest_pages.Shown(0, HOSTILE, "ring.toml", Verdict("solved", 1, 0)),
-            contest_pages.Shown(1, "a", HOSTILE, None),
+        view = [
+            contest_pages.MatchRow(0, HOSTILE, "ring.toml", Verdict("solved", 1, 0)),
+            contest_pages.MatchRow(1, "a", HOSTILE, None),
         ]
-        self.check(contest_pages.page_of(HOSTILE, shown), 5)
+        self.check(contest_pages.page_of(HOSTILE, view), 5)
 
     def test_names_and_faults_of_a_sweep(self) -> None:
         rows = [row(0, "a", 9, "silent", HOSTILE)]
-        kept = report.KeptRun(rows[0], f'a"{HOSTILE}')
-        text = parts.filled(
+        run = report.KeptRun(rows[0], f'a"{HOSTILE}')
+        text = parts.fill_page(
             "report.html",
             title=TITLE,
             about="",
@@ -93,7 +93,7 @@ class Escapes(Folder):
             head=report.HEAD,
             groups=[],
             links={},
-            kept=[kept],
+            kept=[run],
             every_head=report.MATCHES,
             fails=report.FAILS,
             every=[[HOSTILE] * len(report.MATCHES)],
@@ -109,4 +109,4 @@ class Escapes(Folder):
 
     def test_a_page_without_what_it_asks_for_is_a_fault(self) -> None:
         with self.assertRaisesRegex(Exception, "'(title|styles|matches)' is undefined"):
-            parts.filled("contest.html", solved=0)
+            parts.fill_page("contest.html", solved=0)

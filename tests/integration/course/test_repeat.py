@@ -7,11 +7,10 @@ from typing import List, Tuple
 from arena_lab.__main__ import main
 from arena_lab.rules.engines import TOP
 from tests.support.matches import AGENTS, InFolder, program
-from tests.support.output import ran
+from tests.support.output import run_call
 
 EXAMPLE = TOP / "examples" / "course"
-# how an agent chooses what it writes, and whether it says the same when it is told the
-# same again
+# expression for an agent's text -> whether repetitions agree
 WAYS = {
     "str(time.time_ns())": False,
     "key": False,
@@ -44,18 +43,18 @@ SAYS_OTHERWISE = "says something else when it is told the same again, at command
 
 
 class Commands(InFolder):
-    def said(self, *words: str) -> Tuple[int, str]:
-        """The status of a command, and what it prints."""
-        status, said, errors = ran(main, list(words))
-        return status, said + errors
+    def output(self, *words: str) -> Tuple[int, str]:
+        """Returns the status and the output of a command."""
+        status, output, errors = run_call(main, list(words))
+        return status, output + errors
 
 
 class Repeats(Commands):
-    def words(self, kind: str, way: str) -> List[str]:
+    def words(self, kind: str, variant: str) -> List[str]:
         """The words for a match of one agent."""
         file = self.folder / "it.py"
         outside = kind == "--command"
-        file.write_text((WRITES if outside else INSIDE).replace("WAY", way))
+        file.write_text((WRITES if outside else INSIDE).replace("WAY", variant))
         command = f"python3 {file} {{port}} {{key}}" if outside else str(file)
         return [
             "--engine",
@@ -71,32 +70,38 @@ class Repeats(Commands):
         ]
 
     def test_at_home(self) -> None:
-        for way, repeats in WAYS.items():
-            with self.subTest(way):
-                status, said = self.said(
-                    "run", "--repeat", *self.words("--command", way)
+        for variant, repeats in WAYS.items():
+            with self.subTest(variant):
+                status, output = self.output(
+                    "run", "--repeat", *self.words("--command", variant)
                 )
                 self.assertEqual(
-                    (status, SAYS_OTHERWISE in said),
+                    (status, SAYS_OTHERWISE in output),
                     (int(not repeats), not repeats),
-                    said,
+                    output,
                 )
-        status, _ = self.said("run", *self.words("--command", "key"))
+        status, _ = self.output("run", *self.words("--command", "key"))
         self.assertEqual(status, 0)
 
     def test_agents_inside_and_workers(self) -> None:
-        for way, repeats in (
+        for variant, repeats in (
             ("key", False),
             ("str(time.time_ns())", False),
             ("'it'", True),
         ):
-            with self.subTest(way):
-                words = ["--workers", "2", "--runs", "3", *self.words("--agent", way)]
-                status, said = self.said("run", "--repeat", *words)
+            with self.subTest(variant):
+                words = [
+                    "--workers",
+                    "2",
+                    "--runs",
+                    "3",
+                    *self.words("--agent", variant),
+                ]
+                status, output = self.output("run", "--repeat", *words)
                 self.assertEqual(
-                    (status, SAYS_OTHERWISE in said),
+                    (status, SAYS_OTHERWISE in output),
                     (int(not repeats), not repeats),
-                    said,
+                    output,
                 )
 
     def test_sample_agents_that_sleep(self) -> None:
@@ -109,7 +114,7 @@ class Repeats(Commands):
             ],
         ):
             with self.subTest(words):
-                status, said = self.said(
+                status, output = self.output(
                     "run",
                     "--repeat",
                     "--engine",
@@ -120,11 +125,11 @@ class Repeats(Commands):
                     "3",
                     *words,
                 )
-                self.assertEqual(status, 0, said)
+                self.assertEqual(status, 0, output)
 
     def test_hunts(self) -> None:
-        for way, expected in (("key", 1), ("'it'", 0)):
-            status, said = self.said(
+        for variant, expectation in (("key", 1), ("'it'", 0)):
+            status, output = self.output(
                 "hunt",
                 "--repeat",
                 "--runs",
@@ -133,34 +138,36 @@ class Repeats(Commands):
                 str(self.folder / "db"),
                 "--keep",
                 str(self.folder / "found"),
-                *self.words("--agent", way),
+                *self.words("--agent", variant),
             )
             self.assertEqual(
-                (status, SAYS_OTHERWISE in said), (expected, bool(expected)), said
+                (status, SAYS_OTHERWISE in output),
+                (expectation, bool(expectation)),
+                output,
             )
 
     def test_a_search_warns(self) -> None:
-        for way, expected in (("key", True), ("'it'", False)):
+        for variant, expectation in (("key", True), ("'it'", False)):
             words = [
                 "--engine",
                 "program",
                 "--program",
                 program(),
-                *self.words("--agent", way)[2:],
+                *self.words("--agent", variant)[2:],
             ]
-            status, said = self.said("explore", *words)
+            status, output = self.output("explore", *words)
             self.assertEqual(
-                (status, f"warning: agent 0: {SAYS_OTHERWISE}" in said),
-                (0, expected),
-                said,
+                (status, f"warning: agent 0: {SAYS_OTHERWISE}" in output),
+                (0, expectation),
+                output,
             )
 
 
 class Courses(Commands):
-    def graded(self) -> pathlib.Path:
+    def grade(self) -> pathlib.Path:
         """The results of the example, which have come here from elsewhere."""
         there = self.folder / "there"
-        status, said = self.said(
+        status, output = self.output(
             "grade",
             str(EXAMPLE / "course.toml"),
             "--secret",
@@ -172,14 +179,16 @@ class Courses(Commands):
             "--workers",
             "2",
         )
-        self.assertEqual(status, 0, said)
+        self.assertEqual(status, 0, output)
         return pathlib.Path(shutil.move(there, self.folder / "here"))
 
     def test_a_course_is_repeated_by_its_results_alone(self) -> None:
-        here = self.graded()
-        status, said = self.said("grade", "--repeat-only", str(here), "--workers", "2")
+        here = self.grade()
+        status, output = self.output(
+            "grade", "--repeat-only", str(here), "--workers", "2"
+        )
         self.assertEqual(
-            (status, said.splitlines()[:3]),
+            (status, output.splitlines()[:3]),
             (
                 0,
                 [
@@ -195,17 +204,19 @@ class Courses(Commands):
         replay.write_text(
             text.replace('"do":"depart","port":0', '"do":"depart","port":1')
         )
-        status, said = self.said("grade", "--repeat-only", str(here))
+        status, output = self.output("grade", "--repeat-only", str(here))
         self.assertEqual(
-            (status, said.splitlines()[0]),
+            (status, output.splitlines()[0]),
             (1, "amber: 3 of 4 solved matches repeat"),
-            said,
+            output,
         )
-        self.assertIn(f"match {replay.stem.partition('-')[2]}: agent ", said)
+        self.assertIn(f"match {replay.stem.partition('-')[2]}: agent ", output)
 
     def test_programs_that_were_exchanged_are_refused(self) -> None:
-        here = self.graded()
+        here = self.grade()
         shutil.copy(here / "hand-ins" / "birch.tar", here / "hand-ins" / "amber.tar")
-        status, said = self.said("grade", "--repeat-only", str(here))
+        status, output = self.output("grade", "--repeat-only", str(here))
         self.assertEqual(status, 2)
-        self.assertIn("hand-ins/amber.tar: it is not what the team has handed in", said)
+        self.assertIn(
+            "hand-ins/amber.tar: it is not what the team has handed in", output
+        )

@@ -14,13 +14,13 @@ from unittest import mock
 from arena_lab.rules.engines import TOP
 from arena_lab.sandbox import calls, sandboxes, kernel_traces, system_copy, watch
 from arena_lab.sandbox.sandboxes import Isolation, SandboxOptions
-from arena_lab.sandbox.isolation import NoCell
+from arena_lab.sandbox.isolation import CellError
 from arena_lab.support.missing import DEBIANS_PYTHON
 from tests.integration.course.attacked_course import (
-    ALL_WALLS,
+    ALL_ISOLATION,
     EVIL,
     IS_ROOT,
-    WALLED,
+    NEEDS_SANDBOX,
     Course,
 )
 from tests.support.courses import HEAD, HONEST, team
@@ -30,10 +30,10 @@ from tests.support.matches import AGENTS
 def number_of_a_pipe() -> int:
     """The number that the kernel gives to a new pipe on this processor."""
     ends = os.pipe()
-    found = os.fstat(ends[0]).st_ino
+    result = os.fstat(ends[0]).st_ino
     for end in ends:
         os.close(end)
-    return found
+    return result
 
 
 def number_of_memory() -> int:
@@ -41,12 +41,14 @@ def number_of_memory() -> int:
     with /proc finds in its maps."""
     with mmap.mmap(-1, mmap.PAGESIZE):
         lines = pathlib.Path("/proc/self/maps").read_text().splitlines()
-        return int(next(line.split()[4] for line in lines if watch.SHARED in line))
+        return int(
+            next(line.split()[4] for line in lines if watch.SHARED_MEMORY in line)
+        )
 
 
 @contextlib.contextmanager
 def one_processor(processor: int) -> Iterator[None]:
-    """Has this process, and all that it starts, run on one processor."""
+    """Pins this process and its children to one processor."""
     before = os.sched_getaffinity(0)
     os.sched_setaffinity(0, {processor})
     try:
@@ -168,7 +170,7 @@ def port_of(place):
 """
 
 
-@WALLED
+@NEEDS_SANDBOX
 class Talking(Course):
     """Agents of a team, each behind walls, have nothing in common by which they could
     talk."""
@@ -176,7 +178,8 @@ class Talking(Course):
     def test_ways_are_closed(self) -> None:
         for has_proc in (False, True):
             self.assertEqual(
-                self.said(Isolation.ALL, WAYS, has_proc=has_proc), ["all are shut"]
+                self.last_words(Isolation.ALL, WAYS, has_proc=has_proc),
+                ["all are shut"],
             )
 
     def test_ways_are_closed_in_each_language(self) -> None:
@@ -184,17 +187,17 @@ class Talking(Course):
             with self.subTest(language), mock.patch.object(
                 calls, "language_of", return_value=language
             ):
-                self.assertEqual(self.said(Isolation.ALL, WAYS), ["all are shut"])
+                self.assertEqual(self.last_words(Isolation.ALL, WAYS), ["all are shut"])
 
     def test_a_refused_call_says_what_the_teacher_may_change(self) -> None:
         code = "import os\nos.nice(1)"
         self.assertRegex(
-            self.said(Isolation.ALL, code)[0],
+            self.last_words(Isolation.ALL, code)[0],
             r"Function not implemented \(evil.py, line 2\) .calls of the system are refused to "
             "it that python does not need: examples/README.md says .*`calls` in course.toml allows more",
         )
         (self.team / "evil.py").write_text(code + "\nraise SystemExit('was allowed')")
-        rows = self.graded(
+        rows = self.grade(
             HEAD + 'calls = ["setpriority"]\n' + team("evil", ["evil"], EVIL, 1)
         )
         self.assertIn("was allowed", rows["evil"][0]["fault"])
@@ -217,12 +220,12 @@ class Talking(Course):
                 command = command.replace(name, path)
             # on a busy machine a program that is traced may take longer than its match
             # waits
-            ran = subprocess.run(
+            result = subprocess.run(
                 command, shell=True, text=True, capture_output=True, cwd=TOP
             )
-            self.assertEqual(ran.stderr, "")
+            self.assertEqual(result.stderr, "")
         self.assertRegex(
-            ran.stdout,
+            result.stdout,
             "^python: of .. calls that were traced 1 are refused\n.* sysinfo: how much",
         )
 
@@ -230,15 +233,15 @@ class Talking(Course):
         code = "import os, sys; sys.exit(str(os.path.exists('/proc/self')))"
         for has_proc in (False, True):
             self.assertEqual(
-                self.said(Isolation.ALL, code, has_proc=has_proc), [str(has_proc)]
+                self.last_words(Isolation.ALL, code, has_proc=has_proc), [str(has_proc)]
             )
 
     def test_the_ways_are_good_ones(self) -> None:
-        """Without walls they are open, so that the test above would show it if one
-        were."""
-        said = self.said(Isolation.USER if IS_ROOT else Isolation.NONE, WAYS)[0]
-        self.assertRegex(said, "^[3-6][0-9] open")
-        shut = set(said.partition("shut are ")[2].split(", "))
+        """Without a sandbox the channels are open; so the test above would detect an
+        open one."""
+        output = self.last_words(Isolation.USER if IS_ROOT else Isolation.NONE, WAYS)[0]
+        self.assertRegex(output, "^[3-6][0-9] open")
+        shut = set(output.partition("shut are ")[2].split(", "))
         self.assertFalse(
             shut
             & {
@@ -266,19 +269,21 @@ said = [subprocess.run(["stat", "-f", "-c", "%T", path], capture_output=True, te
         for path in ("/", "/usr", "/usr/lib/python3", "/etc", "/tmp", "/agent", "/bin/sh", "/etc/alternatives")]
 sys.exit(f"{set(said)} {os.path.exists('/usr/share/doc/bash')} {len(os.listdir('/usr/bin')) > 50}")
 """
-        with sandboxes.furnished(SandboxOptions(Isolation.ALL), [EVIL], []) as sandbox:
+        with sandboxes.furnish(SandboxOptions(Isolation.ALL), [EVIL], []) as sandbox:
             self.assertNotEqual(sandbox.root, "")
             self.assertEqual(
-                self.said(Isolation.ALL, code, root=sandbox.root),
+                self.last_words(Isolation.ALL, code, root=sandbox.root),
                 ["{'tmpfs'} False True"],
             )
             self.assertEqual(
-                self.said(Isolation.ALL, WAYS, root=sandbox.root), ["all are shut"]
+                self.last_words(Isolation.ALL, WAYS, root=sandbox.root),
+                ["all are shut"],
             )
         self.assertFalse(os.path.exists(sandbox.root))
 
     def test_tools_are_seen_in_memory_too(self) -> None:
-        """Also by a command that begins with one of them, which is of no package."""
+        """Tools outside of packages work in a copy of the system too, also as the first
+        word of a command."""
         tools = self.folder / "tools"
         (tools / "bin").mkdir(parents=True)
         (tools / "bin" / "it").write_text("of the course")
@@ -287,24 +292,24 @@ sys.exit(f"{set(said)} {os.path.exists('/usr/share/doc/bash')} {len(os.listdir('
 kind = subprocess.run(["stat", "-f", "-c", "%T", "{tools}"], capture_output=True, text=True).stdout.strip()
 sys.exit(f"{{kind}} {{open('{tools}/bin/it').read()}} {{os.path.isfile('{tools}/pipe')}}")
 """
-        for most, kind in ((1 << 30, "tmpfs"), (100 << 20, "")):
+        for limit, kind in ((1 << 30, "tmpfs"), (100 << 20, "")):
             with open(tools / "large", "wb") as file:
                 file.truncate(0 if kind else 90 << 20)
             err = io.StringIO()
             with mock.patch.object(
-                system_copy, "MOST", most
-            ), contextlib.redirect_stderr(err), sandboxes.furnished(
+                system_copy, "MAX_BYTES", limit
+            ), contextlib.redirect_stderr(err), sandboxes.furnish(
                 SandboxOptions(Isolation.ALL, (str(tools),)),
                 [EVIL, f"{tools}/bin/it"],
                 [],
             ) as sandbox:
-                said = self.said(
+                output = self.last_words(
                     Isolation.ALL, code, tools=sandbox.tools, root=sandbox.root
                 )[0]
             self.assertEqual(
-                (said.startswith("tmpfs"), said.endswith("of the course False")),
+                (output.startswith("tmpfs"), output.endswith("of the course False")),
                 (bool(kind), True),
-                said,
+                output,
             )
             self.assertEqual(
                 "they take 90 MB" in err.getvalue(), not kind, err.getvalue()
@@ -312,18 +317,19 @@ sys.exit(f"{{kind}} {{open('{tools}/bin/it').read()}} {{os.path.isfile('{tools}/
 
     def test_packages_that_the_course_names_are_seen(self) -> None:
         code = "import os, sys\nsys.exit(str(os.path.exists('/usr/lib/python3/dist-packages/yaml')))"
-        for packages, expected in (([], "False"), (["python3-yaml"], "True")):
-            with sandboxes.furnished(
+        for packages, expectation in (([], "False"), (["python3-yaml"], "True")):
+            with sandboxes.furnish(
                 SandboxOptions(Isolation.ALL), [EVIL], packages
             ) as sandbox:
                 self.assertEqual(
-                    self.said(Isolation.ALL, code, root=sandbox.root), [expected]
+                    self.last_words(Isolation.ALL, code, root=sandbox.root),
+                    [expectation],
                 )
         with self.assertRaisesRegex(
-            NoCell,
+            CellError,
             "packages: the package no-such-one is not installed: `apt-get install no",
         ):
-            with sandboxes.furnished(
+            with sandboxes.furnish(
                 SandboxOptions(Isolation.ALL), [EVIL], ["no-such-one"]
             ):
                 pass
@@ -335,33 +341,34 @@ sys.exit(f"{{kind}} {{open('{tools}/bin/it').read()}} {{os.path.isfile('{tools}/
         make by the way."""
         for processor in os.sched_getaffinity(0):
             with one_processor(processor):
-                found = []
+                results = []
                 for _ in range(6):
-                    found.append((number_of_a_pipe(), number_of_memory()))
+                    results.append((number_of_a_pipe(), number_of_memory()))
                     kernel_traces.stir()
-                for numbers in zip(*found):
+                for numbers in zip(*results):
                     steps = [
                         later - earlier for earlier, later in zip(numbers, numbers[1:])
                     ]
                     self.assertGreater(max(steps) - min(steps), 2000)
         with mock.patch.object(kernel_traces, "stir") as stir:
-            self.graded(HEAD + HONEST)
+            self.grade(HEAD + HONEST)
         self.assertEqual(stir.call_count, 2)
 
     def test_ports_of_connections_tell_nothing_of_other_programs(self) -> None:
-        """Where a range is free, the kernel goes on from one network to the next, so
-        that what an agent has set the number to is there for the other agent."""
+        """If the port range is free, the kernel continues its counter across network
+        namespaces, and one agent could read what another has set."""
         code = (
             PORTS + "sys.exit(str({port_of(('127.0.0.1', 5555)) for _ in range(40)}))"
         )
         for _ in range(2):
-            self.assertEqual(self.said(Isolation.ALL, code, 2), ["{32768}"] * 2)
+            self.assertEqual(self.last_words(Isolation.ALL, code, 2), ["{32768}"] * 2)
         without = (
             PORTS
             + "sys.exit(str(len({port_of(('127.0.0.1', 5555)) for _ in range(40)}) > 10))"
         )
         self.assertEqual(
-            self.said(Isolation.USER if IS_ROOT else Isolation.NONE, without), ["True"]
+            self.last_words(Isolation.USER if IS_ROOT else Isolation.NONE, without),
+            ["True"],
         )
 
     def test_a_program_has_two_connections_to_a_port(self) -> None:
@@ -370,7 +377,7 @@ sys.exit(f"{{kind}} {{open('{tools}/bin/it').read()}} {{os.path.isfile('{tools}/
             + "kept = [socket.create_connection(('127.0.0.1', 5555)) for _ in range(3)]"
         )
         self.assertEqual(
-            self.said(Isolation.ALL, code),
+            self.last_words(Isolation.ALL, code),
             [
                 "OSError: [Errno 99] Cannot assign requested address (evil.py, line 9) (a program may have "
                 "two connections to a port at a time)"
@@ -391,13 +398,13 @@ except OSError as fault:
     sys.exit(f"pipe {{stat.S_ISFIFO(mode)}} {{fault.strerror}}")
 """
         self.assertEqual(
-            self.said(Isolation.ALL, code, tools=(str(tools),)),
+            self.last_words(Isolation.ALL, code, tools=(str(tools),)),
             ["pipe False Read-only file system"],
         )
 
     def test_the_machine_has_no_name(self) -> None:
         self.assertEqual(
-            self.said(
+            self.last_words(
                 Isolation.ALL, "import socket, sys; sys.exit(socket.gethostname())"
             ),
             ["sandbox"],
@@ -406,17 +413,17 @@ except OSError as fault:
     def test_the_environment_of_the_teacher_is_not_that_of_programs(self) -> None:
         code = "import os, sys; sys.exit(str('swordfish' in str(os.environ)))"
         with mock.patch.dict(os.environ, {"TEACHERS_SECRET": "swordfish"}):
-            for isolation in ALL_WALLS:
+            for isolation in ALL_ISOLATION:
                 with self.subTest(isolation):
-                    self.assertEqual(self.said(isolation, code), ["False"])
+                    self.assertEqual(self.last_words(isolation, code), ["False"])
 
     def test_programs_of_a_match_have_no_file_in_common(self) -> None:
-        """Each leaves a file where it may write, waits for the other, and looks for
-        files of others."""
+        """Each program leaves files, waits for the other, and looks for the other's
+        files."""
         code = """import os, sys, time
 for place in (".", "/tmp", "/dev/shm"):
     open(f"{place}/{sys.argv[2]}", "w").close()
 time.sleep(0.5)
 sys.exit(str([len(os.listdir(place)) for place in (".", "/tmp", "/dev/shm")]))
 """
-        self.assertEqual(self.said(Isolation.ALL, code, 2), ["[2, 1, 1]"] * 2)
+        self.assertEqual(self.last_words(Isolation.ALL, code, 2), ["[2, 1, 1]"] * 2)

@@ -6,11 +6,11 @@ from typing import Any
 from unittest import mock
 
 from arena_lab.hall import machine
-from arena_lab.rules.model import Match as Played, Setup, spelled
+from arena_lab.rules.model import Match as Played, Setup, spell
 from arena_lab.rules.networks import ring
 from tests.support import halls
 
-PLACE = halls.begun()
+PLACE = halls.started_hall()
 
 from django.conf import settings  # noqa: E402
 from django.core.files.uploadedfile import SimpleUploadedFile  # noqa: E402
@@ -33,7 +33,7 @@ class Hall(TestCase):
     """A hall with three teams and their tokens."""
 
     def setUp(self) -> None:
-        for buckets in (guards.asked, guards.tried, taking.sent):
+        for buckets in (guards.requests, guards.attempts, taking.submissions):
             buckets.clear()
         # numbers of attempts and hand-ins come again in each test
         seen.part.cache_clear()
@@ -60,29 +60,29 @@ class Hall(TestCase):
         return client
 
     def rest(
-        self, how: str, path: str, name: str = "amber", body: Any = None, **given: Any
+        self, how: str, path: str, name: str = "amber", body: Any = None, **args: Any
     ) -> Any:
         ask = getattr(Client(), how)
-        more = (
+        extra = (
             {}
             if how == "get"
             else {"data": json.dumps(body), "content_type": "application/json"}
         )
         header = {"HTTP_AUTHORIZATION": f"Bearer {self.tokens[name]}"} if name else {}
-        return ask(path, **more, **header, **given)
+        return ask(path, **extra, **header, **args)
 
-    def hand_in(self, sent: bytes, name: str = "amber", **fields: Any) -> Any:
-        """What a team is answered that hands this in as a file, for the course or for
-        the contest of a number."""
+    def hand_in(self, payload: bytes, name: str = "amber", **fields: Any) -> Any:
+        """Hands in a file for the course, or for a contest by number; returns the
+        response."""
         return Client().post(
             "/api/hand-ins",
-            {"file": SimpleUploadedFile("agent.py", sent), **fields},
+            {"file": SimpleUploadedFile("agent.py", payload), **fields},
             HTTP_AUTHORIZATION=f"Bearer {self.tokens[name]}",
         )
 
     def running(self, match: Any, name: str = "amber") -> Attempt:
         """An attempt whose match goes on like this one."""
-        made = Attempt.objects.create(
+        attempt = Attempt.objects.create(
             team=self.team(name),
             network="ring of 5",
             runs=1,
@@ -90,40 +90,40 @@ class Hall(TestCase):
             holder="one",
             begun=timezone.now(),
         )
-        found = Match.objects.create(
-            attempt=made,
+        new_match = Match.objects.create(
+            attempt=attempt,
             number=0,
             run=1,
             host="127.0.0.1",
             port=4100,
             keys=["ka", "kb"],
         )
-        found.part.parent.mkdir(parents=True)
-        self.write(found, match)
-        return made
+        new_match.part.parent.mkdir(parents=True)
+        self.write(new_match, match)
+        return attempt
 
-    def write(self, found: Match, match: Any) -> None:
-        found.part.write_text(
-            "".join(spelled(line) + "\n" for line in [match.head(), *match.log])
+    def write(self, result: Match, match: Any) -> None:
+        result.part.write_text(
+            "".join(spell(line) + "\n" for line in [match.head(), *match.log])
         )
 
     def over(self, match: Any, name: str = "amber") -> Attempt:
         """An attempt that is over."""
-        made = self.running(match, name)
+        attempt = self.running(match, name)
         match.close()
-        found = made.matches.get()
-        found.replay.write_text(match.replay())
-        found.page.write_text("<script>watch()</script>")
-        Match.objects.filter(pk=found.pk).update(outcome="solved", moves=7, lost=1)
-        Attempt.objects.filter(pk=made.pk).update(
+        result = attempt.matches.get()
+        result.replay.write_text(match.replay())
+        result.page.write_text("<script>watch()</script>")
+        Match.objects.filter(pk=result.pk).update(outcome="solved", moves=7, lost=1)
+        Attempt.objects.filter(pk=attempt.pk).update(
             state=machine.OVER, ended=timezone.now(), holder=""
         )
-        return Attempt.objects.get(pk=made.pk)
+        return Attempt.objects.get(pk=attempt.pk)
 
 
-def halled(**given: Any) -> Any:
+def hall_with(**args: Any) -> Any:
     """A hall whose file says this, while the block goes on."""
-    return mock.patch.object(settings, "HALL", settings.HALL._replace(**given))
+    return mock.patch.object(settings, "HALL", settings.HALL._replace(**args))
 
 
 def stopped_clock() -> Any:
@@ -131,9 +131,9 @@ def stopped_clock() -> Any:
     return mock.patch.object(guards, "time", mock.Mock(monotonic=lambda: 1_000.0))
 
 
-def graded(
+def make_grading(
     name: str,
-    solved: int = 1,
+    solved_count: int = 1,
     moves: int = 7,
     is_secret: bool = False,
     contest: Any = None,
@@ -142,22 +142,22 @@ def graded(
     solved."""
     word = "ring:6" if is_secret else "ring:5"
     team = Team.objects.get(name=name)
-    made = HandIn.objects.create(
+    hand_in = HandIn.objects.create(
         team=team, contest=contest, name="a", size=1, files=1, digest=""
     )
     return Grading.objects.create(
-        hand_in=made,
+        hand_in=hand_in,
         is_secret=is_secret,
         state=machine.OVER,
-        solved=solved,
+        solved=solved_count,
         matches=2,
         moves=moves,
         ended=timezone.now(),
-        networks={word: [solved, 2]},
+        networks={word: [solved_count, 2]},
     )
 
 
-def contest_of(**given: Any) -> Contest:
+def contest_of(**args: Any) -> Contest:
     """A contest that goes on."""
     now = timezone.now()
     hour = timezone.timedelta(hours=1)
@@ -167,14 +167,14 @@ def contest_of(**given: Any) -> Contest:
             "networks": ["ring of 5", "torus with a map"],
             "start": now - hour,
             "end": now + hour,
-            **given,
+            **args,
         }
     )
 
 
-def played(hole: int = 3) -> Any:
+def play_match(hole: int = 3) -> Any:
     """A match in which an agent has written on a whiteboard."""
     match = Played(Setup(5, ring(5).links, 0, [hole], 2, 1000, 4096))
-    match.tell(0, {"do": "enter"})
-    match.tell(0, {"do": "write", "expect": "", "put": TEXT})
+    match.reply_to(0, {"do": "enter"})
+    match.reply_to(0, {"do": "write", "expect": "", "put": TEXT})
     return match

@@ -3,19 +3,19 @@ import unittest
 from typing import Dict, List
 
 from tests.support import halls
-from tests.support.halls import Served
+from tests.support.halls import ServedHall
 
-HALL: List[Served] = []
+HALL: List[ServedHall] = []
 
 
 def setUpModule() -> None:
-    HALL.append(unittest.enterModuleContext(halls.served()))
+    HALL.append(unittest.enterModuleContext(halls.serve_hall()))
 
 
 class Halls(halls.Playing):
     """Tests of one hall, which is served meanwhile."""
 
-    hall: Served
+    hall: ServedHall
     tokens: Dict[str, str]
 
     def setUp(self) -> None:

@@ -29,13 +29,13 @@ EDGE = "edge"
 OWN = ("systemd", "served_service")
 
 
-def waited(holds: Callable[[], Any], what: str) -> Any:
+def wait_until(holds: Callable[[], Any], what: str) -> Any:
     limit = time.monotonic() + PATIENCE
     while time.monotonic() < limit:
         with contextlib.suppress(OSError):
-            found = holds()
-            if found:
-                return found
+            result = holds()
+            if result:
+                return result
         time.sleep(0.5)
     log = subprocess.run(
         ["journalctl", "--no-pager", "-u", SERVICE], text=True, capture_output=True
@@ -50,16 +50,16 @@ def ask(token: str, path: str, body: Any = None, kind: str = "") -> Any:
     }
     with urllib.request.urlopen(
         urllib.request.Request(f"{PAGES}{path}", body, headers)
-    ) as told:
-        return json.load(told)
+    ) as response:
+        return json.load(response)
 
 
 def is_up() -> bool:
-    with urllib.request.urlopen(f"{PAGES}/login") as told:
-        return bool(told.status == 200)
+    with urllib.request.urlopen(f"{PAGES}/login") as response:
+        return bool(response.status == 200)
 
 
-def shown(name: str) -> str:
+def property_of(name: str) -> str:
     return subprocess.run(
         ["systemctl", "show", "--value", "-p", name, SERVICE],
         text=True,
@@ -76,7 +76,7 @@ def match(token: str) -> str:
         "{key}",
         "{nodes}",
     ]
-    done = subprocess.run(
+    result = subprocess.run(
         [
             sys.executable,
             str(ARENA / "examples" / "hall" / "practise.py"),
@@ -90,36 +90,38 @@ def match(token: str) -> str:
         stdout=subprocess.PIPE,
         stderr=subprocess.STDOUT,
     )
-    return "solved" if done.returncode == 0 else done.stdout
+    return "solved" if result.returncode == 0 else result.stdout
 
 
-def graded(token: str) -> Any:
-    """What came of a program that is handed in."""
-    made = io.BytesIO()
+def grade(token: str) -> Any:
+    """Hands in a program and returns its grading."""
+    buffer = io.BytesIO()
     agents = ARENA / "examples" / "agents"
-    with zipfile.ZipFile(made, "w") as archive:
+    with zipfile.ZipFile(buffer, "w") as archive:
         archive.write(agents / "ring.py", "agent.py")
         archive.write(agents / "client.py", "client.py")
     head = f'--{EDGE}\r\nContent-Disposition: form-data; name="file"; filename="a.zip"\r\n\r\n'
-    body = head.encode() + made.getvalue() + f"\r\n--{EDGE}--\r\n".encode()
+    body = head.encode() + buffer.getvalue() + f"\r\n--{EDGE}--\r\n".encode()
     number = ask(token, "/api/hand-ins", body, f"multipart/form-data; boundary={EDGE}")[
         "id"
     ]
-    told = waited(
+    message = wait_until(
         lambda: (it := ask(token, f"/api/hand-ins/{number}"))["state"]
         in ("over", "lost")
         and it,
         "graded",
     )
-    result = told["result"]
+    result = message["result"]
     return (
-        [result["solved"] // max(1, result["matches"]), 1] if result else told["fault"]
+        [result["solved"] // max(1, result["matches"]), 1]
+        if result
+        else message["fault"]
     )
 
 
-def left() -> Any:
-    """The commands of all processes but those of the system."""
-    found = []
+def processes_left() -> Any:
+    """Returns the command lines of all processes that are not the system's."""
+    results = []
     for path in pathlib.Path("/proc").glob("[0-9]*"):
         with contextlib.suppress(OSError):
             words = (
@@ -130,45 +132,45 @@ def left() -> Any:
                 .strip()
             )
             if words and not any(name in words for name in OWN):
-                found.append(words)
-    return found
+                results.append(words)
+    return results
 
 
-def played() -> Dict[str, Any]:
+def play() -> Dict[str, Any]:
     """What was seen."""
     subprocess.run(
         ["systemctl", "start", "systemd-journald.service", SERVICE], check=True
     )
-    waited(is_up, "the hall answers")
+    wait_until(is_up, "the hall answers")
     with (HALL / "keys.csv").open(encoding="utf-8", newline="") as file:
         token = next(csv.DictReader(file))["token"]
-    status = pathlib.Path(f"/proc/{shown('MainPID')}/status").read_text()
+    status = pathlib.Path(f"/proc/{property_of('MainPID')}/status").read_text()
     rights = next(
         line.split()[1] for line in status.splitlines() if line.startswith("CapPrm")
     )
-    told = {
+    message = {
         "user": HALL.owner(),
         "capabilities": rights,
         "match": match(token),
-        "graded": graded(token),
+        "graded": grade(token),
     }
     began = time.monotonic()
     subprocess.run(["systemctl", "stop", SERVICE], check=True)
     return {
-        **told,
+        **message,
         "seconds_to_stop": time.monotonic() - began,
-        "result": shown("Result"),
-        "left": left(),
+        "result": property_of("Result"),
+        "left": processes_left(),
     }
 
 
 def main() -> None:
     try:
-        found = json.dumps(played())
-        (pathlib.Path(sys.argv[1]) / "told.json").write_text(found)
+        result = json.dumps(play())
+        (pathlib.Path(sys.argv[1]) / "told.json").write_text(result)
     finally:
         os.sync()
-        # the first process of these namespaces ends, and all others with it
+        # ending the first process of a namespace ends all others
         subprocess.run(["systemctl", "exit", "--force", "--force"])
 
 

@@ -14,7 +14,7 @@ from unittest import mock
 
 from tests.support import halls
 
-halls.begun()
+halls.started_hall()
 
 from django.db import connection, connections  # noqa: E402
 
@@ -29,33 +29,35 @@ PATIENCE = 60.0
 LOCAL = threading.local()
 
 
-class Killed(BaseException):
+class KilledError(BaseException):
     """The process is killed here."""
 
 
 class StepThread:
-    """A thread of a process, which goes on when it is told to."""
+    """A thread of a simulated process, which continues on request."""
 
     def __init__(
-        self, process: "Process", does: Callable[..., None], given: Any
+        self, process: "Process", does: Callable[..., None], arguments: Any
     ) -> None:
         self.process = process
         self.has_ended = False
-        # before which statement it stands, and whether it is within a transaction
+        # kind of the next statement, and whether a transaction is open
         self.before = READS
         self.is_within = False
         self._does = does
-        self._given = given
+        self._given = arguments
         self._go = threading.Semaphore(0)
         self._stands = threading.Semaphore(0)
         threading.Thread(target=self._main, daemon=True).start()
 
     def _main(self) -> None:
         LOCAL.thread = self
-        with contextlib.suppress(Killed), connection.execute_wrapper(self._execute):
+        with contextlib.suppress(KilledError), connection.execute_wrapper(
+            self._execute
+        ):
             self.stand(READS)
             self._does(*self._given)
-        with contextlib.suppress(Killed):
+        with contextlib.suppress(KilledError):
             connections.close_all()
         self.is_within = False
         self.has_ended = True
@@ -68,7 +70,7 @@ class StepThread:
         self._stands.release()
         self._go.acquire()
         if self.process.is_killed:
-            raise Killed
+            raise KilledError
 
     def _execute(
         self, execute: Any, sql: str, params: Any, many: bool, context: Any
@@ -100,13 +102,13 @@ class Process:
         self.threads: List[StepThread] = []
         self.start(worker.work, (Stop(),))
 
-    def start(self, does: Callable[..., None], given: Any) -> None:
-        made = StepThread(self, does, given)
-        made.settle()
-        self.threads.append(made)
+    def start(self, does: Callable[..., None], arguments: Any) -> None:
+        step_thread = StepThread(self, does, arguments)
+        step_thread.settle()
+        self.threads.append(step_thread)
 
     def living(self) -> List[StepThread]:
-        return [it for it in self.threads if not it.has_ended]
+        return [thread for thread in self.threads if not thread.has_ended]
 
     def kill(self) -> None:
         self.is_killed = True
@@ -161,23 +163,23 @@ class Workers:
         self.processes: Dict[int, Process] = {}
         self.broken_rules: List[str] = []
         self._held = contextlib.ExitStack()
-        claimed = steps.claimed
+        claimed_value = steps.claim_work
 
-        def watched(work: Any) -> Any:
+        def watch(work: Any) -> Any:
             if LOCAL.thread.process.began_stopped:
                 self.broken_rules.append(f"{work} is claimed after the stop")
-            return claimed(work)
+            return claimed_value(work)
 
         for module, name, instead in (
             (steps, "time", self.clock),
             (worker, "time", self.clock),
-            (steps, "STOPPED", Stop()),
-            (worker, "STOPPED", Stop()),
-            (worker, "claimed", watched),
+            (steps, "STOP_EVENT", Stop()),
+            (worker, "STOP_EVENT", Stop()),
+            (worker, "claim_work", watch),
             (worker, "threading", mock.Mock(Thread=Thread)),
-            (worker, "tell", lambda line: self.broken_rules.append(line)),
-            (steps, "tell", lambda line: None),
-            (children.subprocess, "Popen", graded),
+            (worker, "log_line", lambda line: self.broken_rules.append(line)),
+            (steps, "log_line", lambda line: None),
+            (children.subprocess, "Popen", fake_grade),
             (children.sandboxes, "remove", shutil.rmtree),
         ):
             self._held.enter_context(mock.patch.object(module, name, instead))
@@ -188,9 +190,9 @@ class Workers:
             self.processes[number] = Process(self)
 
     def ready(self) -> List[StepThread]:
-        """The threads that can go on: who writes waits for who is within a
+        """Returns the threads that can continue: writers wait for an open
         transaction."""
-        living = [it for one in self.processes.values() for it in one.living()]
+        living = [it for process in self.processes.values() for it in process.living()]
         is_taken = any(it.is_within for it in living)
         return [
             it for it in living if it.is_within or it.before == READS or not is_taken
@@ -202,8 +204,8 @@ class Workers:
         self._held.close()
 
 
-def graded(words: Any, cwd: Any, **given: Any) -> Any:
-    """In the place of `grade`, which takes a while."""
+def fake_grade(words: Any, cwd: Any, **args: Any) -> Any:
+    """Replaces `grade`, which would take long."""
     (cwd / grading.OUT).mkdir()
     (cwd / grading.OUT / "runs.csv").write_text(
         "team,network,outcome,fault,moves,lost,run\namber,ring:5,solved,,7,0,0\n"

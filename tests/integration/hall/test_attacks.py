@@ -26,12 +26,12 @@ from tests.integration.hall.hall_pages import (
     PASSWORD,
     PLACE,
     Hall,
-    graded,
-    halled,
-    played,
+    make_grading,
+    hall_with,
+    play_match,
     stopped_clock,
 )
-from tests.lab.hall.test_unpacking import zipped
+from tests.lab.hall.test_unpacking import zip_of
 
 from django.conf import settings
 from django.contrib.auth import get_user_model
@@ -47,7 +47,7 @@ from arena_lab.hall.handins import taking, unpacking
 from arena_lab.hall.handins.models import Contest, Grading, HandIn
 from arena_lab.hall.teams.guards import TRIES
 from arena_lab.hall.teams.models import Message, Team
-from arena_lab.hall.teams.views import MOST_WAITING
+from arena_lab.hall.teams.views import MAX_WAITING
 
 FEW = 30
 HOUR = timezone.timedelta(hours=1)
@@ -59,26 +59,26 @@ class Requests(Hall):
 
     def setUp(self) -> None:
         super().setUp()
-        self.enterContext(halled(limits=settings.HALL.limits._replace(requests=FEW)))
+        self.enterContext(hall_with(limits=settings.HALL.limits._replace(requests=FEW)))
         self.enterContext(stopped_clock())
 
     def test_a_header_that_pages_do_not_read_gives_no_more_requests(self) -> None:
         client = self.client_of("amber")
-        found = [
+        results = [
             client.get("/matches", HTTP_AUTHORIZATION=f"Bearer {number}").status_code
             for number in range(3 * FEW)
         ]
-        self.assertEqual((found[0], found[-1]), (200, 429))
+        self.assertEqual((results[0], results[-1]), (200, 429))
 
     def test_a_guess_is_a_try_wherever_it_was_sent_before(self) -> None:
         """A page that a team may see does not make a header right that came with it."""
         client = self.client_of("amber")
-        found = []
+        results = []
         for number in range(TRIES + 2):
             guess = {"HTTP_AUTHORIZATION": f"Bearer birch.{number}"}
             client.get("/matches", **guess)
-            found.append(Client().get("/api/matches", **guess).status_code)
-        self.assertEqual(found, [401] * TRIES + [429] * 2)
+            results.append(Client().get("/api/matches", **guess).status_code)
+        self.assertEqual(results, [401] * TRIES + [429] * 2)
 
     def test_a_token_that_was_replaced_spends_no_requests_of_its_team(self) -> None:
         self.assertEqual(self.rest("get", "/api/matches").status_code, 200)
@@ -101,8 +101,8 @@ class Passwords(Hall):
         own = PLACE.secret(place.LOGIN)
 
         def is_let_in(password: str) -> bool:
-            said = {"username": "teacher", "password": password, "next": "/teacher/"}
-            return Client().post("/teacher/login/", said).status_code == 302
+            output = {"username": "teacher", "password": password, "next": "/teacher/"}
+            return Client().post("/teacher/login/", output).status_code == 302
 
         for _ in range(TRIES + 1):
             self.assertFalse(is_let_in("wrong password"))
@@ -120,48 +120,48 @@ class HandIns(Hall):
 
     def test_names_that_no_disk_takes_are_refused(self) -> None:
         for name in ("\U0001f600" * 100, "/".join(["ü" * 100] * 31)):
-            told = self.hand_in(zipped({name: b"x"}))
-            self.assertEqual((told.status_code, HandIn.objects.count()), (400, 0))
+            hand = self.hand_in(zip_of({name: b"x"}))
+            self.assertEqual((hand.status_code, HandIn.objects.count()), (400, 0))
         self.assertEqual(list((PLACE.folder / "hand-ins").iterdir()), [])
         self.assertEqual(self.hand_in(b"print()", "birch").status_code, 201)
 
     def test_a_fault_of_the_disk_keeps_no_other_hand_in_out(self) -> None:
         """What was written is removed again: the next hand-in has the same number."""
 
-        def full(sent: bytes, name: str, folder: Any) -> None:
+        def full(payload: bytes, name: str, folder: Any) -> None:
             folder.mkdir(parents=True)
             raise OSError(28, "No space left on device", str(folder))
 
-        with mock.patch.object(taking.unpacking, "unpacked", full):
-            told = self.hand_in(b"print()")
-        self.assertEqual((told.status_code, HandIn.objects.count()), (503, 0))
-        self.assertNotIn(str(PLACE.folder), told.content.decode())
+        with mock.patch.object(taking.unpacking, "unpack", full):
+            hand = self.hand_in(b"print()")
+        self.assertEqual((hand.status_code, HandIn.objects.count()), (503, 0))
+        self.assertNotIn(str(PLACE.folder), hand.content.decode())
         self.assertEqual(list((PLACE.folder / "hand-ins").iterdir()), [])
         # a process that was killed has left a folder, and its number comes again
         self.assertEqual(self.hand_in(b"print()", "birch").status_code, 201)
         last = HandIn.objects.get()
         (last.folder.with_name(str(last.pk + 1)) / "files").mkdir(parents=True)
-        left = PLACE.folder / "hand-ins" / "new-1"
-        left.mkdir()
+        remaining = PLACE.folder / "hand-ins" / "new-1"
+        remaining.mkdir()
         temporary = tempfile.mkdtemp(prefix=place.temporary_of(PLACE.folder))
         place.remove_left(PLACE.folder)
-        self.assertFalse(left.exists() or pathlib.Path(temporary).exists())
+        self.assertFalse(remaining.exists() or pathlib.Path(temporary).exists())
         self.assertEqual(self.hand_in(b"print()", "birch").status_code, 201)
 
     def test_a_zip_with_many_entries_is_refused_before_they_are_read(self) -> None:
         """A list of 8 MB has 180,000 entries, which take seconds."""
-        many = zipped({f"{number}/": b"" for number in range(5_000)})
+        many = zip_of({f"{number}/": b"" for number in range(5_000)})
         with mock.patch.object(
             zipfile, "ZipFile", side_effect=AssertionError("it was read")
-        ), self.assertRaisesRegex(unpacking.NoHandIn, "more than 2000 files"):
+        ), self.assertRaisesRegex(unpacking.HandInError, "more than 2000 files"):
             unpacking.write(many, "agent.py", PLACE.folder / "hand-ins" / "many")
 
     def test_nothing_hides_in_a_source_or_a_name(self) -> None:
         source = "if True: # \u202e } \u2066 if is_right\u2069 \u2066 begin\n\tprint('\u200b\x1b[2Jé')\n"
-        told = self.hand_in(zipped({"\u202eyp.exe": source.encode(), "two.py": b"x"}))
+        hand = self.hand_in(zip_of({"\u202eyp.exe": source.encode(), "two.py": b"x"}))
         page = (
             self.client_of("amber")
-            .get(f"/hand-ins/{told.json()['id']}")
+            .get(f"/hand-ins/{hand.json()['id']}")
             .content.decode()
         )
         self.assertIn(
@@ -184,20 +184,20 @@ class HandIns(Hall):
 
     def test_a_link_below_the_results_leads_nowhere(self) -> None:
         self.hand_in(b"print()")
-        found = Grading.objects.get()
-        (found.folder / "out" / "failed").mkdir(parents=True)
-        (found.folder / "out" / "failed" / "amber-0").symlink_to(PLACE.folder)
+        grading = Grading.objects.get()
+        (grading.folder / "out" / "failed").mkdir(parents=True)
+        (grading.folder / "out" / "failed" / "amber-0").symlink_to(PLACE.folder)
         Grading.objects.update(state=machine.OVER)
-        self.assertTrue((found.folder / "out/failed/amber-0/key.txt").exists())
-        path = f"/hand-ins/{found.hand_in_id}/result/failed/amber-0/key.txt"
+        self.assertTrue((grading.folder / "out/failed/amber-0/key.txt").exists())
+        path = f"/hand-ins/{grading.hand_in_id}/result/failed/amber-0/key.txt"
         self.assertEqual(self.client_of("amber").get(path).status_code, 404)
 
     def test_hand_ins_that_are_refused_are_limited_too(self) -> None:
-        found = [
-            self.hand_in(zipped({"../x": b""})).status_code
+        results = [
+            self.hand_in(zip_of({"../x": b""})).status_code
             for _ in range(taking.A_MINUTE + 1)
         ]
-        self.assertEqual(found, [400] * taking.A_MINUTE + [429])
+        self.assertEqual(results, [400] * taking.A_MINUTE + [429])
         self.assertEqual(self.hand_in(b"print()", "birch").status_code, 201)
 
 
@@ -205,17 +205,17 @@ class Looks(Hall):
     """What one learns by looking, and what it costs the hall."""
 
     def test_a_replay_is_read_once_however_often_it_is_asked_for(self) -> None:
-        attempt = self.over(played())
-        with mock.patch.object(seen, "read_ended", wraps=seen.read_ended) as read:
-            found = [
+        attempt = self.over(play_match())
+        with mock.patch.object(seen, "read_ended", wraps=seen.read_ended) as reader:
+            results = [
                 self.rest("get", f"/api/matches/{attempt.pk}").json() for _ in range(5)
             ]
-        self.assertEqual(read.call_count, 1)
-        self.assertEqual(found[0]["matches"][0]["after"]["holes"], [3])
+        self.assertEqual(reader.call_count, 1)
+        self.assertEqual(results[0]["matches"][0]["after"]["holes"], [3])
 
     def test_a_hidden_team_is_not_seen_by_the_places_of_others(self) -> None:
-        graded("amber", moves=9)
-        graded("birch", moves=1)
+        make_grading("amber", moves=9)
+        make_grading("birch", moves=1)
         before = self.rest("get", "/api/standings").json()["teams"]
         self.assertEqual(
             [(row["team"], row["place"]) for row in before][:2],
@@ -227,28 +227,28 @@ class Looks(Hall):
             [(row["team"], row["place"]) for row in after][0], ("amber", 1)
         )
 
-    def told(
+    def responses(
         self, clients: Dict[str, Client], paths: List[str]
     ) -> Dict[Tuple[str, str], Any]:
-        """What each of these is answered, but for the secret of forms."""
-        found = {}
+        """Returns the responses to all clients and paths, without CSRF tokens."""
+        results = {}
         for name, client in clients.items():
             for path in paths:
                 answer = client.get(path)
                 body = re.sub(
                     rb'"csrfmiddlewaretoken" value="\w+"', b"", answer.content
                 )
-                found[name, path] = (
+                results[name, path] = (
                     answer.status_code,
                     {**answer.headers, "Expires": ""},
                     body,
                 )
-        return found
+        return results
 
     def test_nothing_tells_what_came_of_a_hand_in_after_the_freeze(self) -> None:
-        """Whatever came of it, all that other teams, strangers and tutors without that
-        right may ask for is the same, byte for byte, also where it has gone on from the
-        one before the freeze."""
+        """Whatever the result, responses to other teams, strangers and tutors without
+        the permission are equal byte for byte, even if the standings before the freeze
+        differ."""
         contest = Contest.objects.create(
             name="finale",
             networks=["ring of 5"],
@@ -256,15 +256,15 @@ class Looks(Hall):
             end=timezone.now() + HOUR,
         )
         for name in ("amber", "birch"):
-            graded(name, 1, 9)
-            graded(name, 1, 9, contest=contest)
+            make_grading(name, 1, 9)
+            make_grading(name, 1, 9, contest=contest)
         freeze = timezone.now()
         Contest.objects.update(freeze=freeze)
         late = [
-            graded("birch"),
-            graded("birch", contest=contest),
-            graded("cedar"),
-            graded("birch", is_secret=True),
+            make_grading("birch"),
+            make_grading("birch", contest=contest),
+            make_grading("cedar"),
+            make_grading("birch", is_secret=True),
         ]
         tutor = Client()
         get_user_model().objects.create_user(
@@ -299,8 +299,8 @@ class Looks(Hall):
             *(f"/{it}" for it in here),
             *(f"/api/{it}" for it in here),
         ]
-        with halled(freeze=freeze, public=True):
-            found = []
+        with hall_with(freeze=freeze, public=True):
+            results = []
             for changes in (
                 {"solved": 2, "moves": 1},
                 {"solved": 0, "moves": 99, "lost": 3},
@@ -308,12 +308,12 @@ class Looks(Hall):
                 {"state": machine.RUNNING},
             ):
                 Grading.objects.filter(pk__in=[it.pk for it in late]).update(**changes)
-                found.append(self.told(clients, paths))
+                results.append(self.responses(clients, paths))
             teacher = self.teacher().get("/").content
-        for one, others in found[0].items():
-            self.assertEqual([it[one] for it in found], [others] * 4, one)
-        self.assertEqual(found[0]["amber", "/"][0], 200)
-        self.assertIn(b"Frozen since", found[0]["stranger", "/"][2])
+        for first, rest in results[0].items():
+            self.assertEqual([result[first] for result in results], [rest] * 4, first)
+        self.assertEqual(results[0]["amber", "/"][0], 200)
+        self.assertIn(b"Frozen since", results[0]["stranger", "/"][2])
         self.assertNotIn(b"Frozen since", teacher)
 
     def test_a_full_disk_is_told(self) -> None:
@@ -324,48 +324,52 @@ class Looks(Hall):
         )
         for fault in full:
             client = Client(raise_request_exception=False)
-            with mock.patch("arena_lab.hall.teams.logins.tried", side_effect=fault):
-                told = client.post("/login", {"token": self.tokens["amber"]})
-            self.assertEqual(told.status_code, 503)
-            self.assertIn("cannot write this now", told.json()["error"])
+            with mock.patch(
+                "arena_lab.hall.teams.logins.team_of_token", side_effect=fault
+            ):
+                response = client.post("/login", {"token": self.tokens["amber"]})
+            self.assertEqual(response.status_code, 503)
+            self.assertIn("cannot write this now", response.json()["error"])
             token = {"HTTP_AUTHORIZATION": f"Bearer {self.tokens['amber']}"}
             with mock.patch("arena_lab.hall.attempts.asking.ask", side_effect=fault):
-                told = client.post(
+                response = client.post(
                     "/api/matches",
                     {"network": "ring of 5"},
                     "application/json",
                     **token,
                 )
-            self.assertEqual((told.status_code, list(told.json())), (503, ["error"]))
+            self.assertEqual(
+                (response.status_code, list(response.json())), (503, ["error"])
+            )
 
     def test_who_was_cut_off_by_the_machine_is_not_absent(self) -> None:
         """Agents had entered, the disk was full, and nobody came to the next run."""
-        for faults, wanted in ((0, "absent"), (1, "cut")):
+        for faults, expectation in ((0, "absent"), (1, "cut")):
             match = Played(Setup(5, ring(5).links, 0, [3], 2, 1000, 4096))
-            made = self.running(match)
+            attempt = self.running(match)
             match.close()
-            made.matches.get().replay.write_text(match.replay())
-            Attempt.objects.filter(pk=made.pk).update(faults=faults)
-            playing.Playing(Attempt.objects.get(pk=made.pk), "one").play()
-            told = self.rest("get", f"/api/matches/{made.pk}").json()
-            self.assertEqual(told["verdicts"][0]["outcome"], wanted)
+            attempt.matches.get().replay.write_text(match.replay())
+            Attempt.objects.filter(pk=attempt.pk).update(faults=faults)
+            playing.Playing(Attempt.objects.get(pk=attempt.pk), "one").play()
+            reply = self.rest("get", f"/api/matches/{attempt.pk}").json()
+            self.assertEqual(reply["verdicts"][0]["outcome"], expectation)
 
     def test_a_fault_of_the_machine_tells_no_path(self) -> None:
         """A team is told that its match is played again; where its files are, the log
         says."""
-        from arena_lab.hall.steps import claimed
+        from arena_lab.hall.steps import claim_work
 
-        made = Attempt.objects.create(team=self.team("amber"), network="ring of 5")
+        attempt = Attempt.objects.create(team=self.team("amber"), network="ring of 5")
         with mock.patch.object(
             playing.Playing,
             "play",
             side_effect=OSError(28, "No space left", str(PLACE.folder)),
         ):
-            playing.play(made.pk, str(claimed(made)))
-        told = self.rest("get", f"/api/matches/{made.pk}").json()
-        self.assertEqual(told["state"], machine.WAITING)
-        self.assertIn("it is done again", told["fault"])
-        self.assertNotIn(str(PLACE.folder), told["fault"])
+            playing.play(attempt.pk, str(claim_work(attempt)))
+        reply = self.rest("get", f"/api/matches/{attempt.pk}").json()
+        self.assertEqual(reply["state"], machine.WAITING)
+        self.assertIn("it is done again", reply["fault"])
+        self.assertNotIn(str(PLACE.folder), reply["fault"])
         self.assertEqual(Grading.objects.count(), 0)
 
 
@@ -374,22 +378,22 @@ class Questions(Hall):
 
     def test_a_question_without_fields_is_refused_however_many_wait(self) -> None:
         client = self.client_of("amber")
-        for wanted in (400, 429):
-            self.assertEqual(client.post("/messages", {}).status_code, wanted)
+        for expectation in (400, 429):
+            self.assertEqual(client.post("/messages", {}).status_code, expectation)
             Message.objects.bulk_create(
                 [
                     Message(team=self.team("amber"), text="why?")
-                    for _ in range(MOST_WAITING)
+                    for _ in range(MAX_WAITING)
                 ]
             )
 
     def test_texts_of_teams_are_texts_on_each_page(self) -> None:
         text = '"><script>alert(4)</script>'
         self.client_of("birch").post("/messages", {"text": text})
-        made = Message.objects.get()
+        message = Message.objects.get()
         Message.objects.update(answer=text, is_public=True)
         Message.objects.create(text=text)
-        page = f"/teacher/teams/message/{made.pk}"
+        page = f"/teacher/teams/message/{message.pk}"
         for client, path in (
             (self.client_of("amber"), "/messages"),
             (self.teacher(), "/teacher/teams/message/"),

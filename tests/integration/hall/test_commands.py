@@ -19,10 +19,10 @@ setUpModule = served_hall.setUpModule
 
 
 class Commands(Halls):
-    """What the teacher does by the command, while the hall is served."""
+    """Runs the teacher's commands while the hall is served."""
 
-    def ran(self, *words: object, status: int = 0) -> str:
-        done = subprocess.run(
+    def output(self, *words: object, status: int = 0) -> str:
+        result = subprocess.run(
             self.hall.words(*words),
             cwd=TOP,
             text=True,
@@ -30,18 +30,18 @@ class Commands(Halls):
             stderr=subprocess.STDOUT,
             stdin=subprocess.DEVNULL,
         )
-        self.assertEqual(done.returncode, status, done.stdout)
-        return done.stdout
+        self.assertEqual(result.returncode, status, result.stdout)
+        return result.stdout
 
     def test_a_backup_is_whole(self) -> None:
         archive = self.hall.folder.parent / "hall.tar.gz"
-        self.assertIn("wrote", self.ran("backup", self.hall.course, archive))
+        self.assertIn("wrote", self.output("backup", self.hall.course, archive))
         self.assertEqual(archive.stat().st_mode & 0o077, 0)
-        place = self.hall.folder.parent / "unpacked"
+        folder = self.hall.folder.parent / "unpacked"
         with tarfile.open(archive) as tar:
-            tar.extractall(place)
+            tar.extractall(folder)
         with contextlib.closing(
-            sqlite3.connect(place / "trial.hall" / "hall.sqlite3")
+            sqlite3.connect(folder / "trial.hall" / "hall.sqlite3")
         ) as database:
             self.assertEqual(
                 database.execute("PRAGMA integrity_check").fetchone(), ("ok",)
@@ -49,22 +49,22 @@ class Commands(Halls):
             self.assertEqual(
                 database.execute("SELECT count(*) FROM teams_team").fetchone(), (3,)
             )
-        self.assertTrue((place / "trial.hall" / "key.txt").exists())
+        self.assertTrue((folder / "trial.hall" / "key.txt").exists())
 
     def test_a_hall_that_was_killed_is_restored_as_it_stood(self) -> None:
         """What came after the archive is put aside, with the hand-ins whose folders
         would be in the way."""
         archive = self.hall.folder.parent / "before.tar.gz"
         token = self.tokens["cedar"]
-        other = self.hall.folder.parent / "other"
-        self.ran("backup", self.hall.course, archive)
+        second = self.hall.folder.parent / "other"
+        self.output("backup", self.hall.course, archive)
         self.assertIn(
             "is served already",
-            self.ran("restore", self.hall.course, archive, status=2),
+            self.output("restore", self.hall.course, archive, status=2),
         )
         before = self.hall.ask("GET", "/api/matches", token).json()
         for _ in range(20):
-            number = self.hall.asked(token)
+            number = self.hall.request_attempt(token)
             self.hall.ask("POST", f"/api/matches/{number}/close", token)
             self.hall.over(token, number)
         assert self.hall.child is not None
@@ -77,23 +77,23 @@ class Commands(Halls):
         broken.write_bytes(archive.read_bytes()[:-2000])
         self.assertIn(
             "no hall can be restored",
-            self.ran("restore", self.hall.course, broken, status=2),
+            self.output("restore", self.hall.course, broken, status=2),
         )
-        said = self.ran("restore", self.hall.course, archive)
-        self.assertIn("what was there before is in", said)
+        output = self.output("restore", self.hall.course, archive)
+        self.assertIn("what was there before is in", output)
         self.assertEqual(
             len(list(self.hall.folder.parent.glob("trial.hall.*/hall.sqlite3"))), 1
         )
         self.hall.start()
         self.assertEqual(self.hall.ask("GET", "/api/matches", token).json(), before)
         # on another machine there is no file of the course yet
-        other.mkdir()
-        self.ran("restore", other / "trial.toml", archive)
+        second.mkdir()
+        self.output("restore", second / "trial.toml", archive)
         self.assertEqual(
-            (other / "trial.toml").read_bytes(), self.hall.course.read_bytes()
+            (second / "trial.toml").read_bytes(), self.hall.course.read_bytes()
         )
-        self.assertTrue((other / "trial.hall" / "hall.sqlite3").exists())
-        shutil.rmtree(other)
+        self.assertTrue((second / "trial.hall" / "hall.sqlite3").exists())
+        shutil.rmtree(second)
 
     def test_a_mistake_in_the_file_of_the_course_keeps_the_hall_as_it_was(self) -> None:
         good = self.hall.course.read_text()
@@ -111,7 +111,7 @@ class Commands(Halls):
         )
 
     def test_a_contest_is_planned(self) -> None:
-        said = self.ran(
+        output = self.output(
             "contest",
             self.hall.course,
             "--name",
@@ -121,12 +121,15 @@ class Commands(Halls):
             "--minutes",
             "1",
         )
-        self.assertRegex(said, r", finale: from .* to \d\d:\d\d, by the clock of UTC$")
-        told = self.hall.ask("GET", "/api/contests", self.tokens["amber"]).json()
-        self.assertEqual(
-            [(it["name"], it["networks"]) for it in told], [("finale", ["ring of 5"])]
+        self.assertRegex(
+            output, r", finale: from .* to \d\d:\d\d, by the clock of UTC$"
         )
-        for words, wanted in (
+        reply = self.hall.ask("GET", "/api/contests", self.tokens["amber"]).json()
+        self.assertEqual(
+            [(reply["name"], reply["networks"]) for reply in reply],
+            [("finale", ["ring of 5"])],
+        )
+        for words, expectation in (
             (
                 ("--networks", "ring of 6"),
                 "name networks of the course: ring of 5, torus with a map",
@@ -137,31 +140,31 @@ class Commands(Halls):
             ),
         ):
             self.assertIn(
-                wanted, self.ran("contest", self.hall.course, *words, status=2)
+                expectation, self.output("contest", self.hall.course, *words, status=2)
             )
 
     def test_faults_are_lines(self) -> None:
         self.assertIn(
             "is served already",
-            self.ran(self.hall.course, "--program", halls.program(), status=2),
+            self.output(self.hall.course, "--program", halls.program(), status=2),
         )
         self.assertIn(
             "name networks of the course",
-            self.ran("contest", self.hall.course, status=2),
+            self.output("contest", self.hall.course, status=2),
         )
         self.assertIn(
-            "there is no such file", self.ran("serve", "nowhere.toml", status=2)
+            "there is no such file", self.output("serve", "nowhere.toml", status=2)
         )
         new = self.hall.folder.parent / "new.toml"
-        self.assertIn("wrote", self.ran("new", new))
-        self.assertIn("already", self.ran("new", new, status=2))
-        for text, wanted in (
+        self.assertIn("wrote", self.output("new", new))
+        self.assertIn("already", self.output("new", new, status=2))
+        for text, expectation in (
             ('title = "x"\nnetwork = 3', "network must be given"),
             ("x", "it is no TOML"),
             ('title = "x"\ncolour = 1', "a hall has no key colour"),
         ):
             new.write_text(text)
-            self.assertIn(wanted, self.ran(new, status=2))
+            self.assertIn(expectation, self.output(new, status=2))
 
     def test_nobody_else_may_look(self) -> None:
         for path in [self.hall.folder, *self.hall.folder.rglob("*")]:
@@ -172,23 +175,23 @@ class Commands(Halls):
             "GET", f"/api/matches?token={self.tokens['amber']}", self.tokens["amber"]
         )
         for path in (
-            it
-            for it in self.hall.folder.rglob("*")
-            if it.is_file() and it.name != "keys.csv"
+            path
+            for path in self.hall.folder.rglob("*")
+            if path.is_file() and path.name != "keys.csv"
         ):
             with contextlib.suppress(FileNotFoundError):
-                found = path.read_bytes()
+                data = path.read_bytes()
                 for token in self.tokens.values():
-                    self.assertNotIn(token.encode(), found, path)
+                    self.assertNotIn(token.encode(), data, path)
         self.assertEqual(self.hall.ask("GET", "/hall.json").status, 404)
 
     def test_connections_that_say_nothing_or_little_keep_nobody_waiting(self) -> None:
         """Browsers open connections for later; and a stranger may say a request byte by
         byte."""
-        place = ("127.0.0.1", self.hall.port)
-        with contextlib.ExitStack() as held:
+        position = ("127.0.0.1", self.hall.port)
+        with contextlib.ExitStack() as held_links:
             for count in range(60):
-                idle = held.enter_context(socket.create_connection(place))
+                idle = held_links.enter_context(socket.create_connection(position))
                 if count % 2:
                     idle.sendall(b"GET /login HTTP/1.1\r\nHost: 127.0.0.1\r\nX-Slow: ")
             began = time.monotonic()
@@ -203,12 +206,12 @@ class Commands(Halls):
     def test_one_process_alone_answers_the_network(self) -> None:
         """The web server, and no worker."""
         numbers = set(self.hall.processes().values())
-        said = (
+        output = (
             subprocess.run(["ss", "-Hltnp"], capture_output=True, text=True).stdout
             if have("ss")
             else ""
         )
-        for line in said.splitlines():
+        for line in output.splitlines():
             if any(f"pid={number}," in line for number in numbers):
                 self.assertEqual(
                     int(line.split()[3].rpartition(":")[2]), self.hall.port

@@ -26,18 +26,18 @@ class SmallServer(HallServer):
     bounds = SMALL
 
 
-def answered(environ: Dict[str, Any], start: Any) -> Iterable[bytes]:
-    found = [b"ok"] if environ["PATH_INFO"] == "/" else [bytes(1 << 20)] * LARGE
-    start("200 OK", [("Content-Length", str(sum(map(len, found))))])
-    return found
+def respond(environ: Dict[str, Any], start: Any) -> Iterable[bytes]:
+    results = [b"ok"] if environ["PATH_INFO"] == "/" else [bytes(1 << 20)] * LARGE
+    start("200 OK", [("Content-Length", str(sum(map(len, results))))])
+    return results
 
 
 class Connections(unittest.TestCase):
     options: Dict[str, Any] = {}
 
     def setUp(self) -> None:
-        found = servers(
-            answered,
+        result = servers(
+            respond,
             SmallServer,
             host="127.0.0.1",
             port=0,
@@ -46,7 +46,7 @@ class Connections(unittest.TestCase):
             asyncore_use_poll=True,
             **self.options,
         )
-        self.server = found[0]
+        self.server = result[0]
         self.port = int(self.server.effective_port)
         thread = threading.Thread(target=self.server.run)
         thread.start()
@@ -56,7 +56,7 @@ class Connections(unittest.TestCase):
         self.opened = self.enterContext(contextlib.ExitStack())
 
     def stop(self) -> None:
-        """Has the server end. It may have done so when it is woken for that."""
+        """Ends the server, which may have ended by itself."""
         with contextlib.suppress(OSError):
             self.server.trigger.pull_trigger(self.end)
 
@@ -64,25 +64,27 @@ class Connections(unittest.TestCase):
         """Ends the server, in its own thread."""
         wasyncore.close_all(self.server._map)
 
-    def connection(self, address: str, sent: bytes) -> socket.socket:
-        """A connection from this address, by which this is sent."""
-        found = self.opened.enter_context(
+    def connection(self, address: str, payload: bytes) -> socket.socket:
+        """Opens a connection from an address and sends bytes."""
+        result = self.opened.enter_context(
             socket.create_connection(
                 ("127.0.0.1", self.port), PATIENCE, source_address=(address, 0)
             )
         )
         with contextlib.suppress(OSError):
-            found.sendall(sent)
-        return found
+            result.sendall(payload)
+        return result
 
     def status(self, address: str, body: bytes = b"", **headers: str) -> int:
-        """What is answered to who asks from this address."""
+        """Returns the status of a request from an address."""
         connection = http.client.HTTPConnection(
             "127.0.0.1", self.port, PATIENCE, (address, 0)
         )
         with contextlib.closing(connection):
-            given = {name.replace("_", "-"): it for name, it in headers.items()}
-            connection.request("POST" if body else "GET", "/", body or None, given)
+            settings = {
+                name.replace("_", "-"): header for name, header in headers.items()
+            }
+            connection.request("POST" if body else "GET", "/", body or None, settings)
             return connection.getresponse().status
 
     def wait(self, holds: Any, what: str) -> None:
@@ -92,10 +94,10 @@ class Connections(unittest.TestCase):
             time.sleep(0.05)
 
     def count(self, address: str) -> int:
-        return sum(it.address == address for it in self.server.channels())
+        return sum(channel.address == address for channel in self.server.channels())
 
     def is_ended(self, connection: socket.socket) -> bool:
-        """Whether the server has ended a connection."""
+        """Returns whether the server has ended a connection."""
         connection.settimeout(0.1)
         try:
             return connection.recv(1) == b""
@@ -125,27 +127,28 @@ class Bounded(Connections):
 
     def test_a_head_that_does_not_end_is_ended(self) -> None:
         slow = self.connection(STRANGER, HEAD)
-        begun = time.monotonic()
+        start = time.monotonic()
         while not self.is_ended(slow):
-            self.assertLess(time.monotonic() - begun, PATIENCE)
+            self.assertLess(time.monotonic() - start, PATIENCE)
             with contextlib.suppress(OSError):
                 slow.send(b"a")
-        self.assertGreaterEqual(time.monotonic() - begun, SMALL.head - 0.5)
+        self.assertGreaterEqual(time.monotonic() - start, SMALL.head - 0.5)
 
     def test_so_is_a_body_that_comes_slowly(self) -> None:
         slow = self.connection(STRANGER, BODY % (1 << 20, b"") + bytes(100))
-        begun = time.monotonic()
+        start = time.monotonic()
         while not self.is_ended(slow):
-            self.assertLess(time.monotonic() - begun, PATIENCE)
+            self.assertLess(time.monotonic() - start, PATIENCE)
             with contextlib.suppress(OSError):
                 slow.send(b"a")
-        self.assertGreaterEqual(time.monotonic() - begun, SMALL.head + 0.5)
+        self.assertGreaterEqual(time.monotonic() - start, SMALL.head + 0.5)
 
     def test_who_takes_nothing_of_an_answer_keeps_no_thread(self) -> None:
         for _ in range(THREADS):
             self.connection(STRANGER, b"GET /large HTTP/1.1\r\nHost: a\r\n\r\n")
         self.wait(
-            lambda: all(it.requests for it in self.server.channels()), "all are asked"
+            lambda: all(channel.requests for channel in self.server.channels()),
+            "all are asked",
         )
         self.assertEqual(self.status("127.0.0.3"), 200)
 
@@ -155,8 +158,8 @@ class Bounded(Connections):
             for _ in range(6)
         ]
         self.wait(lambda: any(map(self.is_ended, large)), "a large one is ended")
-        held = sum(it.size() for it in self.server.channels())
-        self.assertLessEqual(held, SMALL.bytes_of_address + (2 << 20))
+        held_links = sum(channel.size() for channel in self.server.channels())
+        self.assertLessEqual(held_links, SMALL.bytes_of_address + (2 << 20))
         self.assertEqual(self.status(STRANGER, bytes(1 << 10)), 200)
         self.assertEqual(self.status("127.0.0.3", bytes(1 << 20)), 200)
 
@@ -172,8 +175,10 @@ class BehindAServer(Connections):
     }
 
     def slow(self, number: int) -> List[socket.socket]:
-        sent = BODY % (60_000, (FORWARDED % number).encode()) + bytes(100)
-        return [self.connection("127.0.0.1", sent) for _ in range(SMALL.of_address + 5)]
+        payload = BODY % (60_000, (FORWARDED % number).encode()) + bytes(100)
+        return [
+            self.connection("127.0.0.1", payload) for _ in range(SMALL.of_address + 5)
+        ]
 
     def test_the_address_is_that_of_who_asks(self) -> None:
         slow = self.slow(1)
@@ -181,13 +186,13 @@ class BehindAServer(Connections):
         self.wait(
             lambda: self.count("10.0.0.1") == SMALL.of_address, "the others are left"
         )
-        told = "10.0.0.2, 10.0.0.3"
-        self.assertEqual(self.status("127.0.0.1", X_Forwarded_For=told), 200)
+        text = "10.0.0.2, 10.0.0.3"
+        self.assertEqual(self.status("127.0.0.1", X_Forwarded_For=text), 200)
         self.slow(4)
-        self.assertEqual(self.status("127.0.0.1", X_Forwarded_For=told), 200)
+        self.assertEqual(self.status("127.0.0.1", X_Forwarded_For=text), 200)
         self.wait(lambda: len(self.server.channels()) <= SMALL.all, "some are ended")
 
     def test_what_others_say_of_themselves_counts_nothing(self) -> None:
-        said = BODY % (9, (FORWARDED % 1).encode())
-        self.connection(STRANGER, said)
+        output = BODY % (9, (FORWARDED % 1).encode())
+        self.connection(STRANGER, output)
         self.wait(lambda: self.count(STRANGER) == 1, "it is of its own address")

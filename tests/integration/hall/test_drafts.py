@@ -6,7 +6,7 @@ import tarfile
 from typing import Any, Dict
 from unittest import mock
 
-from tests.integration.hall.hall_pages import PLACE, Hall, halled
+from tests.integration.hall.hall_pages import PLACE, Hall, hall_with
 
 from django.db import connection
 from django.test import Client
@@ -26,67 +26,67 @@ FILES = {"agent.py": "print(1)\n", "client.py": "x\n"}
 TRIED = {"language": "python", "kind": "play", "network": "ring of 5", "files": FILES}
 
 
-class Written(Hall):
+class DraftFile(Hall):
     def setUp(self) -> None:
         super().setUp()
-        writing.saved.clear()
-        given = halled(editor=RULES)
-        given.start()
-        self.addCleanup(given.stop)
+        writing.saves.clear()
+        hall = hall_with(editor=RULES)
+        hall.start()
+        self.addCleanup(hall.stop)
         self.addCleanup(shutil.rmtree, PLACE.folder / "trials", True)
 
-    def put(self, files: Any, version: Any, name: str = "amber") -> Any:
+    def put_draft(self, files: Any, version: Any, name: str = "amber") -> Any:
         body = {"files": files, "version": version}
         return self.rest("put", "/api/drafts/python", name, body)
 
-    def tries(self, name: str = "amber", **given: Any) -> Any:
-        return self.rest("post", "/api/trials", name, {**TRIED, **given})
+    def tries(self, name: str = "amber", **args: Any) -> Any:
+        return self.rest("post", "/api/trials", name, {**TRIED, **args})
 
-    def over(self, number: int, **given: Any) -> Trial:  # type: ignore[override]
-        """A trial that is over, with a page."""
+    def over(self, number: int, **args: Any) -> Trial:  # type: ignore[override]
+        """Creates a finished trial with a page."""
         folder = PLACE.folder / "trials" / str(number)
         folder.mkdir(parents=True)
         (folder / "m0.html").write_text("<script>watch()</script>")
         (folder / "m0.jsonl").write_text("a replay\n")
-        found: Dict[str, Any] = {"right": True, "verdict": "solved", "said": []}
+        results: Dict[str, Any] = {"right": True, "verdict": "solved", "said": []}
         rows = Trial.objects.filter(pk=number)
         rows.update(
             **{
                 "state": machine.OVER,
                 "has_page": True,
-                "found": found,
+                "found": results,
                 "size": 9_000,
-                **given,
+                **args,
             }
         )
         return rows.get()
 
 
-class Drafts(Written):
+class Drafts(DraftFile):
     def test_a_draft_is_the_kit_at_first_and_then_what_was_written(self) -> None:
-        told = self.rest("get", "/api/drafts/python").json()
-        self.assertEqual(list(told["files"]), ["agent.py", "client.py"])
+        reply = self.rest("get", "/api/drafts/python").json()
+        self.assertEqual(list(reply["files"]), ["agent.py", "client.py"])
         kit = (AGENTS / "python" / "careful.py").read_text()
-        self.assertEqual(told["files"]["agent.py"], kit)
-        self.assertEqual((told["version"], told["main"]), (0, "agent.py"))
-        self.assertEqual(self.put(FILES, 0).json()["version"], 1)
-        told = self.rest("get", "/api/drafts/python").json()
-        self.assertEqual((told["files"], told["version"]), (FILES, 1))
+        self.assertEqual(reply["files"]["agent.py"], kit)
+        self.assertEqual((reply["version"], reply["main"]), (0, "agent.py"))
+        self.assertEqual(self.put_draft(FILES, 0).json()["version"], 1)
+        reply = self.rest("get", "/api/drafts/python").json()
+        self.assertEqual((reply["files"], reply["version"]), (FILES, 1))
         # no other team has it
-        other = self.rest("get", "/api/drafts/python", "birch").json()
-        self.assertEqual(other["version"], 0)
+        second = self.rest("get", "/api/drafts/python", "birch").json()
+        self.assertEqual(second["version"], 0)
         kits = self.rest("get", "/api/drafts").json()
-        self.assertEqual([it["language"] for it in kits], ["python", "c"])
+        self.assertEqual([kit["language"] for kit in kits], ["python", "c"])
 
     def test_two_members_lose_nothing_of_each_other(self) -> None:
         mine = {**FILES, "agent.py": "mine"}
         theirs = {**FILES, "agent.py": "theirs"}
-        self.assertEqual(self.put(mine, 0).status_code, 200)
-        self.assertEqual(self.put(theirs, 0).status_code, 409)
+        self.assertEqual(self.put_draft(mine, 0).status_code, 200)
+        self.assertEqual(self.put_draft(theirs, 0).status_code, 409)
         self.assertEqual(Draft.objects.get().files, mine)
         # the same again is no change, whatever its version
-        self.assertEqual(self.put(mine, 0).json()["version"], 1)
-        self.assertEqual(self.put(theirs, 1).json()["version"], 2)
+        self.assertEqual(self.put_draft(mine, 0).json()["version"], 1)
+        self.assertEqual(self.put_draft(theirs, 1).json()["version"], 2)
 
     def test_what_is_no_draft_is_refused(self) -> None:
         wrong = [
@@ -103,24 +103,24 @@ class Drafts(Written):
         ]
         for files in wrong:
             with self.subTest(repr(files)[:60]):
-                self.assertEqual(self.put(files, 0).status_code, 400)
+                self.assertEqual(self.put_draft(files, 0).status_code, 400)
                 self.assertEqual(self.tries(files=files).status_code, 400)
-        self.assertEqual(self.put({"a.py": "x" * 131_073}, 0).status_code, 413)
+        self.assertEqual(self.put_draft({"a.py": "x" * 131_073}, 0).status_code, 413)
         deep = self.rest("put", "/api/drafts/python").status_code
         self.assertEqual(deep, 400)
-        self.assertEqual(self.put({"a.py": "x" * 131_072}, 0).status_code, 200)
+        self.assertEqual(self.put_draft({"a.py": "x" * 131_072}, 0).status_code, 200)
         for language in ("rust", "javascript", "x"):
             path = f"/api/drafts/{language}"
             self.assertEqual(self.rest("get", path).status_code, 404)
         self.assertEqual(Draft.objects.count(), 1)
 
     def test_a_team_that_saves_too_often_is_told_so(self) -> None:
-        with mock.patch.object(writing.saved, "wait", return_value=1.0):
-            self.assertEqual(self.put(FILES, 0).status_code, 429)
+        with mock.patch.object(writing.saves, "wait", return_value=1.0):
+            self.assertEqual(self.put_draft(FILES, 0).status_code, 429)
 
     def test_what_is_written_and_tried_is_counted(self) -> None:
         team = self.team("amber")
-        self.put(FILES, 0)
+        self.put_draft(FILES, 0)
         self.assertEqual(asking.own_bytes(team), 11)
         number = self.tries().json()["id"]
         self.assertEqual(asking.own_bytes(team), 22)
@@ -128,16 +128,16 @@ class Drafts(Written):
         self.assertEqual(asking.own_bytes(team), 9_011)
         team.disk = 0
         team.save()
-        self.assertEqual(self.put({"a.py": "more"}, 1).status_code, 429)
+        self.assertEqual(self.put_draft({"a.py": "more"}, 1).status_code, 429)
         self.assertEqual(self.tries().status_code, 429)
 
     def test_a_copy_of_the_hall_has_drafts_and_trials(self) -> None:
-        self.put(FILES, 0)
+        self.put_draft(FILES, 0)
         self.over(self.tries().json()["id"])
         archive = PLACE.folder.parent / "copy.tar.gz"
         self.addCleanup(archive.unlink)
         with mock.patch.object(
-            backup, "dumped", return_value=PLACE.folder / "hall.json"
+            backup, "dump_database", return_value=PLACE.folder / "hall.json"
         ):
             backup.write(PLACE, archive)
         with tarfile.open(archive) as tar:
@@ -146,19 +146,19 @@ class Drafts(Written):
         self.assertIn("drafts_draft", connection.introspection.table_names())
 
     def test_what_was_written_is_handed_in(self) -> None:
-        told = self.rest("post", "/api/drafts/python/hand-in", body={"files": FILES})
-        self.assertEqual(told.status_code, 201)
-        folder = HandIn.objects.get(pk=told.json()["id"]).folder / "files"
-        found = {it.name: it.read_text() for it in folder.iterdir()}
-        self.assertEqual(found, FILES)
+        reply = self.rest("post", "/api/drafts/python/hand-in", body={"files": FILES})
+        self.assertEqual(reply.status_code, 201)
+        folder = HandIn.objects.get(pk=reply.json()["id"]).folder / "files"
+        results = {path.name: path.read_text() for path in folder.iterdir()}
+        self.assertEqual(results, FILES)
         # hand-ins are of Python here
-        told = self.rest("post", "/api/drafts/c/hand-in", body={"files": FILES})
-        self.assertEqual(told.status_code, 400)
+        reply = self.rest("post", "/api/drafts/c/hand-in", body={"files": FILES})
+        self.assertEqual(reply.status_code, 400)
 
 
-class Trials(Written):
+class Trials(DraftFile):
     def test_what_cannot_be_tried_is_refused(self) -> None:
-        for given in (
+        for arguments in (
             {"kind": "no"},
             {"kind": None},
             {"network": "ring of 99"},
@@ -172,38 +172,38 @@ class Trials(Written):
             {"kind": "explore"},
             {"kind": "explore", "network": "ring:6"},
         ):
-            with self.subTest(given):
-                self.assertEqual(self.tries(**given).status_code, 400)
+            with self.subTest(arguments):
+                self.assertEqual(self.tries(**arguments).status_code, 400)
         self.assertEqual(self.tries(language="no").status_code, 404)
         self.assertEqual(Trial.objects.count(), 0)
 
     def test_a_team_has_one_at_a_time_and_some_a_day(self) -> None:
         first = self.tries()
         self.assertEqual(first.status_code, 201)
-        told = self.tries()
+        reply = self.tries()
         # the page waits and asks again
-        self.assertEqual((told.status_code, told["Retry-After"]), (429, "2"))
+        self.assertEqual((reply.status_code, reply["Retry-After"]), (429, "2"))
         self.assertEqual(self.tries("birch").status_code, 201)
-        closed = self.rest("post", f"/api/trials/{first.json()['id']}/close").json()
-        self.assertEqual(closed["state"], machine.CANCELLED)
-        with halled(editor=RULES._replace(a_day=1)):
-            told = self.tries()
-            self.assertIn("today", told.json()["error"])
-            self.assertNotIn("Retry-After", told)
+        closing = self.rest("post", f"/api/trials/{first.json()['id']}/close").json()
+        self.assertEqual(closing["state"], machine.CANCELLED)
+        with hall_with(editor=RULES._replace(a_day=1)):
+            reply = self.tries()
+            self.assertIn("today", reply.json()["error"])
+            self.assertNotIn("Retry-After", reply)
         self.assertEqual(self.tries(kind="explore", network="ring:4").status_code, 201)
 
     def test_of_old_trials_nothing_is_left(self) -> None:
-        with mock.patch.object(trying, "KEPT", 2):
+        with mock.patch.object(trying, "MAX_TRIALS_KEPT", 2):
             folders = []
             for _ in range(4):
-                found = self.over(self.tries().json()["id"])
-                folders.append(found.folder)
+                result = self.over(self.tries().json()["id"])
+                folders.append(result.folder)
             self.tries()
             self.assertEqual(
-                [it.exists() for it in folders], [False, False, True, True]
+                [folder.exists() for folder in folders], [False, False, True, True]
             )
-            kept = self.rest("get", "/api/trials").json()
-            self.assertEqual(len(kept), 2 + 1)
+            record = self.rest("get", "/api/trials").json()
+            self.assertEqual(len(record), 2 + 1)
             # they count for the day, and are gone the next
             self.assertEqual(Trial.objects.count(), 5)
             Trial.objects.update(
@@ -218,33 +218,33 @@ class Trials(Written):
         rest = [f"/api/trials/{number}{it}" for it in ("", "/files", "/replay")]
         pages = [f"/write/trials/{number}/page"]
         for path in rest:
-            told = self.rest("get", path)
-            self.assertEqual(told.status_code, 200)
+            reply = self.rest("get", path)
+            self.assertEqual(reply.status_code, 200)
             self.assertEqual(self.rest("get", path, "birch").status_code, 404)
             self.assertEqual(self.rest("get", path, "").status_code, 401)
         path = f"/api/trials/{number}/close"
         self.assertEqual(self.rest("post", path, "birch").status_code, 404)
         for path in pages:
-            told = self.client_of("amber").get(path)
-            self.assertEqual(told.status_code, 200)
+            reply = self.client_of("amber").get(path)
+            self.assertEqual(reply.status_code, 200)
             self.assertEqual(self.client_of("birch").get(path).status_code, 404)
             self.assertEqual(Client().get(path).status_code, 404)
         # a session needs the secret of the page
         client = Client(enforce_csrf_checks=True)
         client.cookies = self.client_of("amber").cookies
-        told = client.post("/api/trials", json.dumps(TRIED), "application/json")
-        self.assertEqual(told.status_code, 403)
+        reply = client.post("/api/trials", json.dumps(TRIED), "application/json")
+        self.assertEqual(reply.status_code, 403)
 
     def test_the_match_may_reach_nothing_and_stands_in_the_halls_page_alone(
         self,
     ) -> None:
         number = self.tries().json()["id"]
         self.over(number)
-        told = self.client_of("amber").get(f"/write/trials/{number}/page")
-        policy = told["Content-Security-Policy"]
+        reply = self.client_of("amber").get(f"/write/trials/{number}/page")
+        policy = reply["Content-Security-Policy"]
         self.assertIn("sandbox allow-scripts; default-src 'none'", policy)
         self.assertIn("frame-ancestors 'self'", policy)
-        self.assertEqual(told["X-Frame-Options"], "SAMEORIGIN")
+        self.assertEqual(reply["X-Frame-Options"], "SAMEORIGIN")
         self.assertEqual(self.rest("get", f"/api/trials/{number}").json()["id"], number)
 
     def test_matches_come_before_searches_and_leave_one_place(self) -> None:
@@ -265,29 +265,29 @@ class Trials(Written):
         self.assertEqual([it.kind for it in trying.due(3)], ["explore"])
 
 
-class Teacher(Written):
+class Teacher(DraftFile):
     def test_the_teacher_sees_and_stops_what_is_tried(self) -> None:
         number = self.tries().json()["id"]
         teacher = self.teacher()
         self.assertContains(teacher.get("/teacher/drafts/trial/"), "amber")
-        asked = {"action": "close", "_selected_action": [number]}
-        teacher.post("/teacher/drafts/trial/", asked)
+        request = {"action": "close", "_selected_action": [number]}
+        teacher.post("/teacher/drafts/trial/", request)
         self.assertEqual(Trial.objects.get().state, machine.CANCELLED)
         page = f"/write/trials/{self.over(number).pk}/page"
         self.assertContains(teacher.get("/teacher/drafts/trial/"), page)
         self.assertEqual(teacher.get(page).status_code, 200)
 
 
-class Guests(Written):
+class Guests(DraftFile):
     def setUp(self) -> None:
         super().setUp()
-        guests.came.clear()
-        given = halled(editor=RULES._replace(guests=4))
-        given.start()
-        self.addCleanup(given.stop)
+        guests.arrivals.clear()
+        hall = hall_with(editor=RULES._replace(guests=4))
+        hall.start()
+        self.addCleanup(hall.stop)
 
-    def guest(self, **given: Any) -> Client:
-        client = Client(**given)
+    def guest(self, **args: Any) -> Client:
+        client = Client(**args)
         self.assertContains(client.get("/write"), "Begin as a guest")
         self.assertEqual(client.post("/write/guest").status_code, 302)
         return client
@@ -298,14 +298,14 @@ class Guests(Written):
     def test_a_guest_writes_and_tries_and_does_nothing_else(self) -> None:
         client = self.guest()
         self.assertContains(client.get("/write"), "editor.js")
-        told = self.sends(client, "/api/trials", TRIED)
-        self.assertEqual(told.status_code, 201)
-        path = f"/api/trials/{told.json()['id']}"
+        reply = self.sends(client, "/api/trials", TRIED)
+        self.assertEqual(reply.status_code, 201)
+        path = f"/api/trials/{reply.json()['id']}"
         self.assertEqual(client.get(path).status_code, 200)
         self.assertEqual(self.guest().get(path).status_code, 404)
-        told = self.sends(client, "/api/drafts/python/hand-in", {"files": FILES})
-        self.assertEqual(told.status_code, 403)
-        # to all else a guest is nobody
+        reply = self.sends(client, "/api/drafts/python/hand-in", {"files": FILES})
+        self.assertEqual(reply.status_code, 403)
+        # guests have no access to anything else
         for path in (
             "/api/matches",
             "/api/networks",
@@ -313,8 +313,8 @@ class Guests(Written):
             "/api/standings",
         ):
             self.assertEqual(client.get(path).status_code, 401, path)
-        told = self.sends(client, "/api/matches", {"network": "ring of 5"})
-        self.assertEqual(told.status_code, 401)
+        reply = self.sends(client, "/api/matches", {"network": "ring of 5"})
+        self.assertEqual(reply.status_code, 401)
         for path in ("/matches", "/hand-ins", "/messages", "/"):
             self.assertEqual(client.get(path)["Location"], "/login", path)
         self.assertNotContains(self.client_of("amber").get("/"), "guest")
@@ -323,17 +323,17 @@ class Guests(Written):
 
     def test_they_are_bounded_by_address_and_in_all(self) -> None:
         def comes(address: str) -> int:
-            told = Client(REMOTE_ADDR=address).post("/write/guest")
-            return int(told.status_code)
+            response = Client(REMOTE_ADDR=address).post("/write/guest")
+            return int(response.status_code)
 
         self.assertEqual([comes("10.0.0.1") for _ in range(3)], [302, 302, 429])
-        others = [comes("10.0.0.2"), comes("10.0.0.2"), comes("10.0.0.3")]
-        self.assertEqual(others, [302, 302, 429])
+        rest = [comes("10.0.0.2"), comes("10.0.0.2"), comes("10.0.0.3")]
+        self.assertEqual(rest, [302, 302, 429])
         # who writes nothing for a day makes room
         Draft.objects.update(at=timezone.now() - guests.STAYS * 2)
         self.assertEqual(comes("10.0.0.4"), 302)
         self.assertEqual(Team.objects.filter(is_guest=True).count(), 1)
-        with halled(editor=RULES):
+        with hall_with(editor=RULES):
             self.assertEqual(comes("10.0.0.5"), 404)
             self.assertEqual(Client().get("/write")["Location"], "/login")
 
@@ -344,25 +344,25 @@ class Guests(Written):
         self.assertFalse(path.exists())
 
 
-class Page(Written):
+class Page(DraftFile):
     def test_the_page_has_the_draft_and_frames_its_own_alone(self) -> None:
-        self.put({"agent.py": "</script><script>alert(1)</script>"}, 0)
-        told = self.client_of("amber").get("/write")
-        self.assertNotContains(told, "<script>alert(1)")
-        self.assertContains(told, "codemirror/lib/codemirror.js")
-        self.assertIn("frame-src 'self'", told["Content-Security-Policy"])
-        self.assertIn("default-src 'none'", told["Content-Security-Policy"])
-        other = self.client_of("amber").get("/matches")
-        self.assertNotIn("frame-src", other["Content-Security-Policy"])
-        self.assertContains(other, "/write")
+        self.put_draft({"agent.py": "</script><script>alert(1)</script>"}, 0)
+        reply = self.client_of("amber").get("/write")
+        self.assertNotContains(reply, "<script>alert(1)")
+        self.assertContains(reply, "codemirror/lib/codemirror.js")
+        self.assertIn("frame-src 'self'", reply["Content-Security-Policy"])
+        self.assertIn("default-src 'none'", reply["Content-Security-Policy"])
+        second = self.client_of("amber").get("/matches")
+        self.assertNotIn("frame-src", second["Content-Security-Policy"])
+        self.assertContains(second, "/write")
 
     def test_there_is_none_of_another_kit_or_without_an_editor(self) -> None:
         client = self.client_of("amber")
         self.assertEqual(client.get("/write?language=rust").status_code, 404)
         self.assertEqual(Client().get("/write").status_code, 302)
-        with halled(editor=None):
+        with hall_with(editor=None):
             self.assertEqual(client.get("/write").status_code, 404)
-            self.assertEqual(self.put(FILES, 0).status_code, 404)
+            self.assertEqual(self.put_draft(FILES, 0).status_code, 404)
             self.assertEqual(self.tries().status_code, 404)
             self.assertNotContains(client.get("/matches"), "/write")
 

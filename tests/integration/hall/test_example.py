@@ -12,7 +12,7 @@ import time
 import unittest
 from typing import Any, Callable, List, Set
 
-from arena_lab.sandbox.processes import listed
+from arena_lab.sandbox.processes import process_numbers
 from arena_lab.support.built import TOP
 from tests.support.matches import program
 
@@ -27,7 +27,7 @@ class Example(unittest.TestCase):
     def setUp(self) -> None:
         self.folder = self.enterContext(tempfile.TemporaryDirectory(prefix="example-"))
 
-    def started(self, *words: object) -> "subprocess.Popen[str]":
+    def start(self, *words: object) -> "subprocess.Popen[str]":
         """The sample hall, whose files are in the test's folder."""
         child = subprocess.Popen(
             [
@@ -43,7 +43,9 @@ class Example(unittest.TestCase):
             env={**os.environ, "TMPDIR": self.folder, "ARENA": program()},
         )
         self.addCleanup(
-            lambda: [os.kill(number, signal.SIGKILL) for number in self.left()]
+            lambda: [
+                os.kill(number, signal.SIGKILL) for number in self.processes_left()
+            ]
         )
         self.addCleanup(child.communicate)
         self.addCleanup(child.kill)
@@ -57,40 +59,40 @@ class Example(unittest.TestCase):
 
     def teams(self) -> Set[str]:
         """The teams that have asked for a match."""
-        found = list(pathlib.Path(self.folder).glob("hall-*/course.hall/hall.sqlite3"))
+        paths = list(pathlib.Path(self.folder).glob("hall-*/course.hall/hall.sqlite3"))
         with contextlib.suppress(sqlite3.OperationalError, IndexError):
-            with contextlib.closing(sqlite3.connect(found[0])) as database:
+            with contextlib.closing(sqlite3.connect(paths[0])) as database:
                 return {name for name, in database.execute(PLAYED)}
         return set()
 
-    def left(self) -> List[int]:
-        """The processes that belong to the hall: by their variables, their words or
-        where they are."""
-        found = []
-        place = self.folder.encode()
-        for process in listed():
+    def processes_left(self) -> List[int]:
+        """Returns the hall's processes, by their environment, command line or
+        folder."""
+        results = []
+        folder = self.folder.encode()
+        for process in process_numbers():
             with contextlib.suppress(OSError):
                 path = pathlib.Path(f"/proc/{process}")
                 texts = [(path / name).read_bytes() for name in ("environ", "cmdline")]
                 if any(
-                    place in text
+                    folder in text
                     for text in [*texts, os.readlink(path / "cwd").encode()]
                 ):
-                    found.append(process)
-        return found
+                    results.append(process)
+        return results
 
-    def ended(self, child: "subprocess.Popen[str]", status: int) -> str:
+    def end_of(self, child: "subprocess.Popen[str]", status: int) -> str:
         """What it has said, once it has ended with this status and left nothing."""
-        said, _ = child.communicate(timeout=PATIENCE)
-        self.assertEqual(child.returncode, status, said)
-        self.assertEqual(self.left(), [])
+        output, _ = child.communicate(timeout=PATIENCE)
+        self.assertEqual(child.returncode, status, output)
+        self.assertEqual(self.processes_left(), [])
         self.assertEqual(os.listdir(self.folder), [])
-        return said
+        return output
 
     def test_three_teams_play_and_it_ends_by_itself(self) -> None:
-        child = self.started("--demo-seconds", SHOWN)
+        child = self.start("--demo-seconds", SHOWN)
         self.wait(lambda: self.teams() == TEAMS, "three teams have asked for matches")
-        address, token, teacher, *rows = self.ended(child, 0).splitlines()
+        address, token, teacher, *rows = self.end_of(child, 0).splitlines()
         self.assertTrue(address.startswith("hall http://127.0.0.1:"))
         self.assertTrue(token.startswith("log in as a team: amber."))
         self.assertIn("user teacher, password ", teacher)
@@ -98,7 +100,7 @@ class Example(unittest.TestCase):
         self.assertIn("absent dormouse", rows[-1])
 
     def test_a_signal_ends_it_with_its_teams(self) -> None:
-        child = self.started()
+        child = self.start()
         self.wait(self.teams, "a team has asked for a match")
         child.send_signal(signal.SIGTERM)
-        self.ended(child, 128 + signal.SIGTERM)
+        self.end_of(child, 128 + signal.SIGTERM)

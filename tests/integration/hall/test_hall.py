@@ -13,12 +13,12 @@ from typing import Any, List
 
 from arena_lab.hall import packing
 from arena_lab.rules.engines import TOP
-from arena_lab.rules.model import played
-from arena_lab.sandbox.processes import below, is_alive, listed, words_of
+from arena_lab.rules.model import replay_match
+from arena_lab.sandbox.processes import below, is_alive, process_numbers, command_words
 from tests.integration.hall import served_hall
 from tests.integration.hall.served_hall import Halls
 from tests.support import halls
-from tests.support.halls import play, said
+from tests.support.halls import play, replies_to
 
 # a program that is handed in: it tries to talk to the hall, and then searches its ring
 NOSY = """
@@ -46,36 +46,40 @@ setUpModule = served_hall.setUpModule
 class Matches(Halls):
     def test_a_match_from_the_request_to_its_page(self) -> None:
         token = self.tokens["amber"]
-        number = self.hall.asked(token)
-        told = self.hall.begins(token, number)
-        agents = play(told)
-        self.ended(agents)
+        number = self.hall.request_attempt(token)
+        message = self.hall.begins(token, number)
+        agents = play(message)
+        self.end_agents(agents)
         self.assertEqual(len(self.hall.servers(number)), 1)
-        told = self.hall.over(token, number)
-        self.assertEqual([it["outcome"] for it in told["verdicts"]], ["solved"])
+        message = self.hall.over(token, number)
+        self.assertEqual(
+            [verdict["outcome"] for verdict in message["verdicts"]], ["solved"]
+        )
         replay = self.hall.ask(
             "GET", f"/api/matches/{number}/replays/0", token
         ).body.decode()
-        match = played(replay)
+        match = replay_match(replay)
         self.assertEqual(match.replay(), replay)
-        self.assertEqual(match.setup.holes, told["matches"][0]["after"]["holes"])
+        self.assertEqual(match.setup.holes, message["matches"][0]["after"]["holes"])
         # its server has ended, and its port is given back
         self.assertFalse(self.hall.is_left(number))
-        with socket.create_server(("127.0.0.1", told["matches"][0]["port"])):
+        with socket.create_server(("127.0.0.1", message["matches"][0]["port"])):
             pass
         page = (
             self.hall.folder / "attempts" / str(number) / "run1" / "match0" / "m0.html"
         )
-        self.hall.wait(lambda: packing.place(page).exists(), "the page is made")
+        self.hall.wait(lambda: packing.packed_path(page).exists(), "the page is made")
 
     def test_a_team_with_a_map_is_told_the_map_and_no_black_hole(self) -> None:
         token = self.tokens["cedar"]
-        number = self.hall.asked(token, "torus with a map")
-        told = self.hall.begins(token, number)["matches"][0]
-        self.assertEqual(sorted(told["map"]), ["home", "links", "nodes"])
+        number = self.hall.request_attempt(token, "torus with a map")
+        message = self.hall.begins(token, number)["matches"][0]
+        self.assertEqual(sorted(message["map"]), ["home", "links", "nodes"])
         # keys of another match are none here
         self.assertEqual(
-            said(told["host"], told["port"], [{"do": "enter", "key": "ka"}]),
+            replies_to(
+                message["host"], message["port"], [{"do": "enter", "key": "ka"}]
+            ),
             [{"no": "key"}],
         )
         self.hall.ask("POST", f"/api/matches/{number}/close", token)
@@ -86,19 +90,19 @@ class Matches(Halls):
 
     def test_a_match_whose_program_was_killed_is_played_again(self) -> None:
         token = self.tokens["amber"]
-        number = self.hall.asked(token)
-        keys = [it["keys"] for it in self.hall.begins(token, number)["matches"]]
+        number = self.hall.request_attempt(token)
+        keys = [begin["keys"] for begin in self.hall.begins(token, number)["matches"]]
         for server in self.hall.servers(number):
             os.kill(server, signal.SIGKILL)
-        told = self.hall.begins(token, number, keys)
-        self.ended(play(told))
+        message = self.hall.begins(token, number, keys)
+        self.end_agents(play(message))
         self.assertEqual(self.hall.over(token, number)["solved"], 1)
 
     def test_requests_at_the_same_time_win_nothing(self) -> None:
         """Of twenty that are sent at once as many are taken as a team may have."""
         token = self.tokens["cedar"]
         with concurrent.futures.ThreadPoolExecutor(20) as pool:
-            told = list(
+            message = list(
                 pool.map(
                     lambda _: self.hall.ask(
                         "POST", "/api/matches", token, {"network": "ring of 5"}
@@ -106,16 +110,18 @@ class Matches(Halls):
                     range(20),
                 )
             )
-            self.assertEqual(sorted(it.status for it in told), [201] * 2 + [429] * 18)
+            self.assertEqual(
+                sorted(it.status for it in message), [201] * 2 + [429] * 18
+            )
             cookie = self.session(token)
-            asked = list(
+            request = list(
                 pool.map(
                     lambda _: self.post("/messages", "text=why", cookie).status,
                     range(20),
                 )
             )
-        self.assertEqual(sorted(asked), [302] * 5 + [429] * 15)
-        for it in told:
+        self.assertEqual(sorted(request), [302] * 5 + [429] * 15)
+        for it in message:
             if it.status == 201:
                 number = it.json()["id"]
                 self.hall.ask("POST", f"/api/matches/{number}/close", token)
@@ -124,13 +130,13 @@ class Matches(Halls):
                 )
 
     def session(self, token: str) -> str:
-        """The cookie of a team that has logged in by the page."""
+        """Logs a team in on the page, and returns its cookie."""
         secret = str(self.hall.ask("GET", "/login").headers["Set-Cookie"]).partition(
             ";"
         )[0]
         return f"{secret}; {self.post('/login', f'token={token}', secret).headers['Set-Cookie'].partition(';')[0]}"
 
-    def post(self, path: str, form: str, cookie: str) -> halls.Told:
+    def post(self, path: str, form: str, cookie: str) -> halls.Response:
         """What a form is answered, whose secret is in a cookie."""
         headers = {
             "Cookie": cookie,
@@ -151,13 +157,13 @@ class HandIns(Halls):
         )
         ring = (agents / "ring.py").read_text().partition('"""\n')[2]
         client = (agents / "client.py").read_text()
-        from tests.lab.hall.test_unpacking import zipped
+        from tests.lab.hall.test_unpacking import zip_of
 
-        sent = zipped(
+        payload = zip_of(
             {"top/agent.py": (nosy + ring).encode(), "top/client.py": client.encode()}
         )
-        number = self.hand_in(token, sent)
-        result = self.graded(token, number)
+        number = self.hand_in(token, payload)
+        result = self.grade(token, number)
         out = self.hall.folder / "hand-ins" / str(number) / "public"
         self.assertEqual(
             (result["solved"], result["matches"]), (1, 1), (out / "log.txt").read_text()
@@ -173,7 +179,7 @@ class HandIns(Halls):
         self.assertIn("solved 1 of 1", page.read_text())
         # a wrong one
         number = self.hand_in(token, b"print('hello')")
-        self.assertEqual(self.graded(token, number)["solved"], 0)
+        self.assertEqual(self.grade(token, number)["solved"], 0)
 
     def test_a_grading_whose_processes_are_killed_is_run_again_and_none_is_left(
         self,
@@ -182,9 +188,9 @@ class HandIns(Halls):
         for name in ("a grading", "worker 0"):
             with self.subTest(name):
                 number = self.hand_in(token, b"import time; time.sleep(1000)")
-                place = self.hall.folder / "hand-ins" / str(number)
-                self.hall.wait(lambda: within(place), "it is graded")
-                before = within(place)
+                folder = self.hall.folder / "hand-ins" / str(number)
+                self.hall.wait(lambda: within(folder), "it is graded")
+                before = within(folder)
                 score = pathlib.Path(f"/proc/{before[0]}/oom_score_adj").read_text()
                 self.assertEqual(score, "1000\n")
                 os.kill(
@@ -192,16 +198,16 @@ class HandIns(Halls):
                     signal.SIGKILL,
                 )
                 self.hall.wait(
-                    lambda: not set(before) & set(within(place)),
+                    lambda: not set(before) & set(within(folder)),
                     "all that was killed has ended",
                     20,
                 )
-                told = self.hall.wait(lambda: within(place), "it is graded again")
+                message = self.hall.wait(lambda: within(folder), "it is graded again")
                 self.hall.stop()
-                self.assertFalse(any(map(is_alive, told)))
+                self.assertFalse(any(map(is_alive, message)))
                 self.hall.start()
-                again = self.hall.wait(lambda: within(place), "it is graded again")
-                self.assertFalse(set(again) & set(told))
+                again = self.hall.wait(lambda: within(folder), "it is graded again")
+                self.assertFalse(set(again) & set(message))
                 # its program never ends: another one that does takes its place
                 self.hall.stop()
                 with contextlib.closing(
@@ -213,10 +219,10 @@ class HandIns(Halls):
                     )
                 self.hall.start()
 
-    def hand_in(self, token: str, sent: bytes) -> int:
-        return int(self.hall.hand_in(token, sent).json()["id"])
+    def hand_in(self, token: str, payload: bytes) -> int:
+        return int(self.hall.hand_in(token, payload).json()["id"])
 
-    def graded(self, token: str, number: int) -> Any:
+    def grade(self, token: str, number: int) -> Any:
         return self.hall.wait(
             lambda: self.hall.ask("GET", f"/api/hand-ins/{number}", token).json()[
                 "result"
@@ -231,38 +237,43 @@ class Processes(Halls):
 
     def test_each_process_is_killed_while_a_match_goes_on(self) -> None:
         token = self.tokens["amber"]
-        first = self.hall.asked(token)
-        self.ended(play(self.hall.begins(token, first)))
+        first = self.hall.request_attempt(token)
+        self.end_agents(play(self.hall.begins(token, first)))
         before = self.hall.over(token, first)
         for name, is_anew in (("web", False), ("worker 0", True)):
             with self.subTest(name):
-                number = self.hall.asked(token)
-                told = self.hall.begins(token, number)
-                keys = [it["keys"] for it in told["matches"]]
+                number = self.hall.request_attempt(token)
+                message = self.hall.begins(token, number)
+                keys = [match["keys"] for match in message["matches"]]
                 servers = self.hall.servers(number)
                 self.hall.kill(name)
                 if is_anew:
-                    told = self.hall.begins(token, number, keys)
+                    message = self.hall.begins(token, number, keys)
                     self.assertFalse(set(servers) & set(self.hall.servers(number)))
                 self.assertEqual(
-                    [it["keys"] for it in self.hall.attempt(token, number)["matches"]]
+                    [
+                        match["keys"]
+                        for match in self.hall.attempt(token, number)["matches"]
+                    ]
                     == keys,
                     not is_anew,
                 )
-                self.ended(play(told))
+                self.end_agents(play(message))
                 self.assertEqual(self.hall.over(token, number)["solved"], 1)
                 self.assertFalse(self.hall.is_left(number))
-        self.assertEqual(halls.came(self.hall.over(token, first)), halls.came(before))
+        self.assertEqual(
+            halls.result_of(self.hall.over(token, first)), halls.result_of(before)
+        )
 
     def test_a_match_is_played_however_often_its_worker_is_killed(self) -> None:
         token = self.tokens["birch"]
-        number = self.hall.asked(token)
+        number = self.hall.request_attempt(token)
         keys: Any = None
         for _ in range(3):
-            told = self.hall.begins(token, number, keys)
-            keys = [it["keys"] for it in told["matches"]]
+            message = self.hall.begins(token, number, keys)
+            keys = [match["keys"] for match in message["matches"]]
             self.hall.kill("worker 0")
-        self.ended(play(self.hall.begins(token, number, keys)))
+        self.end_agents(play(self.hall.begins(token, number, keys)))
         self.assertEqual(self.hall.over(token, number)["solved"], 1)
         self.assertFalse(self.hall.is_left(number))
 
@@ -283,7 +294,7 @@ class Processes(Halls):
             stdout=subprocess.PIPE,
             text=True,
         )
-        self.ended([script])
+        self.end_agents([script])
         number = self.hall.wait(
             lambda: [
                 it["id"]
@@ -295,20 +306,27 @@ class Processes(Halls):
             "the script plays",
         )[0]
         keys = [
-            it["keys"]
-            for it in self.hall.begins(self.tokens["birch"], number)["matches"]
+            begin["keys"]
+            for begin in self.hall.begins(self.tokens["birch"], number)["matches"]
         ]
         self.hall.stop()
         self.assertEqual(self.hall.servers(), [])
         self.hall.start()
-        told = self.hall.begins(self.tokens["birch"], number, keys)
-        self.ended(
+        message = self.hall.begins(self.tokens["birch"], number, keys)
+        self.end_agents(
             [
                 subprocess.Popen(
-                    [sys.executable, agents, it["host"], str(it["port"]), key, "5"]
+                    [
+                        sys.executable,
+                        agents,
+                        match["host"],
+                        str(match["port"]),
+                        key,
+                        "5",
+                    ]
                 )
-                for it in told["matches"]
-                for key in it["keys"]
+                for match in message["matches"]
+                for key in match["keys"]
             ]
         )
         self.assertEqual(self.hall.over(self.tokens["birch"], number)["solved"], 1)
@@ -319,8 +337,8 @@ class Processes(Halls):
 
     def test_the_whole_hall_is_killed_and_started_again(self) -> None:
         token = self.tokens["cedar"]
-        number = self.hall.asked(token)
-        keys = [it["keys"] for it in self.hall.begins(token, number)["matches"]]
+        number = self.hall.request_attempt(token)
+        keys = [begin["keys"] for begin in self.hall.begins(token, number)["matches"]]
         processes = self.hall.processes()
         assert self.hall.child is not None
         os.kill(self.hall.child.pid, signal.SIGKILL)
@@ -332,18 +350,18 @@ class Processes(Halls):
             20,
         )
         self.hall.start()
-        told = self.hall.begins(token, number, keys)
-        self.ended(play(told))
+        message = self.hall.begins(token, number, keys)
+        self.end_agents(play(message))
         self.assertEqual(self.hall.over(token, number)["solved"], 1)
 
 
-def within(place: pathlib.Path) -> List[int]:
+def within(path: pathlib.Path) -> List[int]:
     """The processes of a grading: `grade` and all below it, itself first."""
-    found: List[int] = []
-    for process in listed():
+    results: List[int] = []
+    for process in process_numbers():
         with contextlib.suppress(OSError):
-            if "grade" in words_of(process)[1:] and os.readlink(
+            if "grade" in command_words(process)[1:] and os.readlink(
                 f"/proc/{process}/cwd"
-            ).startswith(str(place)):
-                found += below(process)
-    return list(filter(is_alive, dict.fromkeys(found)))
+            ).startswith(str(path)):
+                results += below(process)
+    return list(filter(is_alive, dict.fromkeys(results)))

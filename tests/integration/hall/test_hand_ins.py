@@ -3,8 +3,14 @@ import re
 from unittest import mock
 
 from arena_lab.hall import machine
-from tests.integration.hall.hall_pages import PLACE, Hall, graded, halled, played
-from tests.lab.hall.test_unpacking import zipped
+from tests.integration.hall.hall_pages import (
+    PLACE,
+    Hall,
+    make_grading,
+    hall_with,
+    play_match,
+)
+from tests.lab.hall.test_unpacking import zip_of
 
 from django.conf import settings
 from django.core.files.uploadedfile import SimpleUploadedFile
@@ -20,9 +26,9 @@ from arena_lab.hall.teams.models import Team
 
 class HandIns(Hall):
     def test_a_hand_in_waits_to_be_graded(self) -> None:
-        told = self.hand_in(b"print()")
+        hand = self.hand_in(b"print()")
         self.assertEqual(
-            (told.status_code, told.json()["state"], told.json()["result"]),
+            (hand.status_code, hand.json()["state"], hand.json()["result"]),
             (201, "waiting", None),
         )
         self.assertEqual(
@@ -30,16 +36,16 @@ class HandIns(Hall):
             b"print()",
         )
         self.assertEqual(
-            self.rest("get", f"/api/hand-ins/{told.json()['id']}", "birch").status_code,
+            self.rest("get", f"/api/hand-ins/{hand.json()['id']}", "birch").status_code,
             404,
         )
         self.assertEqual(
-            self.rest("get", f"/api/hand-ins/{told.json()['id']}").status_code, 200
+            self.rest("get", f"/api/hand-ins/{hand.json()['id']}").status_code, 200
         )
 
     def test_a_hand_in_has_a_page_with_its_sources(self) -> None:
         self.hand_in(
-            zipped({"agent.py": b"print('<script>')", "more/data.bin": b"\xff\xfe"})
+            zip_of({"agent.py": b"print('<script>')", "more/data.bin": b"\xff\xfe"})
         )
         path = f"/hand-ins/{HandIn.objects.get().pk}"
         for client in (self.client_of("amber"), self.teacher()):
@@ -52,17 +58,17 @@ class HandIns(Hall):
         )
 
     def test_a_page_of_sources_is_made_once(self) -> None:
-        self.hand_in(zipped({"agent.py": "\u202e".encode() * 130_000}))
+        self.hand_in(zip_of({"agent.py": "\u202e".encode() * 130_000}))
         path = f"/hand-ins/{HandIn.objects.get().pk}"
-        with mock.patch.object(views, "as_seen", wraps=views.as_seen) as seen:
+        with mock.patch.object(views, "as_seen", wraps=views.as_seen) as observations:
             for _ in range(5):
                 self.assertContains(self.teacher().get(path), r"\u202e" * 2)
-        self.assertEqual(seen.call_count, 2)
+        self.assertEqual(observations.call_count, 2)
 
     def test_a_team_that_is_deleted_leaves_no_files(self) -> None:
         for name in ("amber", "birch"):
             self.assertEqual(self.hand_in(b"print()", name).status_code, 201)
-        gone, kept = (
+        lost_folder, kept_folder = (
             HandIn.objects.get(team__name=name).folder for name in ("amber", "birch")
         )
         attempt = Attempt.objects.create(
@@ -75,7 +81,8 @@ class HandIns(Hall):
                 f"/teacher/teams/team/{team.pk}/delete/", {"post": "yes"}
             )
         self.assertEqual(
-            [it.exists() for it in (gone, attempt.folder, kept)], [False, False, True]
+            [it.exists() for it in (lost_folder, attempt.folder, kept_folder)],
+            [False, False, True],
         )
 
     def test_limits(self) -> None:
@@ -92,8 +99,8 @@ class HandIns(Hall):
         self.assertEqual(self.hand_in(b"x").status_code, 429)
 
     def test_a_zip_that_is_refused_leaves_nothing(self) -> None:
-        told = self.hand_in(zipped({"../../evil.py": b"x"}))
-        self.assertEqual((told.status_code, HandIn.objects.count()), (400, 0))
+        hand = self.hand_in(zip_of({"../../evil.py": b"x"}))
+        self.assertEqual((hand.status_code, HandIn.objects.count()), (400, 0))
         self.assertEqual(list((PLACE.folder / "hand-ins").iterdir()), [])
         page = self.client_of("amber").post(
             "/hand-ins/take", {"file": SimpleUploadedFile("x", b"")}
@@ -105,7 +112,9 @@ class HandIns(Hall):
     ) -> None:
         for _ in range(2):
             self.assertEqual(self.hand_in(b"x").status_code, 201)
-        with halled(hand_ins=settings.HALL.hand_ins._replace(deadline=timezone.now())):
+        with hall_with(
+            hand_ins=settings.HALL.hand_ins._replace(deadline=timezone.now())
+        ):
             self.assertEqual(self.hand_in(b"x").status_code, 403)
             later = timezone.now() + timezone.timedelta(seconds=1)
             self.assertEqual(
@@ -129,80 +138,82 @@ class HandIns(Hall):
 
     def test_a_network_of_a_file_is_called_by_its_name(self) -> None:
         word = "/srv/course/n.toml"
-        given = settings.HALL.hand_ins._replace(networks={word: "n.toml"})
-        Grading.objects.filter(pk=graded("amber").pk).update(networks={word: [1, 2]})
-        with halled(hand_ins=given):
-            told = self.rest("get", "/api/hand-ins").json()[0]["result"]
+        conditions = settings.HALL.hand_ins._replace(networks={word: "n.toml"})
+        Grading.objects.filter(pk=make_grading("amber").pk).update(
+            networks={word: [1, 2]}
+        )
+        with hall_with(hand_ins=conditions):
+            reply = self.rest("get", "/api/hand-ins").json()[0]["result"]
             table = self.rest("get", "/api/standings").json()
-        self.assertEqual(told["networks"], {"n.toml": [1, 2]})
+        self.assertEqual(reply["networks"], {"n.toml": [1, 2]})
         self.assertEqual(table["networks"], ["n.toml"])
         self.assertEqual(table["teams"][0]["cells"], [{"solved": 1, "matches": 2}])
 
     def test_all_bytes_of_a_team_count(self) -> None:
         """Sources, results and matches: who is over is told so before anything is
         written, files of practice go first, and the teacher gives more."""
-        work = graded("amber")
+        work = make_grading("amber")
         Grading.objects.filter(pk=work.pk).update(size=(200 << 20) - 10)
-        told = self.hand_in(b"print('much more')")
-        self.assertEqual((told.status_code, HandIn.objects.count()), (429, 1))
-        self.assertIn("take more than 200 MB", told.json()["error"])
-        asked = self.rest("post", "/api/matches", body={"network": "ring of 5"})
-        self.assertEqual(asked.status_code, 201)
+        hand = self.hand_in(b"print('much more')")
+        self.assertEqual((hand.status_code, HandIn.objects.count()), (429, 1))
+        self.assertIn("take more than 200 MB", hand.json()["error"])
+        request = self.rest("post", "/api/matches", body={"network": "ring of 5"})
+        self.assertEqual(request.status_code, 201)
         self.assertEqual(self.hand_in(b"print()", "birch").status_code, 201)
         self.assertContains(
             self.teacher().get("/teacher/teams/team/"),
-            '<td class="field-used">199</td>',
+            '<td class="field-used_megabytes">199</td>',
         )
         Team.objects.filter(name="amber").update(disk=201)
         self.assertEqual(self.hand_in(b"print('much more')").status_code, 201)
         Team.objects.filter(name="amber").update(disk=None)
-        over = self.over(played())
+        over = self.over(play_match())
         Attempt.objects.filter(pk=over.pk).update(size=5 << 20)
         Grading.objects.filter(pk=work.pk).update(size=198 << 20)
         self.assertEqual(self.hand_in(b"print()").status_code, 201)
         self.assertFalse(over.folder.exists())
 
     def test_matches_that_are_over_are_kept_compressed(self) -> None:
-        """And are read as they were."""
-        match = played()
+        """Compressed files are served unchanged."""
+        match = play_match()
         for _ in range(200):
-            match.tell(0, {"do": "look"})
-        made = self.over(match)
-        place = made.matches.get().replay
-        text = place.read_bytes()
-        before = packing.size_of(made.folder)
-        self.assertLess(packing.pack(made.folder) * 5, before)
-        self.assertFalse(place.exists())
-        told = self.rest("get", f"/api/matches/{made.pk}").json()["matches"][0]
-        self.assertEqual(told["after"]["holes"], [3])
-        page = self.client_of("amber").get(f"/matches/{made.pk}/0/replay")
+            match.reply_to(0, {"do": "look"})
+        attempt = self.over(match)
+        position = attempt.matches.get().replay
+        text = position.read_bytes()
+        before = packing.size_of(attempt.folder)
+        self.assertLess(packing.pack(attempt.folder) * 5, before)
+        self.assertFalse(position.exists())
+        reply = self.rest("get", f"/api/matches/{attempt.pk}").json()["matches"][0]
+        self.assertEqual(reply["after"]["holes"], [3])
+        page = self.client_of("amber").get(f"/matches/{attempt.pk}/0/replay")
         self.assertEqual(b"".join(page.streaming_content), text)
 
     def test_a_grading_at_once_has_the_room_that_is_left(self) -> None:
         """And one by the secret draw all that a course gives."""
         self.hand_in(b"print()")
         work = Grading.objects.get()
-        for used, is_secret, wanted in (
+        for usage, is_secret, expectation in (
             (100, False, "team_space = 99\n"),
             (400, False, "team_space = 16\n"),
             (400, True, ""),
         ):
-            Grading.objects.filter(pk=work.pk).update(size=used << 20)
+            Grading.objects.filter(pk=work.pk).update(size=usage << 20)
             work.is_secret = is_secret
-            folder = work.hand_in.folder / f"{used}{is_secret}"
+            folder = work.hand_in.folder / f"{usage}{is_secret}"
             grading.prepare(work, folder)
-            found = re.findall("team_space.*\n", (folder / "course.toml").read_text())
-            self.assertEqual("".join(found), wanted)
+            result = re.findall("team_space.*\n", (folder / "course.toml").read_text())
+            self.assertEqual("".join(result), expectation)
 
     def test_results_are_those_of_ones_own_team(self) -> None:
         self.hand_in(b"x")
-        found = Grading.objects.get()
-        out = found.folder / "out"
+        grading = Grading.objects.get()
+        out = grading.folder / "out"
         (out / "failed" / "amber-0").mkdir(parents=True)
         (out / "team-amber.html").write_text("<script>1</script>")
         (out / "failed" / "amber-0" / "match0.jsonl").write_text("{}")
         (out / "runs.csv").write_text("run")
-        path = f"/hand-ins/{found.hand_in_id}/result/"
+        path = f"/hand-ins/{grading.hand_in_id}/result/"
         client = self.client_of("amber")
         self.assertEqual(client.get(path).status_code, 404)
         Grading.objects.update(state=machine.OVER)
@@ -212,7 +223,7 @@ class HandIns(Hall):
         self.assertEqual(
             client.get(f"{path}failed/amber-0/match0.jsonl").status_code, 200
         )
-        for other in (
+        for second in (
             "secret.txt",
             "runs.csv",
             "../secret.txt",
@@ -220,5 +231,5 @@ class HandIns(Hall):
             "failed/amber-0/..",
             "failed/amber-0",
         ):
-            self.assertEqual(client.get(path + other).status_code, 404, other)
+            self.assertEqual(client.get(path + second).status_code, 404, second)
         self.assertEqual(self.client_of("birch").get(path).status_code, 404)

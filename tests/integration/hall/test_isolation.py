@@ -2,7 +2,7 @@
 import re
 from typing import List
 
-from tests.integration.hall.hall_pages import PLACE, Hall, played
+from tests.integration.hall.hall_pages import PLACE, Hall, play_match
 
 from django.test import Client
 
@@ -17,7 +17,7 @@ class Isolation(Hall):
         """Every answer about an attempt: status, headers and bytes, but for what is
         random in each answer."""
         client = self.client_of(name)
-        found = []
+        results = []
         number = attempt.pk
         for path in (
             f"/matches/{number}",
@@ -40,32 +40,32 @@ class Isolation(Hall):
             headers = {
                 name: it for name, it in answer.headers.items() if name != "Set-Cookie"
             }
-            found.append(
+            results.append(
                 repr((path, answer.status_code, sorted(headers.items()), body)).encode()
             )
-        return found
+        return results
 
     def test_matches_that_no_agent_can_tell_apart_have_the_same_answers(self) -> None:
         """The black hole is another node, and in one match an agent is destroyed that
         is on its way in the other: no page, no REST, no size, no header and no error
         tells which."""
-        dead = played(1)
-        alive = played(3)
+        dead = play_match(1)
+        alive = play_match(3)
         for match in (dead, alive):
-            match.tell(1, {"do": "enter"})
-            match.tell(0, {"do": "depart", "port": 0})
+            match.reply_to(1, {"do": "enter"})
+            match.reply_to(0, {"do": "depart", "port": 0})
         dead.deliver(0)
         self.assertIsNone(dead.log[-1]["reply"])
         attempt = self.running(alive)
-        one = self.answers(attempt)
+        first = self.answers(attempt)
         seen.part.cache_clear()
         self.write(attempt.matches.get(), dead)
-        self.assertEqual(self.answers(attempt), one)
-        self.assertIn(b"gone", b"".join(one))
+        self.assertEqual(self.answers(attempt), first)
+        self.assertIn(b"gone", b"".join(first))
 
     def test_nothing_of_black_holes_or_deaths_before_the_close(self) -> None:
-        match = played(4)
-        match.tell(0, {"do": "depart", "port": 1})
+        match = play_match(4)
+        match.reply_to(0, {"do": "depart", "port": 1})
         match.deliver(0)
         attempt = self.running(match)
         text = b"".join(self.answers(attempt))
@@ -77,18 +77,18 @@ class Isolation(Hall):
             b"was lost by",
         ):
             self.assertNotIn(word, text)
-        told = self.rest("get", f"/api/matches/{attempt.pk}").json()
+        reply = self.rest("get", f"/api/matches/{attempt.pk}").json()
         self.assertEqual(
             (
-                told["matches"][0]["after"],
-                told["matches"][0]["verdict"],
-                told["solved"],
+                reply["matches"][0]["after"],
+                reply["matches"][0]["verdict"],
+                reply["solved"],
             ),
             (None, None, 0),
         )
 
     def test_another_teams_match_is_as_if_there_were_none(self) -> None:
-        for attempt in (self.running(played()), self.over(played())):
+        for attempt in (self.running(play_match()), self.over(play_match())):
             theirs = self.client_of("birch")
             none = 999_999
             for path in (
@@ -99,10 +99,10 @@ class Isolation(Hall):
                 "/api/matches/{}/replays/0",
             ):
                 with self.subTest(path):
-                    one = theirs.get(path.format(attempt.pk))
-                    other = theirs.get(path.format(none))
+                    first = theirs.get(path.format(attempt.pk))
+                    second = theirs.get(path.format(none))
                     self.assertEqual(
-                        (one.status_code, one.content), (404, other.content)
+                        (first.status_code, first.content), (404, second.content)
                     )
             for path in ("/matches/{}/close", "/api/matches/{}/close"):
                 self.assertEqual(theirs.post(path.format(attempt.pk)).status_code, 404)
@@ -114,7 +114,7 @@ class Isolation(Hall):
             self.assertEqual(Client().get(f"/matches/{attempt.pk}").status_code, 404)
 
     def test_paths_lead_nowhere_else(self) -> None:
-        attempt = self.over(played())
+        attempt = self.over(play_match())
         client = self.client_of("amber")
         for path in (
             "/static/../settings.py",
@@ -135,7 +135,7 @@ class Isolation(Hall):
                 self.assertIn(client.get(path).status_code, (400, 404))
 
     def test_texts_of_strangers_are_texts(self) -> None:
-        attempt = self.over(played())
+        attempt = self.over(play_match())
         client = self.client_of("birch")
         page = client.get("/").content.decode()
         self.assertIn("&lt;script&gt;alert(1)&lt;/script&gt; Łódź", page)
@@ -154,16 +154,16 @@ class Isolation(Hall):
         )
 
     def test_after_the_close_losses_are_told(self) -> None:
-        match = played(1)
-        match.tell(0, {"do": "depart", "port": 0})
+        match = play_match(1)
+        match.reply_to(0, {"do": "depart", "port": 0})
         match.deliver(0)
         attempt = self.over(match)
         self.assertContains(
             self.client_of("amber").get(f"/matches/{attempt.pk}"),
             "Agent 0 was lost by port 0",
         )
-        told = self.rest("get", f"/api/matches/{attempt.pk}").json()
-        self.assertEqual(told["matches"][0]["after"]["holes"], [1])
+        reply = self.rest("get", f"/api/matches/{attempt.pk}").json()
+        self.assertEqual(reply["matches"][0]["after"]["holes"], [1])
         replay = self.rest("get", f"/api/matches/{attempt.pk}/replays/0")
         self.assertEqual(
             b"".join(replay.streaming_content).decode(),

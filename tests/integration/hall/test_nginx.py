@@ -9,20 +9,20 @@ import unittest
 from typing import Any, List
 
 from arena_lab.hall.teams.guards import TRIES
-from tests.support.halls import Served, Told, told_by
+from tests.support.halls import ServedHall, Response, told_by
 from tests.support.proxies import NAME, Nginx
 
-HALL: List[Served] = []
+HALL: List[ServedHall] = []
 PROXY: List[Nginx] = []
 
 
 def setUpModule() -> None:
-    if Nginx.found() is None:
+    if Nginx.program_path() is None:
         raise unittest.SkipTest("Debian's nginx is not installed")
     folder = pathlib.Path(
         unittest.enterModuleContext(tempfile.TemporaryDirectory(prefix="hall-"))
     )
-    hall = Served(folder, f'https = true\nnames = ["{NAME}"]')
+    hall = ServedHall(folder, f'https = true\nnames = ["{NAME}"]')
     unittest.addModuleCleanup(hall.stop)
     hall.start()
     HALL.append(hall)
@@ -35,28 +35,28 @@ class BehindNginx(unittest.TestCase):
         self.tokens = HALL[0].tokens()
         self.proxy = PROXY[0]
 
-    def rest(self, token: str, address: str, said: Any = ()) -> int:
-        """The status of a request by this token, from this address, of who says of
-        himself to be at others."""
+    def rest(self, token: str, address: str, text: Any = ()) -> int:
+        """Sends a request with forged forwarding headers from an address, and returns
+        the status."""
         headers = [
             ("Authorization", f"Bearer {token}"),
-            *(("X-Forwarded-For", it) for it in said),
+            *(("X-Forwarded-For", it) for it in text),
         ]
         return self.proxy.ask("GET", "/api/networks", address, headers).status
 
-    def tries(self, name: str, address: str, said: Any = lambda number: ()) -> int:
-        """How many wrong tokens of a team are tried from an address until no more is
-        taken."""
+    def tries(self, name: str, address: str, text: Any = lambda number: ()) -> int:
+        """Returns how many wrong tokens of a team are tried from an address until no
+        more is taken."""
         for number in range(100):
-            status = self.rest(f"{name}.{number}", address, said(number))
+            status = self.rest(f"{name}.{number}", address, text(number))
             if status == 429:
                 return number
             self.assertEqual(status, 401)
         return 100
 
     def test_tries_are_limited_by_the_address_of_who_asks(self) -> None:
-        # on a slow machine there is one more after a minute; a token that was right
-        # before is no try
+        # a slow machine allows one more try after a minute; the token that worked
+        # before costs no try
         self.assertIn(self.tries("amber", "127.0.0.2"), range(TRIES, TRIES + 5))
         self.assertEqual(self.rest(self.tokens["amber"], "127.0.0.2"), 429)
         self.assertEqual(self.rest(self.tokens["amber"], "127.0.0.3"), 200)
@@ -82,14 +82,16 @@ class BehindNginx(unittest.TestCase):
         self.assertIn("Secure", cookie)
         secret = re.search(rb'name="csrfmiddlewaretoken" value="(\w+)"', page.body)
         assert secret is not None
-        told = self.post(
+        response = self.post(
             cookie,
             f"csrfmiddlewaretoken={secret[1].decode()}&token={self.tokens['cedar']}",
         )
-        self.assertEqual((told.status, told.headers["Location"]), (302, "/matches"))
+        self.assertEqual(
+            (response.status, response.headers["Location"]), (302, "/matches")
+        )
         self.assertEqual(self.post(cookie, f"token={self.tokens['cedar']}").status, 403)
 
-    def post(self, cookie: str, body: str) -> Told:
+    def post(self, cookie: str, body: str) -> Response:
         return self.proxy.ask(
             "POST",
             "/login",
@@ -105,17 +107,18 @@ class BehindNginx(unittest.TestCase):
     def test_a_class_that_asks_at_once_is_answered(self) -> None:
         """All of it comes from nginx's address."""
         with concurrent.futures.ThreadPoolExecutor(24) as pool:
-            found = list(
+            results = list(
                 pool.map(
                     lambda _: self.rest(self.tokens["cedar"], "127.0.0.7"), range(72)
                 )
             )
-        self.assertEqual(found, [200] * 72)
+        self.assertEqual(results, [200] * 72)
 
     def test_who_asks_without_encryption_is_sent_to_the_other_port(self) -> None:
-        told = told_by(self.proxy.plain, "GET", "/login", {"Host": NAME})
+        response = told_by(self.proxy.plain, "GET", "/login", {"Host": NAME})
         self.assertEqual(
-            (told.status, told.headers["Location"]), (301, f"https://{NAME}/login")
+            (response.status, response.headers["Location"]),
+            (301, f"https://{NAME}/login"),
         )
 
 
@@ -127,9 +130,9 @@ class Headers(unittest.TestCase):
         """Caddy passes on X_Forwarded_For, which Python's interface of web servers
         cannot tell from the true one."""
         hall = HALL[0]
-        found = []
+        results = []
         for number in range(TRIES + 5):
-            found.append(
+            results.append(
                 told_by(
                     hall.port,
                     "GET",
@@ -142,4 +145,4 @@ class Headers(unittest.TestCase):
                     },
                 ).status
             )
-        self.assertIn(429, found)
+        self.assertIn(429, results)

@@ -6,8 +6,8 @@ from unittest import mock
 from tests.integration.hall.hall_pages import (
     PASSWORD,
     Hall,
-    halled,
-    played,
+    hall_with,
+    play_match,
     stopped_clock,
 )
 
@@ -27,8 +27,8 @@ class Frame(Hall):
             "{% block main %}{{ language }} {{ languages }}{% endblock %}"
         )
         page = engines["django"].from_string(text)
-        told = page.render({"language": "python", "languages": "all kits"})
-        self.assertIn("python all kits", told)
+        message = page.render({"language": "python", "languages": "all kits"})
+        self.assertIn("python all kits", message)
 
 
 class Logins(Hall):
@@ -41,12 +41,12 @@ class Logins(Hall):
     def test_a_team_is_told_what_hand_ins_are_graded_by(self) -> None:
         client = self.client_of("amber")
         self.assertContains(client.get("/hand-ins"), "/hand-ins/conditions.toml")
-        told = client.get("/hand-ins/conditions.toml").content.decode()
-        self.assertIn('networks = ["ring:5"]\n', told)
-        self.assertIn('schedulers = ["fair"]\n', told)
+        reply = client.get("/hand-ins/conditions.toml").content.decode()
+        self.assertIn('networks = ["ring:5"]\n', reply)
+        self.assertIn('schedulers = ["fair"]\n', reply)
         # neither the networks of the secret draw nor a team is there
-        self.assertNotIn("ring:6", told)
-        self.assertNotIn("[[team]]", told)
+        self.assertNotIn("ring:6", reply)
+        self.assertNotIn("[[team]]", reply)
         self.assertEqual(client.get("/hand-ins/conditions-99.toml").status_code, 404)
         self.assertEqual(Client().get("/hand-ins/conditions.toml").status_code, 302)
 
@@ -68,7 +68,7 @@ class Logins(Hall):
         )
 
     def test_one_who_tries_tokens_keeps_no_other_of_the_class_out(self) -> None:
-        """All of it comes from one address, as from a lecture hall."""
+        """All tries come from one address, as from a lecture hall."""
         answers = [
             Client()
             .get("/api/matches", HTTP_AUTHORIZATION=f"Bearer x{number}.y")
@@ -86,11 +86,11 @@ class Logins(Hall):
             Client().post("/login", {"token": self.tokens["birch"]}).status_code, 302
         )
         self.assertEqual(self.rest("get", "/api/matches", "cedar").status_code, 200)
-        told = Client().post(
+        response = Client().post(
             "/teacher/login/",
             {"username": "teacher", "password": PASSWORD, "next": "/teacher/"},
         )
-        self.assertEqual(told.status_code, 302)
+        self.assertEqual(response.status_code, 302)
 
     def test_a_right_token_that_is_tried_many_times_at_once_is_not_refused(
         self,
@@ -98,18 +98,18 @@ class Logins(Hall):
         """Each try begins while those before it are still looked at."""
         request = RequestFactory().get("/")
         team_of = logins.team_of
-        begun = iter(range(2 * guards.TRIES))
+        start = iter(range(2 * guards.TRIES))
 
         def looked_at(token: str) -> Optional[Team]:
             return (
                 team_of(token)
-                if next(begun, None) is None
-                else logins.tried(request, token)
+                if next(start, None) is None
+                else logins.team_of_token(request, token)
             )
 
         with mock.patch.object(logins, "team_of", looked_at):
             self.assertEqual(
-                logins.tried(request, self.tokens["amber"]), self.team("amber")
+                logins.team_of_token(request, self.tokens["amber"]), self.team("amber")
             )
 
     def test_a_teacher_who_is_logged_in_is_no_stranger(self) -> None:
@@ -124,7 +124,7 @@ class Logins(Hall):
     def test_who_asks_is_an_address_or_a_network_of_the_sixth_version(self) -> None:
         """An address has many spellings, and whoever has one of IPv6 has all of its
         network."""
-        for said, wanted in (
+        for message, expectation in (
             ("192.0.2.7", "192.0.2.7"),
             ("::ffff:192.0.2.7", "192.0.2.7"),
             ("2001:db8::7", "2001:db8::/64"),
@@ -137,10 +137,10 @@ class Logins(Hall):
             # what a stranger says of himself is not read: waitress has it of the server
             # before the hall
             request = RequestFactory().get(
-                "/", HTTP_X_FORWARDED_FOR="10.0.0.1", REMOTE_ADDR=said
+                "/", HTTP_X_FORWARDED_FOR="10.0.0.1", REMOTE_ADDR=message
             )
-            with self.subTest(said):
-                self.assertEqual(guards.address_of(request), wanted)
+            with self.subTest(message):
+                self.assertEqual(guards.address_of(request), expectation)
 
     def test_the_password_is_limited_too(self) -> None:
         for _ in range(guards.TRIES):
@@ -187,8 +187,7 @@ class Logins(Hall):
             )
 
     def test_a_session_begins_anew(self) -> None:
-        """A session that a stranger has planted in a browser is not the one that logs
-        in."""
+        """A session planted in a browser by a stranger is replaced at login."""
         client = Client()
         client.get("/login")
         client.post("/login", {"token": self.tokens["amber"]})
@@ -233,7 +232,7 @@ class Forgeries(Hall):
 
     def test_nothing_changes_by_get(self) -> None:
         client = self.client_of("amber")
-        attempt = self.running(played())
+        attempt = self.running(play_match())
         for path in (
             "/matches/ask?network=ring of 5",
             f"/matches/{attempt.pk}/close",
@@ -278,16 +277,16 @@ class Attempts(Hall):
             ({"network": "' OR 1=1; DROP TABLE teams_team; --"}, 404),
         ):
             with self.subTest(body):
-                told = self.rest("post", "/api/matches", body=body)
-                self.assertEqual(told.status_code, status)
-                self.assertEqual(list(told.json()), ["error"])
+                reply = self.rest("post", "/api/matches", body=body)
+                self.assertEqual(reply.status_code, status)
+                self.assertEqual(list(reply.json()), ["error"])
 
     def test_limits(self) -> None:
-        asked = [
+        request = [
             self.rest("post", "/api/matches", body={"network": "ring of 5"}).status_code
             for _ in range(3)
         ]
-        self.assertEqual(asked, [201, 201, 429])
+        self.assertEqual(request, [201, 201, 429])
         # another team is not kept from its own
         self.assertEqual(
             self.rest(
@@ -307,7 +306,7 @@ class Attempts(Hall):
         self.assertContains(self.client_of("amber").get("/matches"), "closed")
 
     def test_who_has_too_many_files_loses_old_practice(self) -> None:
-        old = self.over(played())
+        old = self.over(play_match())
         Attempt.objects.filter(pk=old.pk).update(size=300 << 20)
         self.assertEqual(
             self.rest(
@@ -320,10 +319,10 @@ class Attempts(Hall):
             (old.size, old.folder.exists(), old.matches.get().outcome),
             (0, False, "solved"),
         )
-        running = self.running(played())
+        running = self.running(play_match())
         Attempt.objects.filter(pk=running.pk).update(size=300 << 20)
-        told = self.rest("post", "/api/matches", body={"network": "ring of 5"})
-        self.assertEqual((told.status_code, running.folder.exists()), (429, True))
+        reply = self.rest("post", "/api/matches", body={"network": "ring of 5"})
+        self.assertEqual((reply.status_code, running.folder.exists()), (429, True))
 
     def test_bodies_that_are_too_large_or_too_deep(self) -> None:
         for length, name, status in (
@@ -335,21 +334,23 @@ class Attempts(Hall):
                 {"HTTP_AUTHORIZATION": f"Bearer {self.tokens['amber']}"} if name else {}
             )
             self.rest("get", "/api/matches")
-            told = Client().post(
+            response = Client().post(
                 "/api/matches", b"[" * length, content_type="application/json", **token
             )
-            self.assertEqual(told.status_code, status)
-        told = Client().post("/login", {"token": "amber\0.x"})
-        self.assertEqual(told.status_code, 400)
-        told = self.rest("post", "/api/matches", body={"network": "ring\0of 5"})
-        self.assertEqual(told.status_code, 400)
+            self.assertEqual(response.status_code, status)
+        response = Client().post("/login", {"token": "amber\0.x"})
+        self.assertEqual(response.status_code, 400)
+        response = self.rest("post", "/api/matches", body={"network": "ring\0of 5"})
+        self.assertEqual(response.status_code, 400)
 
     def test_floods_are_refused_and_slow_no_other_team(self) -> None:
-        with stopped_clock(), halled(limits=settings.HALL.limits._replace(requests=30)):
+        with stopped_clock(), hall_with(
+            limits=settings.HALL.limits._replace(requests=30)
+        ):
             answers = [self.rest("get", "/api/matches").status_code for _ in range(60)]
             self.assertEqual((answers[0], answers[-1]), (200, 429))
-            told = self.rest("get", "/api/matches")
-            self.assertGreaterEqual(int(told["Retry-After"]), 1)
+            reply = self.rest("get", "/api/matches")
+            self.assertGreaterEqual(int(reply["Retry-After"]), 1)
             self.assertEqual(self.rest("get", "/api/matches", "birch").status_code, 200)
             # a new session of the same team has no new requests
             self.assertEqual(self.rest("get", "/api/matches").status_code, 429)

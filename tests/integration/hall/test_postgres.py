@@ -10,7 +10,7 @@ from typing import Any, Dict, Iterator, List
 
 from arena_lab.support.ports import free_port
 from tests.support import halls
-from tests.support.halls import Served, play
+from tests.support.halls import ServedHall, play
 
 # where Debian has the programs of a server of PostgreSQL, which does not run as root
 PROGRAMS = (
@@ -79,7 +79,7 @@ class Postgres(halls.Playing):
             cwd="/",
         )
 
-    def machine(self, hall: Served) -> Any:
+    def machine(self, hall: ServedHall) -> Any:
         """Another machine, which works for the hall."""
         variables = {
             **os.environ,
@@ -96,49 +96,52 @@ class Postgres(halls.Playing):
             self.addCleanup(clean)
         return child
 
-    def tried(self, hall: Served, token: str) -> None:
+    def try_draft(self, hall: ServedHall, token: str) -> None:
         """A draft is kept and tried, and its trial is over."""
         draft = hall.ask("GET", "/api/drafts/python", token).json()
         draft["files"]["agent.py"] += "# \u20ac\n"
-        told = hall.ask("PUT", "/api/drafts/python", token, draft)
-        self.assertEqual(told.json()["version"], 1)
-        asked = {**draft, "kind": "play", "network": "ring of 5"}
-        made = hall.ask("POST", "/api/trials", token, asked).json()
+        reply = hall.ask("PUT", "/api/drafts/python", token, draft)
+        self.assertEqual(reply.json()["version"], 1)
+        request = {**draft, "kind": "play", "network": "ring of 5"}
+        made = hall.ask("POST", "/api/trials", token, request).json()
         path = f"/api/trials/{made['id']}"
 
         def over() -> Any:
-            found = hall.ask("GET", path, token).json()
-            return found if found["state"] == "over" else None
+            result = hall.ask("GET", path, token).json()
+            return result if result["state"] == "over" else None
 
-        found = hall.wait(over, "the trial is over")
-        self.assertTrue(found["found"]["right"], found)
+        result = hall.wait(over, "the trial is over")
+        self.assertTrue(result["found"]["right"], result)
 
     def test_matches_go_on_whoever_is_killed(self) -> None:
         database = f'database = "postgresql://hall@127.0.0.1:{self.port}/hall"'
-        more = database + '\neditor = { languages = ["python"] }'
-        with halls.served(more, workers=0) as hall:
+        extra = database + '\neditor = { languages = ["python"] }'
+        with halls.serve_hall(extra, workers=0) as hall:
             tokens = hall.tokens()
-            others = [self.machine(hall), self.machine(hall)]
-            first = hall.asked(tokens["amber"])
-            self.ended(play(hall.begins(tokens["amber"], first)))
+            rest = [self.machine(hall), self.machine(hall)]
+            first = hall.request_attempt(tokens["amber"])
+            self.end_agents(play(hall.begins(tokens["amber"], first)))
             before = hall.over(tokens["amber"], first)
             self.assertEqual(
                 (before["solved"], before["matches"][0]["host"]), (1, "localhost")
             )
-            self.tried(hall, tokens["birch"])
-            numbers = {name: hall.asked(token) for name, token in tokens.items()}
+            self.try_draft(hall, tokens["birch"])
+            numbers = {
+                name: hall.request_attempt(token) for name, token in tokens.items()
+            }
             for name, number in numbers.items():
                 hall.begins(tokens[name], number)
-            for other in others:
-                other.kill()
+            for second in rest:
+                second.kill()
             self.machine(hall)
-            for told in self.again(hall, numbers):
-                self.ended(play(told))
+            for message in self.again(hall, numbers):
+                self.end_agents(play(message))
             for name, number in numbers.items():
                 self.assertEqual(hall.over(tokens[name], number)["solved"], 1)
             self.assertEqual(hall.servers(), [])
             self.assertEqual(
-                halls.came(hall.over(tokens["amber"], first)), halls.came(before)
+                halls.result_of(hall.over(tokens["amber"], first)),
+                halls.result_of(before),
             )
             archive = self.folder / "hall.tar.gz"
             path = f"{PROGRAMS[-1]}:{os.environ['PATH']}"
@@ -149,7 +152,7 @@ class Postgres(halls.Playing):
                 stdout=subprocess.DEVNULL,
                 env={**os.environ, "PATH": path},
             )
-            number = hall.asked(tokens["cedar"])
+            number = hall.request_attempt(tokens["cedar"])
             hall.ask("POST", f"/api/matches/{number}/close", tokens["cedar"])
             hall.over(tokens["cedar"], number)
             hall.stop()
@@ -165,13 +168,16 @@ class Postgres(halls.Playing):
                 hall.ask("GET", f"/api/matches/{number}", tokens["cedar"]).status, 404
             )
             self.assertEqual(
-                halls.came(hall.over(tokens["amber"], first)), halls.came(before)
+                halls.result_of(hall.over(tokens["amber"], first)),
+                halls.result_of(before),
             )
             self.assertEqual(
                 len(list(hall.folder.parent.glob("trial.hall.*/hall.sql"))), 1
             )
 
-    def again(self, hall: Served, numbers: Dict[str, int]) -> Iterator[Dict[str, Any]]:
+    def again(
+        self, hall: ServedHall, numbers: Dict[str, int]
+    ) -> Iterator[Dict[str, Any]]:
         """The attempts once their second runs have begun."""
         for name, number in numbers.items():
             path = hall.folder / "attempts" / str(number) / "run2"

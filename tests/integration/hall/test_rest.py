@@ -5,18 +5,18 @@ from typing import Dict
 from tests.integration.hall.hall_pages import (
     Hall,
     contest_of,
-    graded,
-    halled,
-    played,
+    make_grading,
+    hall_with,
+    play_match,
 )
 
-from arena_lab.commands.trial import bounded
+from arena_lab.commands.trial import bound_report
 from arena_lab.course.mistaken_lines import LineMark
 from arena_lab.hall.attempts.models import Attempt
 from arena_lab.hall.course import EditorRules
 from arena_lab.hall.drafts.models import Trial
 
-FOUND = bounded({"right": False, "said": ["wrong"]})
+FOUND = bound_report({"right": False, "said": ["wrong"]})
 
 
 class Documented(Hall):
@@ -26,14 +26,14 @@ class Documented(Hall):
         import jsonschema
 
         document = self.rest("get", "/api/openapi.json", "").json()
-        self.over(played())
-        self.running(played())
+        self.over(play_match())
+        self.running(play_match())
         self.rest("post", "/api/matches", body={"network": "torus with a map"})
         contest = contest_of()
-        graded("amber", contest=contest)
-        given = halled(editor=EditorRules(["python"], 20, 60, 2, 500, 0))
-        given.start()
-        self.addCleanup(given.stop)
+        make_grading("amber", contest=contest)
+        hall = hall_with(editor=EditorRules(["python"], 20, 60, 2, 500, 0))
+        hall.start()
+        self.addCleanup(hall.stop)
         trial = Trial.objects.create(
             team=self.team("amber"),
             language="python",
@@ -52,7 +52,7 @@ class Documented(Hall):
             "/drafts": {},
             "/trials": {},
         }
-        numbers = [it.pk for it in Attempt.objects.all()]
+        numbers = [attempt.pk for attempt in Attempt.objects.all()]
         paths: Dict[str, str] = {
             **{path: path for path in answers},
             "/openapi.json": "/openapi.json",
@@ -63,20 +63,20 @@ class Documented(Hall):
             f"/trials/{trial.pk}/files": "/trials/{id}/files",
         }
         for path, name in paths.items():
-            told = self.rest("get", f"/api{path}")
+            reply = self.rest("get", f"/api{path}")
             schema = document["paths"][name]["get"]["responses"]["200"]["content"][
                 "application/json"
             ]["schema"]
             with self.subTest(path):
                 jsonschema.validate(
-                    told.json(), {**schema, "components": document["components"]}
+                    reply.json(), {**schema, "components": document["components"]}
                 )
 
     def test_each_path_stands_in_the_file(self) -> None:
         from arena_lab.hall.urls import API
 
         document = self.rest("get", "/api/openapi.json", "").json()
-        found = {
+        results = {
             "/"
             + re.sub(
                 "<(?:number|language):(number|match|language)>",
@@ -85,4 +85,4 @@ class Documented(Hall):
             )
             for entry in API
         }
-        self.assertEqual(set(document["paths"]), found)
+        self.assertEqual(set(document["paths"]), results)

@@ -79,41 +79,40 @@ StandardError=file:/opt/told/log.txt
 )
 class Files(unittest.TestCase):
     def test_systemd_understands_the_file(self) -> None:
-        """The commands that it names are there once the package is installed; here they
-        are others."""
+        """Replaces the installed commands named in the unit file by existing ones."""
         with tempfile.TemporaryDirectory() as name:
-            place = pathlib.Path(name) / UNIT.name
+            path = pathlib.Path(name) / UNIT.name
             text = UNIT.read_text(encoding="utf-8")
             self.assertIn("ExecStart=/usr/bin/arena-lab ", text)
-            place.write_text(
+            path.write_text(
                 text.replace("ExecStart=/usr/bin/arena-lab ", "ExecStart=/bin/echo ")
             )
-            said = self.analyze("verify", "--man=no", str(place))
-        self.assertEqual([line for line in said if "arena-hall" in line], [])
+            output = self.analyze("verify", "--man=no", str(path))
+        self.assertEqual([line for line in output if "arena-hall" in line], [])
 
     def test_systemd_finds_it_little_exposed(self) -> None:
-        said = self.analyze(
+        output = self.analyze(
             "security",
             "--offline=true",
             "--no-pager",
             f"--threshold={MOST_EXPOSED}",
             str(UNIT),
         )
-        self.assertIn("Overall exposure level", said[-1])
+        self.assertIn("Overall exposure level", output[-1])
 
     def analyze(self, *words: str) -> List[str]:
-        done = subprocess.run(
+        result = subprocess.run(
             ["systemd-analyze", *words],
             text=True,
             stdout=subprocess.PIPE,
             stderr=subprocess.STDOUT,
         )
-        self.assertEqual(done.returncode, 0, done.stdout[-1500:])
-        return done.stdout.splitlines() or [""]
+        self.assertEqual(result.returncode, 0, result.stdout[-1500:])
+        return result.stdout.splitlines() or [""]
 
 
 def has_all() -> bool:
-    """Whether one may make namespaces here, and there is a systemd."""
+    """Returns whether namespaces and systemd are available."""
     return (
         os.geteuid() == 0
         and pathlib.Path(SYSTEMD).exists()
@@ -131,17 +130,24 @@ class Service(unittest.TestCase):
         """A match is played, a program that is handed in is graded behind its walls,
         and a stop leaves nothing."""
         with tempfile.TemporaryDirectory(prefix="service-") as name:
-            told = self.played(pathlib.Path(name))
-        self.assertEqual((told["match"], told["graded"]), ("solved", [1, 1]), told)
+            message = self.play(pathlib.Path(name))
         self.assertEqual(
-            (told["user"], told["capabilities"], told["result"], told["left"]),
-            ("arena-hall", "0000000000000000", "success", []),
-            told,
+            (message["match"], message["graded"]), ("solved", [1, 1]), message
         )
-        self.assertLess(told["seconds_to_stop"], 20)
+        self.assertEqual(
+            (
+                message["user"],
+                message["capabilities"],
+                message["result"],
+                message["left"],
+            ),
+            ("arena-hall", "0000000000000000", "success", []),
+            message,
+        )
+        self.assertLess(message["seconds_to_stop"], 20)
 
-    def played(self, folder: pathlib.Path) -> Any:
-        """What the play inside has told."""
+    def play(self, folder: pathlib.Path) -> Any:
+        """Runs the service and returns its report."""
         for name in ("base", "told"):
             (folder / name).mkdir()
         (folder / "arena-lab").write_text(LAB_COMMAND)
@@ -183,11 +189,11 @@ class Service(unittest.TestCase):
                 stdout=subprocess.DEVNULL,
                 stderr=faults,
             )
-        said = "\n".join(
+        output = "\n".join(
             path.read_text(errors="replace")[-3000:]
             for path in (folder / "first.txt", folder / "told" / "log.txt")
             if path.exists()
         )
-        place = folder / "told" / "told.json"
-        self.assertTrue(place.exists(), said)
-        return json.loads(place.read_text())
+        path = folder / "told" / "told.json"
+        self.assertTrue(path.exists(), output)
+        return json.loads(path.read_text())

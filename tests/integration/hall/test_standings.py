@@ -6,7 +6,13 @@ from typing import Any, Dict
 from unittest import mock
 
 from arena_lab.hall import machine
-from tests.integration.hall.hall_pages import Hall, contest_of, graded, halled, played
+from tests.integration.hall.hall_pages import (
+    Hall,
+    contest_of,
+    make_grading,
+    hall_with,
+    play_match,
+)
 
 from django.conf import settings
 from django.test import Client
@@ -30,26 +36,26 @@ class Standings(Hall):
         ]
 
     def test_the_last_hand_in_counts_and_who_has_none_stands_last(self) -> None:
-        graded("amber", 2)
-        graded("amber", 1)
-        graded("birch", 1, 9)
+        make_grading("amber", 2)
+        make_grading("amber", 1)
+        make_grading("birch", 1, 9)
         self.assertEqual(
             self.rows(), [(1, "amber", 1), (2, "birch", 1), (3, "cedar", 0)]
         )
-        told = self.rest("get", "/api/standings").json()
+        reply = self.rest("get", "/api/standings").json()
         self.assertEqual(
             (
-                told["networks"],
-                told["teams"][0]["cells"],
-                told["secret"],
-                told["frozen"],
+                reply["networks"],
+                reply["teams"][0]["cells"],
+                reply["secret"],
+                reply["frozen"],
             ),
             (["ring:5"], [{"solved": 1, "matches": 2}], False, None),
         )
-        self.assertTrue(told["teams"][2]["absent"])
+        self.assertTrue(reply["teams"][2]["absent"])
 
     def test_practice_is_not_ranked(self) -> None:
-        self.over(played())
+        self.over(play_match())
         self.assertTrue(
             all(
                 row["absent"]
@@ -58,10 +64,10 @@ class Standings(Hall):
         )
 
     def test_the_freeze_hides_what_came_later_from_all_but_the_teacher(self) -> None:
-        graded("amber", 1)
+        make_grading("amber", 1)
         freeze = timezone.now()
-        graded("amber", 2)
-        with halled(freeze=freeze):
+        make_grading("amber", 2)
+        with hall_with(freeze=freeze):
             self.assertEqual(self.rows()[0], (1, "amber", 1))
             self.assertTrue(self.rest("get", "/api/standings").json()["frozen"])
             for path in ("/", "/screen"):
@@ -71,22 +77,22 @@ class Standings(Hall):
             self.assertContains(self.teacher().get("/screen"), "Frozen since")
 
     def test_an_unveiling_shows_what_it_names(self) -> None:
-        """It ends the freezes before it and none after it, and shows nothing of a
-        contest or of the secret draw."""
-        graded("amber", 1)
+        """An unveiling ends the freezes before it only, and does not affect contests or
+        the secret draw."""
+        make_grading("amber", 1)
         freeze = timezone.now()
-        graded("amber", 2)
-        graded("birch", 1, is_secret=True)
+        make_grading("amber", 2)
+        make_grading("birch", 1, is_secret=True)
         contest = contest_of(freeze=freeze)
         Reveal.objects.create(at=freeze - timezone.timedelta(seconds=1))
         Reveal.objects.create(contest=contest)
         Reveal.objects.create(contest=contest, what=Reveal.SECRET)
-        with halled(freeze=freeze):
+        with hall_with(freeze=freeze):
             self.assertEqual(self.rows()[0], (1, "amber", 1))
             Reveal.objects.create()
-            told = self.rest("get", "/api/standings").json()
+            reply = self.rest("get", "/api/standings").json()
             self.assertEqual(
-                (self.rows()[0], told["frozen"], told["secret"]),
+                (self.rows()[0], reply["frozen"], reply["secret"]),
                 ((1, "amber", 2), None, False),
             )
             Reveal.objects.create(what=Reveal.SECRET)
@@ -96,22 +102,22 @@ class Standings(Hall):
             self.assertTrue(self.rest("get", "/api/standings").json()["secret"])
 
     def test_a_final_table_says_which_hand_ins_are_not_graded(self) -> None:
-        """It is not unveiled unawares, and who is not graded is not absent."""
+        """Teams without a grade are listed as such, and not as absent."""
         for name in ("amber", "birch"):
-            work = graded(name, is_secret=True)
+            work = make_grading(name, is_secret=True)
         Grading.objects.filter(pk=work.pk).update(state=machine.LOST)
         client = self.teacher()
         form = {"contest": "", "what": Reveal.SECRET}
         name = "&lt;script&gt;alert(1)&lt;/script&gt; Łódź"
-        said = f"The last hand-ins of these teams are not graded: {name}"
-        told = client.post("/teacher/standings/reveal/add/", form)
-        self.assertContains(told, said)
+        output = f"The last hand-ins of these teams are not graded: {name}"
+        response = client.post("/teacher/standings/reveal/add/", form)
+        self.assertContains(response, output)
         self.assertFalse(Reveal.objects.exists())
         client.post("/teacher/standings/reveal/add/", {**form, "anyway": "on"})
         self.assertTrue(Reveal.objects.exists())
         self.assertContains(
             self.client_of("amber").get("/"),
-            f'<p class="refusal" role="alert">{said}</p>',
+            f'<p class="refusal" role="alert">{output}</p>',
         )
         self.assertEqual(
             [
@@ -134,7 +140,7 @@ class Standings(Hall):
             [Client().get(path).status_code for path in ("/", "/screen")], [302, 302]
         )
         self.assertEqual(Client().get("/api/standings").status_code, 401)
-        with halled(public=True):
+        with hall_with(public=True):
             self.assertEqual(
                 [
                     Client().get(path).status_code
@@ -144,11 +150,11 @@ class Standings(Hall):
             )
 
     def test_tables_are_made_once_however_often_they_are_asked_for(self) -> None:
-        kept = {
+        record = {
             **settings.CACHES,
             "default": {"BACKEND": "django.core.cache.backends.locmem.LocMemCache"},
         }
-        with self.settings(CACHES=kept), mock.patch.object(
+        with self.settings(CACHES=record), mock.patch.object(
             tables, "tables", wraps=tables.tables
         ) as made:
             for name in ("amber", "birch", "cedar"):
@@ -163,7 +169,7 @@ class Standings(Hall):
         self.assertContains(self.teacher().get("/teacher/standings.csv"), "cedar")
 
     def test_the_table_for_a_gradebook(self) -> None:
-        graded("amber", 1)
+        make_grading("amber", 1)
         client = self.teacher()
         self.assertContains(client.get("/"), 'href="/teacher/standings.csv"')
         table = client.get("/teacher/standings.csv").content.decode().splitlines()
@@ -211,7 +217,7 @@ class Contests(Hall):
         for _ in range(settings.HALL.hand_ins.a_day + 2):
             self.assertEqual(self.status_of(contest.pk), 201)
             Grading.objects.update(state=machine.OVER)
-            taking.sent.clear()
+            taking.submissions.clear()
         hour = timezone.timedelta(hours=1)
         Contest.objects.update(
             start=timezone.now() + hour, end=timezone.now() + 2 * hour
@@ -258,8 +264,8 @@ class Contests(Hall):
         self.assertEqual(taking.grade_secretly(now + 2 * minute), 1)
         self.assertEqual(
             [
-                it.hand_in.team.name
-                for it in Grading.objects.filter(is_secret=True).order_by("pk")
+                grading.hand_in.team.name
+                for grading in Grading.objects.filter(is_secret=True).order_by("pk")
             ],
             ["birch", "amber"],
         )
@@ -267,34 +273,40 @@ class Contests(Hall):
     def test_all_teams_have_one_secret_draw_and_contests_have_different_ones(
         self,
     ) -> None:
-        one = contest_of()
-        other = contest_of()
-        drawn = [
-            grading.drawn_from(graded(name, is_secret=True, contest=contest))
-            for contest in (one, other, None)
+        first = contest_of()
+        second = contest_of()
+        draw = [
+            grading.drawn_from(make_grading(name, is_secret=True, contest=contest))
+            for contest in (first, second, None)
             for name in ("amber", "birch")
         ]
-        self.assertEqual((drawn[0], drawn[2], drawn[4]), (drawn[1], drawn[3], drawn[5]))
-        self.assertEqual(len(set(drawn)), 3)
+        self.assertEqual((draw[0], draw[2], draw[4]), (draw[1], draw[3], draw[5]))
+        self.assertEqual(len(set(draw)), 3)
         self.assertEqual(
-            len({grading.drawn_from(graded("amber", contest=one)) for _ in range(2)}), 2
+            len(
+                {
+                    grading.drawn_from(make_grading("amber", contest=first))
+                    for _ in range(2)
+                }
+            ),
+            2,
         )
 
     def test_its_table_freezes_and_is_unveiled_by_itself(self) -> None:
         contest = contest_of()
-        graded("amber", 1, contest=contest)
+        make_grading("amber", 1, contest=contest)
         Contest.objects.update(freeze=timezone.now())
-        graded("birch", 2, contest=contest)
+        make_grading("birch", 2, contest=contest)
         path = f"/api/contests/{contest.pk}"
 
-        def told() -> Any:
+        def unveil() -> Any:
             return [
                 row["team"]
                 for row in self.rest("get", path).json()["teams"]
                 if not row["absent"]
             ]
 
-        self.assertEqual(told(), ["amber"])
+        self.assertEqual(unveil(), ["amber"])
         for page in (f"/contests/{contest.pk}", f"/contests/{contest.pk}/screen"):
             self.assertContains(self.client_of("amber").get(page), "Frozen since")
             self.assertContains(self.client_of("amber").get(page), "torus with a map")
@@ -303,9 +315,9 @@ class Contests(Hall):
             self.teacher().get(f"/teacher/contests/{contest.pk}.csv"), "1,birch,"
         )
         Reveal.objects.create()
-        self.assertEqual(told(), ["amber"])
+        self.assertEqual(unveil(), ["amber"])
         Reveal.objects.create(contest=contest)
-        self.assertEqual(told(), ["birch", "amber"])
+        self.assertEqual(unveil(), ["birch", "amber"])
         self.assertTrue(
             all(
                 row["absent"]
@@ -317,7 +329,7 @@ class Contests(Hall):
         client = self.teacher()
         now = timezone.localtime()
 
-        def planned(networks: Any, hours: int, length: int, freeze: int = 0) -> int:
+        def plan(networks: Any, hours: int, length: int, freeze: int = 0) -> int:
             row: Dict[str, Any] = {"name": "x", "networks": networks}
             for name, moment in (
                 ("start", hours),
@@ -333,15 +345,15 @@ class Contests(Hall):
             client.post("/teacher/handins/contest/add/", row)
             return Contest.objects.count()
 
-        for refused in (
+        for refusal in (
             (["ring of five"], 1, 1),
             ([], 1, 1),
             (["ring of 5"], -1, 3),
             (["ring of 5"], 2, -1),
             (["ring of 5"], 1, 1, 9),
         ):
-            self.assertEqual(planned(*refused), 0, refused)
-        self.assertEqual(planned(["ring of 5", "torus with a map"], 1, 2, 2), 1)
+            self.assertEqual(plan(*refusal), 0, refusal)
+        self.assertEqual(plan(["ring of 5", "torus with a map"], 1, 2, 2), 1)
         self.assertEqual(
             Contest.objects.get().networks, ["ring of 5", "torus with a map"]
         )

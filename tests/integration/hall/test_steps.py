@@ -20,7 +20,7 @@ from arena_lab.hall.machine import (
 from tests.support import halls
 from tests.support.job_states import EVENTS, STATES, JobState, after
 
-halls.begun()
+halls.started_hall()
 
 from django.conf import settings as django_settings  # noqa: E402
 from django.core.management import call_command  # noqa: E402
@@ -34,7 +34,7 @@ from arena_lab.hall.attempts.models import Attempt  # noqa: E402
 from arena_lab.hall.handins import grading  # noqa: E402
 from arena_lab.hall.handins.models import Grading, HandIn  # noqa: E402
 from arena_lab.hall import steps  # noqa: E402
-from arena_lab.hall.steps import Watch, claimed, lose, step  # noqa: E402
+from arena_lab.hall.steps import Watch, claim_work, lose, step  # noqa: E402
 from arena_lab.hall.teams.models import Entry, Team  # noqa: E402
 
 
@@ -61,8 +61,8 @@ def of(team: str) -> Any:
     return Team.objects.get(name=team)
 
 
-def attempt(team: str = "amber", **given: Any) -> Any:
-    return Attempt.objects.create(team=of(team), network="ring of 5", **given)
+def attempt(team: str = "amber", **args: Any) -> Any:
+    return Attempt.objects.create(team=of(team), network="ring of 5", **args)
 
 
 class Steps(TestCase):
@@ -79,29 +79,29 @@ class Steps(TestCase):
                         state=state, holder=holder
                     )
                     before = JobState(state, holder)
-                    wanted = after(before, event, actor)
-                    self.assertEqual(step(work, event, actor), wanted is not None)
+                    expectation = after(before, event, actor)
+                    self.assertEqual(step(work, event, actor), expectation is not None)
                     work.refresh_from_db()
                     self.assertEqual(
-                        JobState(work.state, work.holder), wanted or before
+                        JobState(work.state, work.holder), expectation or before
                     )
                     count += 1
         self.assertGreater(count, 100)
 
     def test_one_of_two_workers_claims(self) -> None:
-        one = attempt()
-        other = None
-        other = Attempt.objects.get(pk=one.pk)
-        self.assertTrue(claimed(one))
-        self.assertIsNone(claimed(other))
+        first = attempt()
+        second = None
+        second = Attempt.objects.get(pk=first.pk)
+        self.assertTrue(claim_work(first))
+        self.assertIsNone(claim_work(second))
 
     def test_work_is_lost_once_its_worker_is_silent_and_not_before(self) -> None:
         """However the clock of the machine is set meanwhile."""
         work = attempt()
-        holder = str(claimed(work))
+        holder = str(claim_work(work))
         step(work, machine.BEGIN, holder)
         watch = Watch(Attempt)
-        for seconds, event, wanted in (
+        for seconds, event, expectation in (
             (0.0, "", RUNNING),
             (0.9, machine.RENEW, RUNNING),
             (1.8, "", RUNNING),
@@ -112,7 +112,7 @@ class Steps(TestCase):
                 with mock.patch.object(timezone, "now", lambda: day):
                     self.assertEqual(watch.look(), {work.pk})
             work.refresh_from_db()
-            self.assertEqual(work.state, wanted)
+            self.assertEqual(work.state, expectation)
             self.assertTrue(not event or step(work, event, holder))
         # one that comes back too late
         self.assertFalse(step(work, FINISH, holder))
@@ -124,36 +124,36 @@ class Steps(TestCase):
         watch.look()
         pauses = [steps.pause(faults) for faults in (0, 1, 2, 3, 4, 9, 99)]
         self.assertEqual(pauses, [0, 1, 4, 16, 64, steps.LONGEST, steps.LONGEST])
-        begun = time.monotonic()
+        start = time.monotonic()
         for faults in range(1, 6):
-            holder = str(claimed(work))
+            holder = str(claim_work(work))
             step(work, machine.BEGIN, holder)
             lose(work, models.Q(holder=holder), "no room")
             self.assertEqual((work.state, work.fault), (WAITING, "no room"))
             for seconds in (0.0, 0.9, 1.1):
-                now = begun + seconds * steps.pause(faults)
+                now = start + seconds * steps.pause(faults)
                 with mock.patch.object(steps, "time", at(now)):
                     rests = watch.look()
                 self.assertEqual(rests, {work.pk} if seconds < 1 else set())
-            begun = now
+            start = now
             # what waits when a worker begins has waited for a start
             self.assertEqual(Watch(Attempt).look(), set())
             self.assertEqual(worker.due_attempts(9, {work.pk}), [])
-        told = Entry.objects.filter(what__contains=f"Attempt {work.pk}")
-        self.assertEqual(told.count(), 1)
+        message = Entry.objects.filter(what__contains=f"Attempt {work.pk}")
+        self.assertEqual(message.count(), 1)
 
     def test_a_worker_that_is_told_to_end_claims_nothing(self) -> None:
-        """Also one that was told while it waited for its turn."""
+        """This includes a worker that was asked to end while it waited for its turn."""
         attempt()
-        self.addCleanup(steps.STOPPED.clear)
-        steps.STOPPED.set()
+        self.addCleanup(steps.STOP_EVENT.clear)
+        steps.STOP_EVENT.set()
         self.assertEqual(worker.claim(worker.watches()), [])
-        steps.STOPPED.clear()
+        steps.STOP_EVENT.clear()
         self.assertEqual(len(worker.claim(worker.watches())), 1)
 
     def test_a_worker_whose_work_was_given_to_another_plays_nothing(self) -> None:
         work = attempt()
-        claimed(work)
+        claim_work(work)
         playing.play(work.pk, "another")
         work.refresh_from_db()
         self.assertEqual((work.state, work.runs), (HELD, 0))
@@ -162,7 +162,7 @@ class Steps(TestCase):
         """Its lease ran out between the step and the look at the row, which another
         worker has begun meanwhile."""
         work = attempt()
-        holder = str(claimed(work))
+        holder = str(claim_work(work))
         refresh = Attempt.refresh_from_db
 
         def late(row: Any) -> None:
@@ -179,22 +179,22 @@ class Steps(TestCase):
         came; another grades meanwhile, and is over or not."""
         for where in ("prepare", "run", "finish"):
             with self.subTest(where):
-                made = HandIn.objects.create(
+                hand_in = HandIn.objects.create(
                     team=of("amber"), name="a", size=1, files=1, digest=""
                 )
-                (made.folder / "files").mkdir(parents=True)
-                self.addCleanup(shutil.rmtree, made.folder, True)
-                work = Grading.objects.create(hand_in=made)
+                (hand_in.folder / "files").mkdir(parents=True)
+                self.addCleanup(shutil.rmtree, hand_in.folder, True)
+                work = Grading.objects.create(hand_in=hand_in)
                 before = getattr(grading, where)
 
-                def slept(*given: Any) -> Any:
+                def slept(*args: Any) -> Any:
                     with mock.patch.object(grading, where, before):
                         lose(Grading.objects.get(pk=work.pk), models.Q(), "silent")
-                        self.graded(work.pk, 7)
-                        return before(*given)
+                        self.grade(work.pk, 7)
+                        return before(*args)
 
                 with mock.patch.object(grading, where, slept):
-                    self.graded(work.pk, 1)
+                    self.grade(work.pk, 1)
                 work.refresh_from_db()
                 self.assertEqual(
                     (work.state, work.runs, work.moves), (machine.OVER, 2, 7)
@@ -203,14 +203,18 @@ class Steps(TestCase):
                     grading.rows_of(work.folder / grading.OUT, "amber")[0]["moves"], 7
                 )
                 self.assertEqual(
-                    [it.name for it in made.folder.iterdir() if it.name != "files"],
+                    [
+                        path.name
+                        for path in hand_in.folder.iterdir()
+                        if path.name != "files"
+                    ],
                     ["public"],
                 )
 
-    def graded(self, number: int, moves: int) -> None:
+    def grade(self, number: int, moves: int) -> None:
         """Grades, as if all matches had taken these moves."""
 
-        def program(words: Any, cwd: Any, **given: Any) -> Any:
+        def program(words: Any, cwd: Any, **args: Any) -> Any:
             (cwd / grading.OUT).mkdir()
             (cwd / grading.OUT / "runs.csv").write_text(
                 f"team,network,outcome,fault,moves,lost,run\namber,ring:5,solved,,{moves},0,0\n"
@@ -219,18 +223,23 @@ class Steps(TestCase):
 
         work = Grading.objects.get(pk=number)
         with runs(program):
-            grading.grade(number, str(claimed(work)))
+            grading.grade(number, str(claim_work(work)))
 
     def test_a_network_that_is_gone_is_told(self) -> None:
         work = Attempt.objects.create(team=of("amber"), network="gone")
-        playing.play(work.pk, str(claimed(work)))
+        playing.play(work.pk, str(claim_work(work)))
         work.refresh_from_db()
         self.assertEqual(work.state, LOST)
         self.assertIn("no network gone any more", work.fault)
 
     def test_what_fails_by_itself_is_not_begun_again(self) -> None:
         """And what `grade` itself fails in is a fault of the machine, whatever it is."""
-        for status, wanted in ((1, WAITING), (2, WAITING), (-9, WAITING), (0, LOST)):
+        for status, expectation in (
+            (1, WAITING),
+            (2, WAITING),
+            (-9, WAITING),
+            (0, LOST),
+        ):
             work = Grading.objects.create(
                 hand_in=HandIn.objects.create(
                     team=of("amber"), name="a", size=1, files=1, digest=""
@@ -238,19 +247,19 @@ class Steps(TestCase):
             )
             (work.hand_in.folder / "files").mkdir(parents=True)
             self.addCleanup(shutil.rmtree, work.hand_in.folder, True)
-            given = django_settings.HALL.hand_ins._replace(
+            conditions = django_settings.HALL.hand_ins._replace(
                 **({} if status else {"networks": []})
             )
-            hall = django_settings.HALL._replace(hand_ins=given)
+            hall = django_settings.HALL._replace(hand_ins=conditions)
             child = mock.Mock(returncode=status, poll=lambda: status)
             with runs(lambda *_, **__: child), mock.patch.object(
                 django_settings, "HALL", hall
             ):
-                grading.grade(work.pk, str(claimed(work)))
+                grading.grade(work.pk, str(claim_work(work)))
             work.refresh_from_db()
-            self.assertEqual((work.state, work.runs), (wanted, 1))
+            self.assertEqual((work.state, work.runs), (expectation, 1))
             self.assertEqual(
-                [it.name for it in work.hand_in.folder.iterdir()], ["files"]
+                [path.name for path in work.hand_in.folder.iterdir()], ["files"]
             )
 
 
@@ -265,49 +274,49 @@ class Tables(TestCase):
 class Queues(TestCase):
     def test_a_team_with_many_attempts_waits_for_others(self) -> None:
         many = [attempt() for _ in range(5)]
-        one = attempt("birch")
+        first = attempt("birch")
         two = attempt("cedar")
         order = [work.pk for work in worker.due_attempts(64)]
-        self.assertEqual(order[:3], [many[0].pk, one.pk, two.pk])
+        self.assertEqual(order[:3], [many[0].pk, first.pk, two.pk])
         self.assertEqual(len(worker.due_attempts(2)), 2)
 
     def test_as_many_matches_run_as_the_course_says(self) -> None:
         step(attempt(), CLAIM, "one")
         attempt("birch")
         self.assertEqual(
-            [len(worker.due_attempts(most)) for most in (0, 1, 2)], [0, 0, 1]
+            [len(worker.due_attempts(limit)) for limit in (0, 1, 2)], [0, 0, 1]
         )
 
     def test_hand_ins_are_graded_one_of_a_team_at_a_time(self) -> None:
-        def handed(team: str) -> Any:
-            made = HandIn.objects.create(
+        def hand_in(team: str) -> Any:
+            hand_in = HandIn.objects.create(
                 team=of(team), name="a", size=1, files=1, digest=""
             )
-            return Grading.objects.create(hand_in=made)
+            return Grading.objects.create(hand_in=hand_in)
 
-        first = handed("amber")
-        second = handed("amber")
-        other = handed("birch")
-        self.assertEqual([it.pk for it in grading.due(9)], [first.pk, other.pk])
+        first = hand_in("amber")
+        second = hand_in("amber")
+        hand = hand_in("birch")
+        self.assertEqual([it.pk for it in grading.due(9)], [first.pk, hand.pk])
         self.assertEqual([it.pk for it in grading.due(1)], [first.pk])
         Grading.objects.filter(pk=first.pk).update(state=RUNNING, begun=timezone.now())
         self.assertEqual(
-            [[it.pk for it in grading.due(most)] for most in (1, 2)], [[], [other.pk]]
+            [[it.pk for it in grading.due(limit)] for limit in (1, 2)], [[], [hand.pk]]
         )
         Grading.objects.filter(pk=first.pk).update(
             state=machine.OVER, ended=timezone.now()
         )
         # birch was never graded yet, and what hangs waits for what does not
-        self.assertEqual([it.pk for it in grading.due(9)], [other.pk, second.pk])
+        self.assertEqual([it.pk for it in grading.due(9)], [hand.pk, second.pk])
         past = timezone.now() - datetime.timedelta(minutes=3)
         Grading.objects.create(
-            hand_in=other.hand_in,
+            hand_in=hand.hand_in,
             is_secret=True,
             state=machine.OVER,
             begun=past,
             ended=timezone.now(),
         )
-        self.assertEqual([it.pk for it in grading.due(9)], [second.pk, other.pk])
+        self.assertEqual([it.pk for it in grading.due(9)], [second.pk, hand.pk])
 
     def test_taking_back_what_waits_and_closing_what_runs(self) -> None:
         work = attempt()

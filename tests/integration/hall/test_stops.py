@@ -28,12 +28,12 @@ class Stops(RuleBasedStateMachine):
     def __init__(self) -> None:
         super().__init__()
         past = timezone.now() - datetime.timedelta(days=1)
-        made = HandIn.objects.create(
+        hand_in = HandIn.objects.create(
             team=Team.objects.get(name="amber"), at=past, name="a", size=1, files=1
         )
-        (made.folder / "files").mkdir(parents=True)
-        self.hand_in = made
-        self.work = Grading.objects.create(hand_in=made, is_secret=True)
+        (hand_in.folder / "files").mkdir(parents=True)
+        self.hand_in = hand_in
+        self.work = Grading.objects.create(hand_in=hand_in, is_secret=True)
         self.workers = Workers()
         for number in (0, 1):
             self.workers.start(number)
@@ -89,8 +89,8 @@ class Stops(RuleBasedStateMachine):
                 if self.work.state == machine.OVER:
                     break
             assert (self.work.state, self.work.moves) == (machine.OVER, 7)
-            left = [it.name for it in self.hand_in.folder.iterdir()]
-            assert sorted(left) == ["files", "secret"], left
+            remaining = [path.name for path in self.hand_in.folder.iterdir()]
+            assert sorted(remaining) == ["files", "secret"], remaining
         finally:
             self.workers.close()
             folder: Any = self.hand_in.folder

@@ -1,7 +1,7 @@
 """Messages, and the pages of a teacher and of tutors."""
 from typing import Any, Dict
 
-from tests.integration.hall.hall_pages import Hall, graded, played
+from tests.integration.hall.hall_pages import Hall, make_grading, play_match
 
 from django.contrib.auth import get_user_model
 from django.contrib.auth.models import Permission
@@ -42,10 +42,10 @@ class Messages(Hall):
         self.assertEqual(
             client.post("/messages", {"text": "x" * 2_001}).status_code, 400
         )
-        told = [
+        reply = [
             client.post("/messages", {"text": "why?"}).status_code for _ in range(6)
         ]
-        self.assertEqual(told, [302] * 5 + [429])
+        self.assertEqual(reply, [302] * 5 + [429])
         self.assertEqual(
             self.client_of("birch").post("/messages", {"text": "why?"}).status_code, 302
         )
@@ -64,8 +64,8 @@ class Teachers(Hall):
 
     def test_pages_of_the_teacher(self) -> None:
         client = self.teacher()
-        self.over(played())
-        self.running(played(), "birch")
+        self.over(play_match())
+        self.running(play_match(), "birch")
         for path in (
             "",
             "teams/team/",
@@ -88,11 +88,11 @@ class Teachers(Hall):
     def test_key_sheets(self) -> None:
         client = self.teacher()
         team = self.team("cedar")
-        told = client.post(
+        response = client.post(
             "/teacher/teams/team/",
             {"action": "draw_tokens", "_selected_action": [team.pk]},
         )
-        token = told.content.decode().splitlines()[1].split(",")[2]
+        token = response.content.decode().splitlines()[1].split(",")[2]
         self.assertEqual(Client().post("/login", {"token": token}).status_code, 302)
         self.assertEqual(
             Client().post("/login", {"token": self.tokens["cedar"]}).status_code, 403
@@ -102,7 +102,7 @@ class Teachers(Hall):
 
     def test_actions(self) -> None:
         client = self.teacher()
-        running = self.running(played(), "birch")
+        running = self.running(play_match(), "birch")
         client.post(
             "/teacher/attempts/attempt/",
             {"action": "close", "_selected_action": [running.pk]},
@@ -112,8 +112,8 @@ class Teachers(Hall):
         self.assertContains(client.get("/teacher/admin/logentry/"), "closed")
 
     def test_a_tutor_sees_and_does_what_the_teacher_allows(self) -> None:
-        graded("amber", 1)
-        running = self.running(played(), "birch")
+        make_grading("amber", 1)
+        running = self.running(play_match(), "birch")
         tutor = get_user_model().objects.create_user(
             "tutor", password="another long password", is_staff=True
         )
@@ -122,26 +122,26 @@ class Teachers(Hall):
             client.login(username="tutor", password="another long password")
         )
 
-        def tried() -> Any:
-            told = [
+        def try_actions() -> Any:
+            reply = [
                 client.get(path).status_code
                 for path in (f"/matches/{running.pk}", "/teacher/standings.csv")
             ]
-            told.append(client.post(f"/matches/{running.pk}/close").status_code)
+            reply.append(client.post(f"/matches/{running.pk}/close").status_code)
             client.post(
                 "/teacher/attempts/attempt/",
                 {"action": "close", "_selected_action": [running.pk]},
             )
             running.refresh_from_db()
-            return [*told, running.closing]
+            return [*reply, running.closing]
 
-        self.assertEqual(tried(), [404, 403, 404, False])
+        self.assertEqual(try_actions(), [404, 403, 404, False])
         tutor.user_permissions.add(
             *Permission.objects.filter(codename__in=("view_attempt", "view_grading"))
         )
-        self.assertEqual(tried(), [200, 200, 404, False])
+        self.assertEqual(try_actions(), [200, 200, 404, False])
         tutor.user_permissions.add(Permission.objects.get(codename="change_attempt"))
-        self.assertEqual(tried(), [200, 200, 302, True])
+        self.assertEqual(try_actions(), [200, 200, 302, True])
 
     def test_forms_for_sixty_teams(self) -> None:
         for number in range(60):
@@ -153,20 +153,20 @@ class Teachers(Hall):
             "form-INITIAL_FORMS": len(teams),
             "_save": "Save",
         }
-        for place, team in enumerate(teams):
+        for index, team in enumerate(teams):
             row.update(
-                {f"form-{place}-id": team.pk, f"form-{place}-display": f"Team {place}"}
+                {f"form-{index}-id": team.pk, f"form-{index}-display": f"Team {index}"}
             )
         self.assertEqual(client.post("/teacher/teams/team/", row).status_code, 302)
         self.assertEqual(Team.objects.filter(display="Team 62").count(), 1)
-        told = client.post(
+        response = client.post(
             "/teacher/teams/team/",
             {"action": "draw_tokens", "_selected_action": [team.pk for team in teams]},
         )
-        self.assertEqual(len(told.content.decode().splitlines()), 64)
+        self.assertEqual(len(response.content.decode().splitlines()), 64)
 
     def test_the_health_of_a_hall(self) -> None:
-        self.running(played())
+        self.running(play_match())
         self.assertEqual(Client().get("/health").json(), {"waiting": 0, "running": 1})
         self.rest("post", "/api/matches", body={"network": "ring of 5"})
         self.assertEqual(Client().get("/health").json(), {"waiting": 1, "running": 1})

@@ -10,8 +10,8 @@ import unittest
 from typing import Any, Dict
 from unittest import mock
 
-from tests.integration.hall.test_drafts import RULES, Written
-from tests.integration.hall.hall_pages import PLACE, halled
+from tests.integration.hall.test_drafts import RULES, DraftFile
+from tests.integration.hall.hall_pages import PLACE, hall_with
 
 from django.conf import settings
 
@@ -19,14 +19,14 @@ from arena_lab.course import exercises
 from arena_lab.hall import machine
 from arena_lab.hall.drafts import forking, kits, playing
 from arena_lab.hall.drafts.models import Trial
-from arena_lab.hall.steps import claimed, step
+from arena_lab.hall.steps import claim_work, step
 from arena_lab.play.agent_files import AGENTS
 from arena_lab.sandbox import processes, sandboxes
 from arena_lab.support.built import TOP
 
 CAREFUL = (AGENTS / "python" / "careful.py").read_text()
 CLIENT = (AGENTS / "client.py").read_text()
-# what a kit's agent is changed in, and the line and the words by which that is told
+# (replaced text, replacement, message): mistakes in a kit's agent
 MISTAKES = (
     (
         "    while True:\n        theirs",
@@ -80,7 +80,7 @@ def back(""",
     ("key, int(nodes))", "key, nodes_in(nodes))"),
     (
         "        mine += 1\n",
-        "        assert mine or found.came == FAR[FAR['home'], side]\n        mine += 1\n",
+        "        assert mine or here.came == FAR[FAR['home'], side]\n        mine += 1\n",
     ),
 )
 # a worker that has a trial forked, and waits for its end
@@ -99,42 +99,42 @@ while True:
 """
 
 
-class Tried(Written):
+class Tried(DraftFile):
     def setUp(self) -> None:
         super().setUp()
         if sandboxes.weakness():
             raise unittest.SkipTest(f"no walls here: {sandboxes.weakness()}")
 
-    def tried(self, agent: str, language: str = "python", **given: Any) -> Trial:
+    def run_trial(self, agent: str, language: str = "python", **args: Any) -> Trial:
         """A trial of this agent, which has come to its end."""
         kit = kits.kit_of(language)
         files = {**kit.files, kit.main: agent}
-        told = self.tries(language=language, files=files, **given)
-        self.assertEqual(told.status_code, 201, told.content)
-        trial = Trial.objects.get(pk=told.json()["id"])
-        holder = claimed(trial)
+        reply = self.tries(language=language, files=files, **args)
+        self.assertEqual(reply.status_code, 201, reply.content)
+        trial = Trial.objects.get(pk=reply.json()["id"])
+        holder = claim_work(trial)
         assert holder is not None
         playing.play(trial.pk, holder)
         return Trial.objects.get(pk=trial.pk)
 
-    def found(self, agent: str, **given: Any) -> Dict[str, Any]:
-        trial = self.tried(agent, **given)
+    def report_of(self, agent: str, **args: Any) -> Dict[str, Any]:
+        trial = self.run_trial(agent, **args)
         self.assertEqual((trial.state, trial.fault), (machine.OVER, ""))
-        found: Dict[str, Any] = trial.found
-        return found
+        results: Dict[str, Any] = trial.found
+        return results
 
 
 class Found(Tried):
     def test_a_match_has_the_line_that_sent_each_event(self) -> None:
-        trial = self.tried(CAREFUL)
-        found = trial.found
-        self.assertTrue(found["right"], found)
-        self.assertTrue(found["verdict"].startswith("solved"), found["verdict"])
+        trial = self.run_trial(CAREFUL)
+        result = trial.found
+        self.assertTrue(result["right"], result)
+        self.assertTrue(result["verdict"].startswith("solved"), result["verdict"])
         log = [
             json.loads(line)
             for line in (trial.folder / "m0.jsonl").read_text().splitlines()[1:-1]
         ]
-        self.assertEqual(len(found["lines"]), len(log))
+        self.assertEqual(len(result["lines"]), len(log))
         lines = CAREFUL.splitlines()
         sends = {
             "enter": ".enter(",
@@ -142,7 +142,7 @@ class Found(Tried):
             "depart": ".depart(",
             "accuse": ".accuse(",
         }
-        for (agent, file, line), event in zip(found["lines"], log):
+        for (agent, file, line), event in zip(result["lines"], log):
             if event["do"] in sends:
                 self.assertEqual((file, agent), ("agent.py", event["agent"]))
                 self.assertIn(sends[event["do"]], lines[line - 1])
@@ -155,25 +155,29 @@ class Found(Tried):
         self.assertEqual(list((PLACE.folder / "trials").iterdir()), [trial.folder])
 
     def test_the_likeliest_mistake_stands_at_its_line(self) -> None:
-        for right, wrong, said in MISTAKES:
-            with self.subTest(said):
+        for right, wrong, message_text in MISTAKES:
+            with self.subTest(message_text):
                 self.assertIn(right, CAREFUL)
                 agent = CAREFUL.replace(right, wrong)
                 before = CAREFUL[: CAREFUL.index(right)]
                 first = next(
-                    place
-                    for place, (a, b) in enumerate(
+                    index
+                    for index, (a, b) in enumerate(
                         zip(CAREFUL.splitlines(), agent.splitlines()), 1
                     )
                     if a != b
                 )
                 self.assertGreaterEqual(first, before.count("\n") + 1)
-                found = self.found(agent)
-                self.assertFalse(found["right"])
-                marks = [(it["file"], it["line"]) for it in found["marks"]]
-                self.assertIn(("agent.py", first), marks, found)
-                told = [it["said"] for it in found["marks"] if it["line"] == first]
-                self.assertTrue(any(said in it for it in told), told)
+                report = self.report_of(agent)
+                self.assertFalse(report["right"])
+                marks = [(mark["file"], mark["line"]) for mark in report["marks"]]
+                self.assertIn(("agent.py", first), marks, report)
+                text_sent = [
+                    mark["said"] for mark in report["marks"] if mark["line"] == first
+                ]
+                self.assertTrue(
+                    any(message_text in reply for reply in text_sent), text_sent
+                )
                 Trial.objects.all().delete()
 
     def test_what_to_mend_first_is_shown_by_the_match_that_shows_it(self) -> None:
@@ -181,10 +185,10 @@ class Found(Tried):
         agent = CAREFUL.replace("agent.accuse(ahead)", "agent.accuse(1 - ahead)")
         for kind, network in (("check", "ring of 5"), ("explore", "ring:3")):
             with self.subTest(kind):
-                found = self.found(agent, kind=kind, network=network)
-                self.assertTrue(found["said"][0].startswith("To mend first: "), found)
-                self.assertIn("leads to a safe node", found["marks"][0]["said"])
-                self.assertGreater(found["marks"][0]["event"], 0)
+                report = self.report_of(agent, kind=kind, network=network)
+                self.assertTrue(report["said"][0].startswith("To mend first: "), report)
+                self.assertIn("leads to a safe node", report["marks"][0]["said"])
+                self.assertGreater(report["marks"][0]["event"], 0)
                 Trial.objects.all().delete()
 
     def test_programs_have_the_map_of_each_match(self) -> None:
@@ -193,7 +197,7 @@ class Found(Tried):
             self.assertEqual(agent.count(old), 1)
             agent = agent.replace(old, new)
         command = settings.HALL.hand_ins.command.replace("{nodes}", MAP_WORD)
-        given = settings.HALL.hand_ins._replace(command=command)
+        conditions = settings.HALL.hand_ins._replace(command=command)
         # of a check the time leaves out drawn schedules, and not its matches
         for kind, network, seconds in (
             ("play", "ring of 5", 20),
@@ -201,64 +205,66 @@ class Found(Tried):
             ("explore", "ring:3", 60),
         ):
             rules = RULES._replace(search=seconds)
-            with self.subTest(kind), halled(hand_ins=given, editor=rules):
-                found = self.found(agent, kind=kind, network=network)
-                self.assertTrue(found["right"], found)
+            with self.subTest(kind), hall_with(hand_ins=conditions, editor=rules):
+                report = self.report_of(agent, kind=kind, network=network)
+                self.assertTrue(report["right"], report)
                 Trial.objects.all().delete()
 
 
 class Exercised(Tried):
     def test_every_schedule_of_an_exercise_is_tried(self) -> None:
-        """The agent with which one begins solves its matches, and not these."""
-        one = exercises.read("9-every-schedule")
-        trial = self.tried(one.files()["agent.py"], language=one.name)
+        """The exercise's start agent solves the fixed matches, but fails under some
+        schedules."""
+        exercise = exercises.read_exercise("9-every-schedule")
+        trial = self.run_trial(exercise.files()["agent.py"], language=exercise.name)
         self.assertEqual((trial.kind, trial.fault), ("explore", ""))
-        found = trial.found
-        self.assertFalse(found["right"])
-        self.assertIn("what the other agent has noted is gone", found["said"][0])
-        self.assertIn("(under a schedule of ring:4)", found["said"][0])
-        lines = one.files()["agent.py"].splitlines()
-        shown = {lines[line - 1].strip() for _, _, line in found["lines"] if line}
-        self.assertIn('swap = agent.write(swap.board, " ".join(safe))', shown)
+        result = trial.found
+        self.assertFalse(result["right"])
+        self.assertIn("what the other agent has noted is gone", result["said"][0])
+        self.assertIn("(under a schedule of ring:4)", result["said"][0])
+        lines = exercise.files()["agent.py"].splitlines()
+        view = {lines[line - 1].strip() for _, _, line in result["lines"] if line}
+        self.assertIn('swap = agent.write(swap.board, " ".join(safe))', view)
 
     def test_an_exercise_is_done_once_an_answer_is_right(self) -> None:
-        one = exercises.read("2-two-answers")
-        wrong = one.solution().replace("str(here.came)", '"0"')
-        found = self.found(wrong, language=one.name)
-        self.assertFalse(found["right"])
-        self.assertIn("`came` is the port of the node", found["said"][0])
-        page = self.client_of("amber").get(f"/write?language={one.name}")
+        exercise = exercises.read_exercise("2-two-answers")
+        wrong = exercise.solution().replace("str(here.came)", '"0"')
+        report = self.report_of(wrong, language=exercise.name)
+        self.assertFalse(report["right"])
+        self.assertIn("`came` is the port of the node", report["said"][0])
+        page = self.client_of("amber").get(f"/write?language={exercise.name}")
         self.assertContains(page, "A departure is answered twice")
         self.assertNotContains(page, "\u2713 ")
-        found = self.found(one.solution(), language=one.name)
-        self.assertEqual(found["said"], ["Right in all 2 matches."])
-        self.assertEqual(found["marks"], [])
-        self.assertEqual([it for _, _, it in found["lines"]][:3], [8, 9, 0])
+        report = self.report_of(exercise.solution(), language=exercise.name)
+        self.assertEqual(report["said"], ["Right in all 2 matches."])
+        self.assertEqual(report["marks"], [])
+        self.assertEqual([line for _, _, line in report["lines"]][:3], [8, 9, 0])
         page = self.client_of("amber").get("/write")
         self.assertContains(page, "&#10003; 2. A departure is answered twice")
-        other = self.client_of("birch").get("/write")
-        self.assertNotContains(other, "&#10003; 2.")
-        # what is written of an exercise is kept as any draft is
-        told = self.rest("get", f"/api/drafts/{one.name}").json()
-        self.assertEqual(told["files"]["agent.py"], one.solution())
-        self.assertEqual((told["version"], told["hand_in"]), (0, False))
+        second = self.client_of("birch").get("/write")
+        self.assertNotContains(second, "&#10003; 2.")
+        # answers to exercises are stored like drafts
+        reply = self.rest("get", f"/api/drafts/{exercise.name}").json()
+        self.assertEqual(reply["files"]["agent.py"], exercise.solution())
+        self.assertEqual((reply["version"], reply["hand_in"]), (0, False))
 
 
 class Waiting(Tried):
     """The process that waits for trials, which forks one for each."""
 
-    def asked(self, agent: str) -> Any:
-        """The folder of a trial of this agent, and what forks it in a worker."""
+    def fork(self, agent: str) -> Any:
+        """Creates a trial of this agent; returns its folder and the worker's fork
+        server."""
         kit = kits.kit_of("python")
-        told = self.tries(files={**kit.files, kit.main: agent})
-        trial = Trial.objects.get(pk=told.json()["id"])
+        reply = self.tries(files={**kit.files, kit.main: agent})
+        trial = Trial.objects.get(pk=reply.json()["id"])
         folder = trial.folder.with_name(f"{trial.pk}.one")
         playing.prepare(trial, folder)
         self.addCleanup(shutil.rmtree, folder, True)
         return folder
 
     def test_a_trial_ends_with_the_worker_and_by_its_block(self) -> None:
-        folder = self.asked("while True: pass\n")
+        folder = self.fork("while True: pass\n")
         words = [sys.executable, "-c", WORKER, str(PLACE.folder), str(folder)]
         for how in (signal.SIGKILL, signal.SIGTERM):
             worker = subprocess.Popen(words, cwd=TOP, stdout=subprocess.PIPE)
@@ -271,27 +277,27 @@ class Waiting(Tried):
             worker.send_signal(how)
             worker.wait()
             worker.stdout.close()
-            while left := set(running) & set(processes.listed()):
-                self.assertLess(time.monotonic(), until, left)
+            while remaining := set(running) & set(processes.process_numbers()):
+                self.assertLess(time.monotonic(), until, remaining)
                 time.sleep(0.05)
             self.assertFalse((folder / "found.json").exists())
 
     def test_it_is_started_again_once_the_machine_has_ended_it(self) -> None:
-        before = self.tried(CAREFUL)
-        parent = forking.PARENT._child
+        before = self.run_trial(CAREFUL)
+        parent = forking.FORK_SERVER._child
         assert parent is not None
         parent.kill()
         parent.wait()
-        self.assertTrue(self.found(CAREFUL)["right"])
+        self.assertTrue(self.report_of(CAREFUL)["right"])
         self.assertTrue(before.found["right"])
 
     def test_a_trial_whose_process_has_ended_is_no_finding(self) -> None:
-        def killed(*_: Any) -> None:
-            assert forking.PARENT._child is not None
-            forking.PARENT._child.kill()
+        def kill(*_: Any) -> None:
+            assert forking.FORK_SERVER._child is not None
+            forking.FORK_SERVER._child.kill()
 
-        with mock.patch.object(playing.Lease, "wait", killed):
-            trial = self.tried("import time\ntime.sleep(9)\n")
+        with mock.patch.object(playing.Lease, "wait", kill):
+            trial = self.run_trial("import time\ntime.sleep(9)\n")
         self.assertEqual((trial.state, trial.found), (machine.LOST, None))
         self.assertIn("it could not be tried", trial.fault)
 
@@ -302,34 +308,36 @@ class Hostile(Tried):
         self.assertTrue(key.exists())
         paths = [str(key), "/etc/shadow", f"{PLACE.folder}/hall.sqlite3"]
         agent = REACHES.format(paths=", ".join(map(repr, [*paths, ""])), port=22)
-        found = self.found(agent)
-        self.assertNotIn("REACHED", json.dumps(found))
-        self.assertIn("alert(1)</script>\\x1b[2J", found["written"]["0"])
+        report = self.report_of(agent)
+        self.assertNotIn("REACHED", json.dumps(report))
+        self.assertIn("alert(1)</script>\\x1b[2J", report["written"]["0"])
         # forged marks are of its own files, and of events that it has sent
-        self.assertEqual(found["lines"], [[-1, "", 0]])
-        self.assertEqual({it["file"] for it in found["marks"]} - {"agent.py"}, set())
+        self.assertEqual(report["lines"], [[-1, "", 0]])
+        self.assertEqual(
+            {mark["file"] for mark in report["marks"]} - {"agent.py"}, set()
+        )
 
     def test_a_flood_is_cut(self) -> None:
-        with halled(editor=RULES._replace(seconds=6)):
-            found = self.found(FLOOD)
-        self.assertFalse(found["right"])
-        self.assertLess(len(json.dumps(found)), 60_000)
+        with hall_with(editor=RULES._replace(seconds=6)):
+            report = self.report_of(FLOOD)
+        self.assertFalse(report["right"])
+        self.assertLess(len(json.dumps(report)), 60_000)
 
     def test_a_trial_that_does_not_end_is_ended(self) -> None:
-        with mock.patch.object(playing, "BESIDE", -19):
-            trial = self.tried("import time\ntime.sleep(60)\n")
+        with mock.patch.object(playing, "EXTRA_SECONDS", -19):
+            trial = self.run_trial("import time\ntime.sleep(60)\n")
         self.assertEqual(trial.state, machine.LOST)
         self.assertEqual(trial.fault, "it was ended after 1 s")
         self.assertEqual(list((PLACE.folder / "trials").iterdir()), [])
 
     def test_a_team_stops_its_trial(self) -> None:
-        def stopped(lease: Any, _: float) -> None:
+        def stop(lease: Any, _: float) -> None:
             step(Trial.objects.get(), machine.CANCEL)
             lease.renew()
 
-        begun = time.monotonic()
-        with mock.patch.object(playing.Lease, "wait", stopped):
-            trial = self.tried(FLOOD)
+        start = time.monotonic()
+        with mock.patch.object(playing.Lease, "wait", stop):
+            trial = self.run_trial(FLOOD)
         self.assertEqual((trial.state, trial.found), (machine.CANCELLED, None))
-        self.assertLess(time.monotonic() - begun, 30)
+        self.assertLess(time.monotonic() - start, 30)
         self.assertEqual(list((PLACE.folder / "trials").iterdir()), [])

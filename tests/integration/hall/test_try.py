@@ -43,35 +43,35 @@ class Try(unittest.TestCase):
         self.browser = urllib.request.build_opener(keeps)
         self.jar = jar
 
-    def asked(self, path: str, body: Any = None) -> str:
-        """What is answered, also to an object that is sent."""
+    def request(self, path: str, body: Any = None) -> str:
+        """Returns the body of a response, to a GET or to a POST with an object."""
         secret = {it.name: it.value for it in self.jar}.get("csrftoken") or ""
         kind = "application/json" if isinstance(body, dict) else "text/plain"
         data = None if body is None else json.dumps(body).encode()
         head = {"X-CSRFToken": secret, "Content-Type": kind}
-        asked = urllib.request.Request(
+        request = urllib.request.Request(
             f"http://127.0.0.1:{self.port}{path}", data, head
         )
-        with self.browser.open(asked) as answer:
+        with self.browser.open(request) as answer:
             return str(answer.read().decode())
 
-    def waits(self, path: str, *said: str) -> str:
+    def waits(self, path: str, *texts: str) -> str:
         """Waits until an answer says something."""
         until = time.monotonic() + SECONDS
         while time.monotonic() < until:
             with contextlib.suppress(urllib.error.URLError, ConnectionError):
-                told = self.asked(path)
-                if any(it in told for it in said):
-                    return told
+                reply = self.request(path)
+                if any(it in reply for it in texts):
+                    return reply
             time.sleep(0.2)
-        raise AssertionError(f"{path} does not say {said}")
+        raise AssertionError(f"{path} does not say {texts}")
 
     def test_one_writes_and_plays_without_a_course(self) -> None:
         self.waits("/write", "Begin as a guest")
-        self.assertIn("Compare and write", self.asked("/write/guest", ""))
-        draft = json.loads(self.asked("/api/drafts/python"))
-        asked = {**draft, "kind": "play", "network": "ring of 5"}
-        made = json.loads(self.asked("/api/trials", asked))
+        self.assertIn("Compare and write", self.request("/write/guest", ""))
+        draft = json.loads(self.request("/api/drafts/python"))
+        request = {**draft, "kind": "play", "network": "ring of 5"}
+        made = json.loads(self.request("/api/trials", request))
         path = f"/api/trials/{made['id']}"
-        found = json.loads(self.waits(path, '"over"', '"lost"'))
-        self.assertTrue(found["found"] and found["found"]["right"], found)
+        report = json.loads(self.waits(path, '"over"', '"lost"'))
+        self.assertTrue(report["found"] and report["found"]["right"], report)

@@ -57,8 +57,8 @@ class Upgrade(unittest.TestCase):
         self.hall = HallFolder(self.folder / "trial.hall", self.course, None)
         self.hall.write()
 
-    def ran(self, *words: object) -> str:
-        done = subprocess.run(
+    def output(self, *words: object) -> str:
+        result = subprocess.run(
             [sys.executable, *map(str, words)],
             cwd=TOP,
             text=True,
@@ -67,17 +67,17 @@ class Upgrade(unittest.TestCase):
             stderr=subprocess.PIPE,
             timeout=300,
         )
-        self.assertEqual(done.returncode, 0, done.stderr)
-        return done.stderr
+        self.assertEqual(result.returncode, 0, result.stderr)
+        return result.stderr
 
     @unittest.skipUnless(os.geteuid() == 0, "this is not root")
     def test_what_root_does_is_left_to_the_user_of_the_hall(self) -> None:
         os.chown(self.hall.folder, 65534, 65534)
-        self.ran("-m", "arena_lab", "hall", "keys", self.course)
-        self.ran("-m", "arena_lab", "hall", "password", self.course)
-        found = {path.name: path.stat().st_uid for path in self.hall.folder.iterdir()}
-        self.assertEqual(set(found.values()), {65534}, found)
-        self.assertIn("keys.csv", found)
+        self.output("-m", "arena_lab", "hall", "keys", self.course)
+        self.output("-m", "arena_lab", "hall", "password", self.course)
+        results = {path.name: path.stat().st_uid for path in self.hall.folder.iterdir()}
+        self.assertEqual(set(results.values()), {65534}, results)
+        self.assertIn("keys.csv", results)
 
     def rows(self, what: str) -> Any:
         with contextlib.closing(
@@ -86,10 +86,10 @@ class Upgrade(unittest.TestCase):
             return database.execute(f"SELECT {what}").fetchall()
 
     def test_what_was_played_stays_and_what_was_rated_is_practice(self) -> None:
-        self.ran("-c", EARLIER, self.hall.folder)
+        self.output("-c", EARLIER, self.hall.folder)
         keys = ("-m", "arena_lab", "hall", "keys", self.course)
         self.assertEqual(
-            [self.ran(*keys).count(SAID), self.ran(*keys).count(SAID)], [1, 0]
+            [self.output(*keys).count(SAID), self.output(*keys).count(SAID)], [1, 0]
         )
         self.assertEqual(
             self.rows("count(*) FROM teams_entry WHERE what LIKE '%practice now%'"),

@@ -20,10 +20,10 @@ NAMES = re.compile(r"%\(\w+\)s")
 
 
 class Words(unittest.TestCase):
-    def wanted(self) -> Set[str]:
-        """All texts of the hall that are to be translated."""
+    def texts_to_translate(self) -> Set[str]:
+        """Returns all texts of the hall that need a translation."""
         with tempfile.TemporaryDirectory() as name:
-            place = pathlib.Path(
+            folder = pathlib.Path(
                 shutil.copytree(
                     HALL,
                     pathlib.Path(name) / "hall",
@@ -46,30 +46,31 @@ class Words(unittest.TestCase):
                     "--no-wrap",
                     "--no-location",
                 ],
-                cwd=place,
+                cwd=folder,
                 env=variables,
                 check=True,
                 stdout=subprocess.DEVNULL,
             )
-            text = (place / f"{FILES.format('de')}.po").read_text(encoding="utf-8")
-        return {found[0] for found in ENTRY.findall(text)}
+            text = (folder / f"{FILES.format('de')}.po").read_text(encoding="utf-8")
+        return {result[0] for result in ENTRY.findall(text)}
 
     def test_each_text_is_translated(self) -> None:
-        wanted = self.wanted()
-        self.assertGreater(len(wanted), 80)
+        expectation = self.texts_to_translate()
+        self.assertGreater(len(expectation), 80)
         for language in LANGUAGES:
-            found = dict(
+            results = dict(
                 ENTRY.findall(
                     (HALL / f"{FILES.format(language)}.po").read_text(encoding="utf-8")
                 )
             )
-            self.assertEqual(wanted - set(found), set(), language)
-            self.assertEqual(set(found) - wanted, set(), language)
-            for text, translated in found.items():
+            self.assertEqual(expectation - set(results), set(), language)
+            self.assertEqual(set(results) - expectation, set(), language)
+            for text, translated_value in results.items():
                 with self.subTest(text, language=language):
-                    self.assertTrue(translated)
+                    self.assertTrue(translated_value)
                     self.assertEqual(
-                        sorted(NAMES.findall(text)), sorted(NAMES.findall(translated))
+                        sorted(NAMES.findall(text)),
+                        sorted(NAMES.findall(translated_value)),
                     )
 
     def test_what_django_reads_is_made_of_the_files(self) -> None:

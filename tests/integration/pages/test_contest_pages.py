@@ -6,14 +6,14 @@ from arena_lab.pages import contest_pages
 from arena_lab.pages.contest_pages import (
     BETTER,
     LAST,
-    Shown,
+    MatchRow,
     Tries,
     matches_of,
     page_of,
     write_pages,
 )
 from arena_lab.rules.model import Verdict
-from arena_lab.rules.networks import NoNetwork
+from arena_lab.rules.networks import NetworkError
 from tests.support.output import InTemporary
 
 TOURNAMENT = """version = 2
@@ -38,8 +38,8 @@ class Lists(unittest.TestCase):
         page = page_of(
             "cup",
             [
-                Shown(number, f"t{number}", "n", one)
-                for number, one in enumerate(verdicts)
+                MatchRow(number, f"t{number}", "n", verdict)
+                for number, verdict in enumerate(verdicts)
             ],
         )
         teams, _, matches = page.partition("<h2>Matches</h2>")
@@ -51,14 +51,18 @@ class Lists(unittest.TestCase):
         self.assertNotIn("match4.html", page)
 
     def test_the_matches_on_each_network_stand_apart(self) -> None:
-        solved = Verdict("solved", 9, 0)
+        verdict = Verdict("solved", 9, 0)
         wrong = Verdict("wrong", 1, 0)
         page = page_of(
             "cup",
             [
-                Shown(number, "red", network, one)
-                for number, (network, one) in enumerate(
-                    [("ring.toml", wrong), ("cube.toml", solved), ("ring.toml", solved)]
+                MatchRow(number, "red", network, first)
+                for number, (network, first) in enumerate(
+                    [
+                        ("ring.toml", wrong),
+                        ("cube.toml", verdict),
+                        ("ring.toml", verdict),
+                    ]
                 )
             ],
         )
@@ -75,7 +79,7 @@ class Lists(unittest.TestCase):
         self.assertEqual(places, sorted(places))
 
     def test_texts_of_the_file_are_escaped(self) -> None:
-        page = page_of("<i>", [Shown(0, "a", "<b>.toml", None)])
+        page = page_of("<i>", [MatchRow(0, "a", "<b>.toml", None)])
         self.assertIn("&lt;b&gt;.toml", page)
         self.assertNotIn("<i>", page)
 
@@ -135,7 +139,7 @@ class Writes(InTemporary):
             self.assertIn(
                 f"<td>{verdicts[counts].outcome} (2 tries)</td>", index.read_text()
             )
-        with self.assertRaisesRegex(NoNetwork, "this is no other try of a match"):
+        with self.assertRaisesRegex(NetworkError, "this is no other try of a match"):
             write_pages(
                 None,
                 self.file,
@@ -148,6 +152,6 @@ class Writes(InTemporary):
         for text in ("", "match = 1", "[[match]]\nteam = 1", "x"):
             self.file.write_text(text)
             with self.assertRaisesRegex(
-                NoNetwork, "cup.toml: this is not the file of a tournament"
+                NetworkError, "cup.toml: this is not the file of a tournament"
             ):
                 matches_of(self.file)

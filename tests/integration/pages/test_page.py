@@ -8,12 +8,12 @@ from unittest import mock
 from arena_lab.__main__ import main
 from arena_lab.pages import page
 from arena_lab.rules.model import Match, Setup
-from tests.support.output import InTemporary, ran
+from tests.support.output import InTemporary, run_call
 
 TRIANGLE = [(0, 0, 1, 0), (1, 1, 2, 0), (2, 1, 0, 1)]
 HOSTILE = "</script><b>\u202e{{title}}"
 
-# an arena that answers as it is told by the folder that it stands in
+# a fake arena that takes its answers from files in its folder
 ARENA = f"""#!{sys.executable}
 import pathlib, sys
 answers = pathlib.Path(__file__).parent / sys.argv[1]
@@ -24,11 +24,11 @@ sys.stdout.buffer.write(answers.read_bytes())
 """
 
 
-def ended() -> Match:
+def ended_match() -> Match:
     match = Match(Setup(3, TRIANGLE, 0, [2], 2, 10, 64))
-    match.tell(0, {"do": "enter"})
-    match.tell(0, {"do": "write", "expect": "", "put": HOSTILE})
-    match.tell(0, {"do": "depart", "port": 1})
+    match.reply_to(0, {"do": "enter"})
+    match.reply_to(0, {"do": "write", "expect": "", "put": HOSTILE})
+    match.reply_to(0, {"do": "depart", "port": 1})
     match.deliver(0)
     match.close()
     return match
@@ -41,7 +41,7 @@ class Pages(InTemporary):
         self.program.write_text(ARENA)
         self.program.chmod(0o755)
         self.replay = self.folder / "match.jsonl"
-        self.replay.write_text(ended().replay(), encoding="utf-8")
+        self.replay.write_text(ended_match().replay(), encoding="utf-8")
         patch = mock.patch.object(page, "layout", lambda head: [[0, 0]] * head["nodes"])
         patch.start()
         self.addCleanup(patch.stop)
@@ -50,8 +50,8 @@ class Pages(InTemporary):
         for word, text in answers.items():
             (self.folder / word).write_text(text, encoding="utf-8")
 
-    def written(self, *words: str) -> int:
-        status, _, self.errors = ran(
+    def write_page(self, *words: str) -> int:
+        status, _, self.errors = run_call(
             main, ["page", str(self.replay), "--program", str(self.program), *words]
         )
         return status
@@ -66,7 +66,7 @@ class Pages(InTemporary):
 
     def test_a_page_holds_the_events_the_pasts_and_the_verdict(self) -> None:
         self.answers(judge="silent moves 1 lost 1\n", explain="0 {}\n1 {}\n3 {}\n")
-        self.assertEqual(self.written(), 0)
+        self.assertEqual(self.write_page(), 0)
         data = self.data()
         self.assertEqual(data["verdict"], "silent moves 1 lost 1")
         self.assertEqual(data["match"]["events"], "e0,w0:0:1,d0:1,v0,c")
@@ -75,7 +75,7 @@ class Pages(InTemporary):
 
     def test_no_text_ends_its_element(self) -> None:
         self.answers(judge="silent moves 1 lost 1\n", explain="")
-        self.written()
+        self.write_page()
         text = (self.folder / "match.html").read_text(encoding="utf-8")
         self.assertEqual(text.count("</script>"), 2)
         self.assertNotIn("\u202e", text)
@@ -83,7 +83,7 @@ class Pages(InTemporary):
         self.assertNotIn("https:", text)
 
     def test_a_refused_replay_is_refused_with_its_line(self) -> None:
-        self.assertEqual(self.written(), 3)
+        self.assertEqual(self.write_page(), 3)
         self.assertEqual(
             self.errors,
             f"{self.replay}: end: it stops before its end line, or goes on behind it\n",
@@ -91,10 +91,12 @@ class Pages(InTemporary):
         self.assertFalse((self.folder / "match.html").exists())
 
     def test_a_twin_stands_beside_its_match(self) -> None:
-        lines = ended().replay().replace('"holes":[2]', '"holes":[1]').splitlines()
+        lines = (
+            ended_match().replay().replace('"holes":[2]', '"holes":[1]').splitlines()
+        )
         twin = "\n".join(lines[:4] + lines[5:-1] + ['{"end":4}']) + "\n"
         self.answers(judge="silent moves 1 lost 0\n", explain="", twin=twin)
-        self.assertEqual(self.written("--twin", "1"), 0)
+        self.assertEqual(self.write_page("--twin", "1"), 0)
         self.assertEqual(self.data()["twin"]["struck"], [3])
         self.assertEqual(self.data()["twin"]["head"]["holes"], [1])
 
@@ -103,5 +105,5 @@ class Pages(InTemporary):
             '{"agents":1,"board":8,"hole":null,"home":0,"links":[],"nodes":3,"quota":10,"replay":1}',
             '{"end":0}',
         ]
-        head = page.read(lines)["head"]
+        head = page.read_replay(lines)["head"]
         self.assertEqual((head["holes"], head["dark"], head["replay"]), ([], [], 2))

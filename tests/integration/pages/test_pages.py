@@ -12,25 +12,25 @@ from tests.support.matches import (
     RING,
     InFolder,
     network_fixture,
-    played,
+    play_fixture,
     program,
     ring_fixture,
 )
-from tests.support.output import ran
+from tests.support.output import run_call
 
 
 class Pages(InFolder):
     def test_the_model_says_what_the_program_says(self) -> None:
-        chance = random.Random(7)
+        rng = random.Random(7)
         matches = [
-            (ring_fixture(8, 5, chance), RING),
-            (network_fixture(chance), MAP),
-            (network_fixture(chance), KNOWN_MAP),
+            (ring_fixture(8, 5, rng), RING),
+            (network_fixture(rng), MAP),
+            (network_fixture(rng), KNOWN_MAP),
         ]
         for number, (fixture, agent) in enumerate(matches):
             path = self.folder / f"{number}.jsonl"
             path.write_bytes(
-                played(fixture, agent, number, schedulers.slow_agents).replay
+                play_fixture(fixture, agent, number, schedulers.slow_agents).replay
             )
             pages = [
                 page.page_of(page.data_of(engine, path, None))
@@ -39,14 +39,14 @@ class Pages(InFolder):
             self.assertEqual(pages[0], pages[1])
 
     def test_a_refusal_has_a_status_that_the_help_tells(self) -> None:
-        replay = played(ring_fixture(4, 2, random.Random(1)), RING, 0).replay
-        other = replay.replace(b'"ports":2', b'"ports":3', 1)
+        replay = play_fixture(ring_fixture(4, 2, random.Random(1)), RING, 0).replay
+        second = replay.replace(b'"ports":2', b'"ports":3', 1)
         path = self.folder / "match.jsonl"
         by_program = ["--program", program()]
         for text, engine, status in (
             (b"", by_program, 3),
             (b"", ["--engine", "model"], 3),
-            (other, by_program, 4),
+            (second, by_program, 4),
             (None, by_program, 6),
             (None, ["--engine", "model"], 2),
         ):
@@ -54,6 +54,6 @@ class Pages(InFolder):
             if text is not None:
                 path.write_bytes(text)
             with self.subTest(status=status, engine=engine):
-                found, _, said = ran(main, ["page", str(path), *engine])
-                self.assertEqual(found, status, said)
+                result, _, output = run_call(main, ["page", str(path), *engine])
+                self.assertEqual(result, status, output)
                 self.assertIn(status, statuses.statuses("page"))

@@ -10,7 +10,7 @@ import time
 from typing import Any, Callable, Dict, List
 
 from arena_lab.rules.engines import TOP
-from arena_lab.rules.model import Match, spelled
+from arena_lab.rules.model import Match, spell
 from arena_lab.rules.networks import ring
 from examples.contest import free_port
 from tests.support.matches import InFolder
@@ -31,7 +31,7 @@ class Watching(InFolder):
         self.written = [0, 0]
         self.port = free_port()
 
-    def watch(self, *more: str) -> None:
+    def watch(self, *extra: str) -> None:
         words = [
             sys.executable,
             "-m",
@@ -41,7 +41,7 @@ class Watching(InFolder):
             "m",
             "--port",
             str(self.port),
-            *more,
+            *extra,
         ]
         child = subprocess.Popen(
             words,
@@ -64,7 +64,7 @@ class Watching(InFolder):
         """Appends to a part what has happened, but for some bytes of the last line."""
         match = self.matches[number]
         text = "".join(
-            spelled(line) + "\n" for line in [match.head(), *match.log]
+            spell(line) + "\n" for line in [match.head(), *match.log]
         ).encode()
         with self.part(number).open("ab") as file:
             file.write(text[self.written[number] : len(text) - cut])
@@ -77,7 +77,7 @@ class Watching(InFolder):
         )
         self.part(number).unlink()
 
-    def asked(self, path: str, **headers: str) -> "http.client.HTTPResponse":
+    def request(self, path: str, **headers: str) -> "http.client.HTTPResponse":
         connection = http.client.HTTPConnection("127.0.0.1", self.port, timeout=SECONDS)
         self.addCleanup(connection.close)
         connection.request(
@@ -88,9 +88,9 @@ class Watching(InFolder):
         return connection.getresponse()
 
     def status(self, path: str) -> int:
-        return self.asked(path).status
+        return self.request(path).status
 
-    def told(
+    def rows_where(
         self, holds: Callable[[List[Dict[str, Any]]], bool]
     ) -> List[Dict[str, Any]]:
         """The rows of the first standings of which this holds."""
@@ -100,29 +100,29 @@ class Watching(InFolder):
         self, holds: Callable[[List[Dict[str, Any]]], bool]
     ) -> Dict[str, Any]:
         """The first standings whose rows are so, read as a page reads them."""
-        stream = self.asked("/standings")
+        stream = self.request("/standings")
         while True:
             line = stream.readline()
             self.assertTrue(line, "the standings have ended")
             if line.startswith(b"data: "):
-                told: Dict[str, Any] = json.loads(line[6:])
-                if holds(told["rows"]):
-                    return told
+                message: Dict[str, Any] = json.loads(line[6:])
+                if holds(message["rows"]):
+                    return message
 
     def test_a_contest_from_its_beginning_to_its_end(self) -> None:
         self.watch()
         self.assertEqual(
-            [row["state"] for row in self.told(lambda rows: True)],
+            [row["state"] for row in self.rows_where(lambda rows: True)],
             ["has not begun"] * 2,
         )
-        red = self.matches[0]
+        red_team = self.matches[0]
         for number in (0, 1):
             self.write(number)
-        red.tell(0, {"do": "enter"})
-        red.tell(0, {"do": "write", "expect": "", "put": TEXT})
-        red.tell(0, {"do": "depart", "port": 0})
+        red_team.reply_to(0, {"do": "enter"})
+        red_team.reply_to(0, {"do": "write", "expect": "", "put": TEXT})
+        red_team.reply_to(0, {"do": "depart", "port": 0})
         self.write(0, cut=5)
-        rows = self.told(lambda rows: any(row.get("entered") for row in rows))
+        rows = self.rows_where(lambda rows: any(row.get("entered") for row in rows))
         self.assertEqual(
             [
                 (row["team"], row["state"], row["entered"], row["agents"], row["page"])
@@ -142,21 +142,23 @@ class Watching(InFolder):
             for rest in ("", "/data", "/news")
         ]
         self.assertEqual([self.status(path) for path in paths], [404] * 9)
-        red.deliver(0)
-        red.tell(0, {"do": "accuse", "port": 0})
-        red.close()
+        red_team.deliver(0)
+        red_team.reply_to(0, {"do": "accuse", "port": 0})
+        red_team.close()
         self.write(0)
-        rows = self.told(lambda rows: any(row["state"] == "is over" for row in rows))
+        rows = self.rows_where(
+            lambda rows: any(row["state"] == "is over" for row in rows)
+        )
         self.assertEqual(
             (rows[0]["outcome"], rows[0]["moves"], rows[0]["page"]), ("guess", 1, False)
         )
         self.matches[1].close()
         self.write(1)
-        rows = self.told(lambda rows: all(row.get("page") for row in rows))
+        rows = self.rows_where(lambda rows: all(row.get("page") for row in rows))
         self.assertEqual(rows[0]["outcome"], "guess 3")
         self.end(0)
         time.sleep(1)
-        page = self.asked("/match/0")
+        page = self.request("/match/0")
         text = page.read().decode()
         self.assertIn("default-src 'none'", page.headers["Content-Security-Policy"])
         self.assertIn("guess 3 moves 1 lost 0", text)
@@ -170,25 +172,25 @@ class Watching(InFolder):
         )
 
     def test_another_contest_with_the_same_names_begins_anew(self) -> None:
-        self.matches[0].tell(0, {"do": "enter"})
+        self.matches[0].reply_to(0, {"do": "enter"})
         self.write(0)
         self.watch()
-        self.told(lambda rows: any(row.get("entered") for row in rows))
+        self.rows_where(lambda rows: any(row.get("entered") for row in rows))
         self.part(0).rename(self.folder / "m0.jsonl.part.old")
         self.matches[0] = Match(self.matches[0].setup)
         self.written[0] = 0
         self.write(0)
-        self.told(lambda rows: any(row.get("entered") == 0 for row in rows))
+        self.rows_where(lambda rows: any(row.get("entered") == 0 for row in rows))
 
     def test_pages_elsewhere_read_nothing(self) -> None:
         """A page whose name leads to this machine, and one that asks from another
         origin."""
-        self.matches[0].tell(0, {"do": "enter"})
+        self.matches[0].reply_to(0, {"do": "enter"})
         self.write(0)
         self.watch("--open", "--host", "Projector.example")
-        self.told(lambda rows: any(row.get("entered") for row in rows))
+        self.rows_where(lambda rows: any(row.get("entered") for row in rows))
         here = f"127.0.0.1:{self.port}"
-        for status, given in (
+        for status, arguments in (
             (403, {"Host": f"evil.example:{self.port}"}),
             (403, {"Host": "evil.example"}),
             (403, {"Host": "127.0.0.1.evil.example"}),
@@ -205,21 +207,21 @@ class Watching(InFolder):
             (200, {"Sec_Fetch_Site": "cross-site", "Sec_Fetch_Mode": "navigate"}),
         ):
             for path in ("/match/0/data", "/", "/standings"):
-                with self.subTest(given=given, path=path):
-                    self.assertEqual(self.asked(path, **given).status, status)
+                with self.subTest(given=arguments, path=path):
+                    self.assertEqual(self.request(path, **arguments).status, status)
 
     def test_nothing_is_sent_while_nothing_new_is_shown(self) -> None:
         """What an agent does in a match that runs moves no heartbeat either."""
         for number in (0, 1):
-            self.matches[number].tell(0, {"do": "enter"})
+            self.matches[number].reply_to(0, {"do": "enter"})
             self.write(number)
         self.watch()
-        stream = self.asked("/standings")
+        stream = self.request("/standings")
         while stream.readline().count(b'"entered": 1') < 2:
             pass
         self.assertEqual(stream.readline(), b"\n")
         for _ in range(3):
-            self.matches[0].tell(0, {"do": "look"})
+            self.matches[0].reply_to(0, {"do": "look"})
             self.write(0)
             time.sleep(0.7)
         stream.fp.raw._sock.settimeout(1)  # type: ignore[union-attr]
@@ -231,39 +233,39 @@ class Watching(InFolder):
         for number in (0, 1):
             self.write(number)
         self.watch()
-        self.told(lambda rows: any(row["state"] == "is over" for row in rows))
+        self.rows_where(lambda rows: any(row["state"] == "is over" for row in rows))
         self.assertEqual(self.status("/match/0"), 404)
 
-    def begin_with_turns(self, *more: str) -> Dict[str, Any]:
+    def begin_with_turns(self, *extra: str) -> Dict[str, Any]:
         """The standings of a match of which the server has written turn 522, long after
         its agents have entered."""
         for agent in (0, 1):
-            self.matches[0].tell(agent, {"do": "enter"})
+            self.matches[0].reply_to(agent, {"do": "enter"})
         (self.folder / "m0.turns.part").write_text("0\n522\n")
         for number in (0, 1):
             self.write(number)
-        self.watch("--turns", "6000", "--pause", "10", *more)
+        self.watch("--turns", "6000", "--pause", "10", *extra)
         return self.standings(lambda rows: any(row["state"] == "runs" for row in rows))
 
     def test_a_turn_is_one_that_the_server_wrote(self) -> None:
-        told = self.begin_with_turns("--open")
-        self.assertEqual([row.get("turn") for row in told["rows"]], [522, None])
-        self.assertEqual((told["turns"], told.get("pause")), (6000, None))
+        begin = self.begin_with_turns("--open")
+        self.assertEqual([row.get("turn") for row in begin["rows"]], [522, None])
+        self.assertEqual((begin["turns"], begin.get("pause")), (6000, None))
 
     def test_no_turn_is_shown_where_agents_must_not_see_when_others_act(self) -> None:
-        told = self.begin_with_turns()
-        self.assertEqual([row.get("turn") for row in told["rows"]], [None, None])
-        self.assertNotIn("pause", told)
+        begin = self.begin_with_turns()
+        self.assertEqual([row.get("turn") for row in begin["rows"]], [None, None])
+        self.assertNotIn("pause", begin)
 
     def test_news_are_those_of_the_match(self) -> None:
         for number in (0, 1):
-            self.matches[number].tell(0, {"do": "enter"})
+            self.matches[number].reply_to(0, {"do": "enter"})
             self.write(number)
         self.watch("--open")
-        self.told(lambda rows: all(row.get("entered") for row in rows))
-        stream = self.asked("/match/1/news")
+        self.rows_where(lambda rows: all(row.get("entered") for row in rows))
+        stream = self.request("/match/1/news")
         first = stream.readline()
-        self.matches[1].tell(0, {"do": "look"})
+        self.matches[1].reply_to(0, {"do": "look"})
         self.write(1)
         while not (line := stream.readline()).startswith(b"data: "):
             pass
@@ -272,21 +274,21 @@ class Watching(InFolder):
         )
 
     def test_an_open_match_has_its_page_at_once(self) -> None:
-        self.matches[0].tell(0, {"do": "enter"})
+        self.matches[0].reply_to(0, {"do": "enter"})
         self.write(0)
         self.watch("--open")
-        self.told(lambda rows: any(row.get("entered") for row in rows))
-        data = json.loads(self.asked("/match/0/data").read())
+        self.rows_where(lambda rows: any(row.get("entered") for row in rows))
+        data = json.loads(self.request("/match/0/data").read())
         self.assertEqual(
             (data["verdict"], data["news"]), ("the match goes on", "/match/0")
         )
         self.assertEqual(data["match"]["events"], "e0")
-        stream = self.asked("/match/0/news")
+        stream = self.request("/match/0/news")
         before = stream.readline()
-        self.matches[0].tell(1, {"do": "enter"})
+        self.matches[0].reply_to(1, {"do": "enter"})
         self.write(0)
         while not (line := stream.readline()).startswith(b"data: ") or line == before:
             pass
         self.assertEqual(
-            json.loads(self.asked("/match/0/data").read())["match"]["events"], "e0,e1"
+            json.loads(self.request("/match/0/data").read())["match"]["events"], "e0,e1"
         )

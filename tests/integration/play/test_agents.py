@@ -4,7 +4,7 @@ import sys
 import unittest
 
 from arena_lab.play import schedulers
-from arena_lab.play.agent_files import NoAgent, script_of
+from arena_lab.play.agent_files import AgentError, script_of
 from arena_lab.play.teams import INSIDE, AgentWords
 from arena_lab.rules.networks import ring
 from tests.support.drawing import by_chance
@@ -14,7 +14,7 @@ from tests.support.matches import (
     InFolder,
     fixture,
     network_fixture,
-    played,
+    play_fixture,
     ring_fixture,
     under,
 )
@@ -24,33 +24,39 @@ RINGS = range(3, 33)
 
 class SampleAgents(unittest.TestCase):
     def test_two_agents_solve_each_ring(self) -> None:
-        chance = random.Random(1)
+        rng = random.Random(1)
         for nodes in RINGS:
-            for hole in {1, 2, nodes // 2, nodes - 1, chance.randrange(1, nodes)} - {
+            for hole in {1, 2, nodes // 2, nodes - 1, rng.randrange(1, nodes)} - {
                 nodes
             }:
-                given = ring_fixture(nodes, hole, chance)
-                seed = chance.randrange(2**32)
+                match_fixture = ring_fixture(nodes, hole, rng)
+                seed = rng.randrange(2**32)
                 with self.subTest(nodes=nodes, hole=hole, seed=seed):
-                    self.assertFalse(played(given, RING, seed).has_failed())
+                    self.assertFalse(
+                        play_fixture(match_fixture, RING, seed).has_failed()
+                    )
 
     @by_chance(60)
     def test_more_agents_than_the_greatest_degree_solve_networks(
-        self, chance: random.Random
+        self, rng: random.Random
     ) -> None:
-        given = network_fixture(chance)
-        self.assertFalse(played(given, MAP, chance.randrange(60)).has_failed())
+        match_fixture = network_fixture(rng)
+        self.assertFalse(
+            play_fixture(match_fixture, MAP, rng.randrange(60)).has_failed()
+        )
 
     def test_they_do_under_each_scheduler(self) -> None:
-        for name, maker in schedulers.NAMED.items():
+        for name, maker in schedulers.SCHEDULER_MAKERS.items():
             for seed in range(5):
-                chance = random.Random(seed)
-                for agent, given in (
-                    (RING, ring_fixture(12, 1 + seed, chance)),
-                    (MAP, network_fixture(chance)),
+                rng = random.Random(seed)
+                for agent, match_fixture in (
+                    (RING, ring_fixture(12, 1 + seed, rng)),
+                    (MAP, network_fixture(rng)),
                 ):
                     with self.subTest(scheduler=name, seed=seed, agent=agent.words):
-                        self.assertFalse(played(given, agent, seed, maker).has_failed())
+                        self.assertFalse(
+                            play_fixture(match_fixture, agent, seed, maker).has_failed()
+                        )
 
 
 ALONE = """
@@ -83,7 +89,9 @@ class Modules(InFolder):
         (self.folder / "helper.py").write_text("KEYS = []\n", encoding="utf-8")
         (self.folder / "alone.py").write_text(ALONE, encoding="utf-8")
         agent = AgentWords(INSIDE, str(self.folder / "alone.py"))
-        first, second = (played(fixture(ring(3), 1), agent, 0).faults for _ in range(2))
+        first, second = (
+            play_fixture(fixture(ring(3), 1), agent, 0).faults for _ in range(2)
+        )
         self.assertEqual(first, second)
         self.assertEqual(
             [fault.partition(" 0.")[0] for fault in first],
@@ -111,12 +119,12 @@ class Modules(InFolder):
             )
             (beside / "late.py").write_text(LATE, encoding="utf-8")
             agents.append(AgentWords(INSIDE, str(beside / "late.py")))
-        given = fixture(ring(3), 1)
+        match_fixture = fixture(ring(3), 1)
         before = sys.modules["random"], list(sys.path)
         for _ in range(2):
-            found = under(schedulers.fair(0), given, agents).faults
+            result = under(schedulers.fair(0), match_fixture, agents).faults
             self.assertEqual(
-                [fault.partition("0.")[0].strip() for fault in found],
+                [fault.partition("0.")[0].strip() for fault in result],
                 [
                     "agent 0: raises ValueError: one one ['k0'] ['k0']",
                     "agent 1: raises ValueError: two two ['k1'] ['k1']",
@@ -127,7 +135,7 @@ class Modules(InFolder):
 
     def test_words_that_the_function_does_not_take_are_told(self) -> None:
         setup = fixture(ring(4), 2).setup
-        for words, said in (
+        for words, message in (
             (RING.words.replace(" {nodes}", ""), "it wants nodes behind the file"),
             (
                 RING.words + " {links}",
@@ -138,7 +146,7 @@ class Modules(InFolder):
                 "it wants nodes, links behind the file",
             ),
         ):
-            with self.subTest(words), self.assertRaisesRegex(NoAgent, said):
+            with self.subTest(words), self.assertRaisesRegex(AgentError, message):
                 script_of(words, setup)
 
     def test_a_file_that_does_not_parse_is_told(self) -> None:
@@ -147,6 +155,6 @@ class Modules(InFolder):
         )
         agent = AgentWords(INSIDE, str(self.folder / "broken.py"))
         with self.assertRaisesRegex(
-            NoAgent, r"broken.py, line 1: '\(' was never closed"
+            AgentError, r"broken.py, line 1: '\(' was never closed"
         ):
-            played(fixture(ring(3), 1), agent, 0)
+            play_fixture(fixture(ring(3), 1), agent, 0)

@@ -4,10 +4,10 @@ import shutil
 from typing import Tuple
 
 from arena_lab.__main__ import main
-from arena_lab.play.schedules import read
+from arena_lab.play.schedules import read_schedule
 from arena_lab.support.built import TOP
 from tests.support.matches import AGENTS, InFolder
-from tests.support.output import ran
+from tests.support.output import run_call
 
 # computes for a second of the processor's time, and then searches
 SLOW = """
@@ -31,9 +31,9 @@ class Follows(InFolder):
         for name in ("client.py", "ring.py"):
             shutil.copy(AGENTS / name, self.folder)
 
-    def said(self, *words: str) -> Tuple[int, str]:
-        status, said, _ = ran(main, [*words, "--engine", "model"])
-        return status, said
+    def output(self, *words: str) -> Tuple[int, str]:
+        status, output, _ = run_call(main, [*words, "--engine", "model"])
+        return status, output
 
     def test_what_is_found_with_a_limit_is_kept_with_it(self) -> None:
         self.agent.write_text(SLOW)
@@ -54,20 +54,24 @@ class Follows(InFolder):
         ):
             with self.subTest(words[0]):
                 out = self.folder / words[0]
-                status, said = self.said(*words, *team, "--keep", str(out))
-                self.assertEqual((status, said.count(TOO_SLOW) > 0), (1, True), said)
-                self.assertEqual(read(out / "schedule.txt").limit, 0.3)
-                _, again = self.said("replay", str(out))
+                status, output = self.output(*words, *team, "--keep", str(out))
+                self.assertEqual(
+                    (status, output.count(TOO_SLOW) > 0), (1, True), output
+                )
+                self.assertEqual(read_schedule(out / "schedule.txt").limit, 0.3)
+                _, again = self.output("replay", str(out))
                 self.assertIn(TOO_SLOW, again)
                 self.assertIn("the replay is the same, byte for byte", again)
                 # whoever has a slower machine gives more
-                _, longer = self.said("replay", str(out), "--timeout", "60", "--follow")
+                _, longer = self.output(
+                    "replay", str(out), "--timeout", "60", "--follow"
+                )
                 self.assertNotIn(TOO_SLOW, longer)
 
     def test_a_mended_program_is_tried_against_what_it_failed_under(self) -> None:
         shutil.copy(TOP / "arena_lab" / "mutants" / "reads_once.py", self.agent)
         out = self.folder / "out"
-        status, _ = self.said(
+        status, _ = self.output(
             "run",
             "--network",
             "ring:8",
@@ -79,22 +83,22 @@ class Follows(InFolder):
             str(out),
         )
         self.assertEqual(status, 1)
-        whole = len(read(out / "schedule.txt").choices)
-        status, said = self.said("replay", str(out), "--follow")
+        whole = len(read_schedule(out / "schedule.txt").choices)
+        status, output = self.output("replay", str(out), "--follow")
         self.assertEqual(
-            (status, said.splitlines()[0]),
+            (status, output.splitlines()[0]),
             (1, f"followed all {whole} choices of the schedule"),
         )
         shutil.copy(AGENTS / "ring.py", self.agent)
-        status, said = self.said(
+        status, output = self.output(
             "replay", str(out), "--follow", "--keep", str(self.folder / "mended")
         )
-        self.assertEqual(status, 0, said)
+        self.assertEqual(status, 0, output)
         self.assertRegex(
-            said,
+            output,
             r"^followed \d+ of \d+ choices: the next is `.*fair choices came then\nsolved moves",
         )
         self.assertIn(
             "the replay is the same",
-            self.said("replay", str(self.folder / "mended"))[1],
+            self.output("replay", str(self.folder / "mended"))[1],
         )

@@ -11,7 +11,7 @@ from arena_lab.rules.fixtures import Fixture, fixture_of
 from arena_lab.rules.model import Setup, Verdict
 from arena_lab.rules.networks import Network, ring
 from arena_lab.rules.rehearsal import Rehearsal
-from arena_lab.search.explore import explored
+from arena_lab.search.explore import explore_match
 from arena_lab.search.ring_bounds import most_moves, rounds
 from arena_lab.support.progress import NO_PROGRESS
 from tests.support.matches import flipped_ring, program, two, under
@@ -60,7 +60,8 @@ def worst_distance(nodes: int) -> int:
 
 
 def one_after_the_other(first: int) -> schedulers.Scheduler:
-    """This agent goes on as long as it can, then the other."""
+    """Returns a scheduler that runs one agent as long as possible, and then the
+    other."""
     return lambda choices, state: min(choices, key=lambda choice: choice.agent != first)
 
 
@@ -68,13 +69,13 @@ class Protocols(unittest.TestCase):
     def moves(
         self, name: str, nodes: int, hole: int, first: int, bounds: Bounds
     ) -> int:
-        """The moves of a match in which one agent goes on until it is lost, and then
-        the other."""
-        given = fixture(ring(nodes), hole, 0, bounds.commands)
-        found = under(one_after_the_other(first), given, two(name, "{nodes}"))
-        self.check(found, bounds)
-        self.assertEqual(found.verdict().lost, 1)
-        return found.verdict().moves
+        """Plays a match in which one agent runs until it is lost, and then the other;
+        returns the moves."""
+        match_fixture = fixture(ring(nodes), hole, 0, bounds.commands)
+        result = under(one_after_the_other(first), match_fixture, two(name, "{nodes}"))
+        self.check(result, bounds)
+        self.assertEqual(result.verdict().lost, 1)
+        return result.verdict().moves
 
     def test_the_bound_of_the_halves_is_attained(self) -> None:
         for nodes in SIZES:
@@ -90,23 +91,25 @@ class Protocols(unittest.TestCase):
             for hole in range(1, nodes):
                 with self.subTest(nodes=nodes, hole=hole):
                     first = 0 if nodes - hole > 1 else 1
-                    found = self.moves("shuttle.py", nodes, hole, first, shuttle(nodes))
-                    self.assertEqual(found, hole**2 + (nodes - hole) ** 2 - 1)
+                    result = self.moves(
+                        "shuttle.py", nodes, hole, first, shuttle(nodes)
+                    )
+                    self.assertEqual(result, hole**2 + (nodes - hole) ** 2 - 1)
 
-    def check(self, found: PlayedMatch, bounds: Bounds) -> None:
-        self.assertFalse(found.has_failed())
-        self.assertLessEqual(found.verdict().moves, bounds.moves)
-        self.assertLessEqual(found.verdict().lost, 1)
+    def check(self, match: PlayedMatch, bounds: Bounds) -> None:
+        self.assertFalse(match.has_failed())
+        self.assertLessEqual(match.verdict().moves, bounds.moves)
+        self.assertLessEqual(match.verdict().lost, 1)
 
     def worst(self, name: str, nodes: int, hole: int, bounds: Bounds) -> Verdict:
-        """The worst of all schedules, none of which fails."""
-        found = explored(
+        """Returns the worst verdict of all schedules; no schedule may fail."""
+        result = explore_match(
             fixture(ring(nodes), hole, 0, bounds.commands),
             two(name, "{nodes}"),
             NO_PROGRESS,
         )
-        self.assertTrue(found.is_whole and not found.explorer.worst.has_failed)
-        return found.explorer.worst.verdict
+        self.assertTrue(result.is_whole and not result.explorer.worst.has_failed)
+        return result.explorer.worst.verdict
 
     def test_every_schedule_of_small_rings_by_halves(self) -> None:
         for nodes in range(3, 7):
@@ -129,17 +132,17 @@ class Protocols(unittest.TestCase):
     def test_every_scheduler_of_the_lab(self) -> None:
         engines: List[Callable[[Fixture], Any]] = [
             Rehearsal,
-            lambda it: Program(it, program()),
+            lambda fixture_given: Program(fixture_given, program()),
         ]
         for name, bounds_of in SEARCHES.items():
-            for scheduler, maker in sorted(schedulers.NAMED.items()):
+            for scheduler, maker in sorted(schedulers.SCHEDULER_MAKERS.items()):
                 for seed in range(DRAWN):
-                    chance = random.Random(f"{name} {scheduler} {seed}")
-                    nodes = chance.choice(SIZES)
-                    home, hole = chance.sample(range(nodes), 2)
+                    rng = random.Random(f"{name} {scheduler} {seed}")
+                    nodes = rng.choice(SIZES)
+                    home, hole = rng.sample(range(nodes), 2)
                     bounds = bounds_of(nodes)
-                    network = flipped_ring(nodes, chance) if seed % 2 else ring(nodes)
-                    given = fixture(network, hole, home, bounds.commands)
+                    network = flipped_ring(nodes, rng) if seed % 2 else ring(nodes)
+                    match_fixture = fixture(network, hole, home, bounds.commands)
                     for engine in engines[: 1 + (seed < ON_THE_PROGRAM)]:
                         with self.subTest(
                             name,
@@ -150,6 +153,11 @@ class Protocols(unittest.TestCase):
                             hole=hole,
                         ):
                             self.check(
-                                under(maker(seed), given, two(name, "{nodes}"), engine),
+                                under(
+                                    maker(seed),
+                                    match_fixture,
+                                    two(name, "{nodes}"),
+                                    engine,
+                                ),
                                 bounds,
                             )

@@ -5,7 +5,7 @@ from typing import Dict, List
 from arena_lab.__main__ import main
 from arena_lab.sweep import tables
 from tests.support.matches import AGENTS, InFolder
-from tests.support.output import ran
+from tests.support.output import run_call
 
 # enters and hangs on the ring of 4 nodes, and searches on others
 HANGS = """
@@ -20,7 +20,7 @@ runpy.run_path("ring.py", run_name="__main__")
 
 
 class Hangs(InFolder):
-    def faults(self, *more: str) -> Dict[str, List[str]]:
+    def faults(self, *extra: str) -> Dict[str, List[str]]:
         """The first faults of the matches on each network."""
         course = self.folder / "course.toml"
         course.write_text(
@@ -29,7 +29,7 @@ class Hangs(InFolder):
             'command = "python3 hangs.py {host} {port} {key} {nodes}"\n'
         )
         (self.folder / "hangs.py").write_text(HANGS)
-        ran(
+        run_call(
             main,
             [
                 "grade",
@@ -39,21 +39,23 @@ class Hangs(InFolder):
                 "--engine",
                 "model",
                 "--no-repeat",
-                *more,
+                *extra,
             ],
         )
-        found: Dict[str, List[str]] = {}
+        results: Dict[str, List[str]] = {}
         for row in tables.rows_in(self.folder / "out" / tables.RUNS):
-            found.setdefault(row["network"], []).append(row["fault"])
-        return found
+            results.setdefault(row["network"], []).append(row["fault"])
+        return results
 
     def test_after_the_second_hang_the_others_are_not_waited_for_as_long(self) -> None:
-        found = self.faults("--workers", "1")
-        waited = "agent 0: has sent no line for {} s; does it flush after each line?"
-        self.assertEqual(
-            found["ring:4"], [waited.format(seconds) for seconds in (4, 4, 1, 1)]
+        result = self.faults("--workers", "1")
+        waited_value = (
+            "agent 0: has sent no line for {} s; does it flush after each line?"
         )
-        self.assertEqual(found["ring:5"], [""] * 4)
+        self.assertEqual(
+            result["ring:4"], [waited_value.format(seconds) for seconds in (4, 4, 1, 1)]
+        )
+        self.assertEqual(result["ring:5"], [""] * 4)
         page = (self.folder / "out" / "team-a.html").read_text()
         self.assertEqual(page.count('<section class="match">'), 1)
         self.assertIn("and 3 other matches alike", page)
@@ -62,4 +64,4 @@ class Hangs(InFolder):
         lines = rows.read_text().splitlines(keepends=True)
         last = max(number for number, line in enumerate(lines) if "ring:4" in line)
         rows.write_text("".join(lines[:last]))
-        self.assertEqual(self.faults("--workers", "1"), found)
+        self.assertEqual(self.faults("--workers", "1"), result)

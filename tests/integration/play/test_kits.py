@@ -10,7 +10,7 @@ from arena_lab.play.grounds import LocalRunner
 from arena_lab.play.kits import KITS
 from arena_lab.play.teams import OUTSIDE, AgentWords, Game
 from arena_lab.rules.networks import ring
-from tests.support.kits_played import Played
+from tests.support.kits_played import PlayedKit
 from tests.support.matches import program
 from tests.support.output import InTemporary
 from tools import packages
@@ -21,31 +21,31 @@ class TestKits(InTemporary):
         absent = packages.missing(KITS[language].packages)
         if absent:
             self.skipTest(f"Debian's {', '.join(absent)} is not installed")
-        Played(language, self.folder, program()).all()
+        PlayedKit(language, self.folder, program()).all()
 
     def lines(self, language: str, agent: str) -> None:
         """Each event of a match has the line of the kit's agent that sent it."""
         absent = packages.missing(KITS[language].packages)
         if absent:
             self.skipTest(f"Debian's {', '.join(absent)} is not installed")
-        kit = hand_in.read([AGENTS / language], AGENTS)
-        marked = sent_lines.marked(kit, 5)
-        self.assertNotEqual(marked, kit)
-        for name in marked.entries:
-            marked.write_file(name, self.folder)
+        kit = hand_in.read_files([AGENTS / language], AGENTS)
+        marked_value = sent_lines.mark_program(kit, 5)
+        self.assertNotEqual(marked_value, kit)
+        for name in marked_value.entries:
+            marked_value.write_file(name, self.folder)
         if KITS[language].build:
             words = KITS[language].build.split()
             subprocess.run(words, cwd=self.folder, check=True, capture_output=True)
-        one = AgentWords(
+        first = AgentWords(
             OUTSIDE,
             f"{KITS[language].play} {{host}} {{port}} {{key}} {{nodes}}",
             ground=lambda _: LocalRunner(str(self.folder)),
         )
-        played = play_seed(Game("ring:5", ring(5), [one] * 2), "fair", 0, None).played
-        self.assertEqual(played.faults, [])
-        _, places = sent_lines.parted(played.errors)
+        match = play_seed(Game("ring:5", ring(5), [first] * 2), "fair", 0, None).match
+        self.assertEqual(match.faults, [])
+        _, places = sent_lines.split_errors(match.errors)
         text = (AGENTS / language / agent).read_text(encoding="utf-8").splitlines()
-        log = played.match.log
+        log = match.match.log
         for event, by in zip(log, sent_lines.along(log, places)):
             if event["do"] in ("deliver", "close"):
                 continue

@@ -14,15 +14,15 @@ from unittest import mock
 
 from arena_lab.__main__ import COMMANDS, main
 from arena_lab.play.kept_matches import keep
-from arena_lab.play.schedules import read, schedule_of
+from arena_lab.play.schedules import read_schedule, schedule_of
 from arena_lab.rules import refusals
 from arena_lab.rules.engines import TOP, Program
 from arena_lab.rules.fixtures import read_tournament, toml_of
 from arena_lab.rules.networks import ring
-from arena_lab.sandbox.processes import is_alive, listed
+from arena_lab.sandbox.processes import is_alive, process_numbers
 from arena_lab.support import missing
-from tests.support.matches import RING, InFolder, fixture, played, program
-from tests.support.output import ran
+from tests.support.matches import RING, InFolder, fixture, play_fixture, program
+from tests.support.output import run_call
 
 MODEL = ("--engine", "model")
 RUN = ("run", "--network", "ring:4")
@@ -128,14 +128,14 @@ FACE = '\U0001f600 \u20ac \x7f \x01 " \\ud83d'
 
 
 class Lines(InFolder):
-    def said(self, *words: str) -> Tuple[int, str]:
+    def output(self, *words: str) -> Tuple[int, str]:
         """The exit status of a command, and what it says on standard error."""
-        more = (
+        extra = (
             []
             if "model" in words or words[0] == "network"
             else ["--program", program()]
         )
-        status, _, errors = ran(main, [*words, *more])
+        status, _, errors = run_call(main, [*words, *extra])
         return status, errors
 
     def test_each_fault_is_a_line(self) -> None:
@@ -147,14 +147,14 @@ class Lines(InFolder):
             ("course.toml", 'title = "T"\n'),
         ):
             pathlib.Path(name).write_text(text)
-        for words, status, wanted in ROWS:
+        for words, status, row in ROWS:
             with self.subTest(" ".join(words)):
-                found, said = self.said(*words)
-                self.assertEqual(found, status, said)
-                self.assertIn(wanted, said)
-                self.assertNotIn("Traceback", said)
-                last = said.strip().splitlines()[-1]
-                self.assertIn(wanted, last)
+                result, output = self.output(*words)
+                self.assertEqual(result, status, output)
+                self.assertIn(row, output)
+                self.assertNotIn("Traceback", output)
+                last = output.strip().splitlines()[-1]
+                self.assertIn(row, last)
 
     def test_lines_of_the_program_say_what_they_mean(self) -> None:
         for line, meaning in (
@@ -170,7 +170,7 @@ class Lines(InFolder):
     def test_all_missing_packages_stand_in_one_line(self) -> None:
         for command in ("run", "hunt", "explore"):
             with mock.patch.dict(sys.modules, dict.fromkeys(missing.PACKAGES)):
-                status, said = self.said(command, *OWN[1:])
+                status, output = self.output(command, *OWN[1:])
                 lab = {
                     name: module
                     for name, module in sys.modules.items()
@@ -178,39 +178,54 @@ class Lines(InFolder):
                 }
             # what the lab has loaded meanwhile is not loaded twice
             sys.modules.update(lab)
-            self.assertEqual(status, 2, said)
-            self.assertEqual(said.count("\n"), 1, said)
+            self.assertEqual(status, 2, output)
+            self.assertEqual(output.count("\n"), 1, output)
             for name in COMMANDS[command].needs:
-                self.assertIn(missing.PACKAGES[name], said)
+                self.assertIn(missing.PACKAGES[name], output)
 
     def test_keys_of_any_characters(self) -> None:
-        given = fixture(ring(4), 2)._replace(keys=[FACE, "k1"])
-        text = toml_of(given.keys)
+        match_fixture = fixture(ring(4), 2)._replace(keys=[FACE, "k1"])
+        text = toml_of(match_fixture.keys)
         self.assertNotIn("\\ud83d\\ude00", text)
-        found = played(given, RING, 0, engine=lambda it: Program(it, program()))
-        self.assertEqual(found.verdict().outcome, "solved")
-        schedule = schedule_of(given, [RING] * 2, "a test", found.choices)
+        match = play_fixture(
+            match_fixture,
+            RING,
+            0,
+            engine=lambda fixture_given: Program(fixture_given, program()),
+        )
+        self.assertEqual(match.verdict().outcome, "solved")
+        schedule = schedule_of(match_fixture, [RING] * 2, "a test", match.choices)
         self.assertEqual(
-            ran(keep, self.folder, schedule, program()).status.replay, found.replay
+            run_call(keep, self.folder, schedule, program()).status.replay, match.replay
         )
         self.assertEqual(
-            ran(main, ["replay", str(self.folder), "--program", program()]).status, 0
+            run_call(main, ["replay", str(self.folder), "--program", program()]).status,
+            0,
         )
-        self.assertEqual(read(self.folder / "schedule.txt").fixture, given)
+        self.assertEqual(
+            read_schedule(self.folder / "schedule.txt").fixture, match_fixture
+        )
         os.chdir(self.folder)
         self.assertEqual(
-            read_tournament("tournament.toml").fixtures[0].keys, given.keys
+            read_tournament("tournament.toml").fixtures[0].keys, match_fixture.keys
         )
 
     def test_matches_are_played_in_threads(self) -> None:
-        given = [fixture(ring(8), hole) for hole in range(1, 8)]
+        match_fixture = [fixture(ring(8), hole) for hole in range(1, 8)]
         with concurrent.futures.ThreadPoolExecutor(3) as pool:
-            there = list(pool.map(lambda it: played(it, RING, 1).replay, given))
-        self.assertEqual(there, [played(it, RING, 1).replay for it in given])
+            there = list(
+                pool.map(
+                    lambda fixture_given: play_fixture(fixture_given, RING, 1).replay,
+                    match_fixture,
+                )
+            )
+        self.assertEqual(
+            there, [play_fixture(it, RING, 1).replay for it in match_fixture]
+        )
 
 
 class Processes(InFolder):
-    def started(
+    def start(
         self, *words: str, errors: int = subprocess.DEVNULL
     ) -> "subprocess.Popen[str]":
         heeds = functools.partial(signal.signal, signal.SIGINT, signal.SIG_DFL)
@@ -231,17 +246,17 @@ class Processes(InFolder):
             'title = "T"\nnetworks = ["ring:16"]\nseeds = 9000\n[[team]]\nname = "a"\n'
             f'agent = "{RING.words}"\n'
         )
-        with self.started(
+        with self.start(
             "sweep", str(file), "--out", str(out), "--workers", "2", *MODEL
-        ) as ran:
+        ) as process:
             until = time.monotonic() + 60
-            while time.monotonic() < until and len(session_of(ran.pid)) < 3:
+            while time.monotonic() < until and len(session_of(process.pid)) < 3:
                 time.sleep(0.05)
-            self.assertGreaterEqual(len(session_of(ran.pid)), 3)
-            ran.kill()
-            while time.monotonic() < until and session_of(ran.pid) - {ran.pid}:
+            self.assertGreaterEqual(len(session_of(process.pid)), 3)
+            process.kill()
+            while time.monotonic() < until and session_of(process.pid) - {process.pid}:
                 time.sleep(0.05)
-            self.assertEqual(session_of(ran.pid) - {ran.pid}, set())
+            self.assertEqual(session_of(process.pid) - {process.pid}, set())
 
     def test_who_interrupts_a_run_gets_what_was_played_and_the_status_130(self) -> None:
         words = [
@@ -255,22 +270,23 @@ class Processes(InFolder):
             "--json",
             *MODEL,
         ]
-        with self.started(*words, errors=subprocess.PIPE) as ran:
+        with self.start(*words, errors=subprocess.PIPE) as process:
             # however slow the machine is, a match was played
-            self.assertIn("solved", ran.stdout.readline())
-            ran.send_signal(signal.SIGINT)
-            _, said = ran.communicate(timeout=60)
-        self.assertEqual(ran.returncode, 130, said)
+            self.assertIn("solved", process.stdout.readline())
+            process.send_signal(signal.SIGINT)
+            _, output = process.communicate(timeout=60)
+        self.assertEqual(process.returncode, 130, output)
         self.assertRegex(
-            said, r"interrupted; this was played:\n\d+ schedules?: solved \d+; failed 0"
+            output,
+            r"interrupted; this was played:\n\d+ schedules?: solved \d+; failed 0",
         )
 
 
 def session_of(leader: int) -> Set[int]:
     """The processes that a command has started and that run."""
-    found = set()
-    for process in listed():
+    results = set()
+    for process in process_numbers():
         with contextlib.suppress(ProcessLookupError):
             if os.getsid(process) == leader and is_alive(process):
-                found.add(process)
-    return found
+                results.add(process)
+    return results

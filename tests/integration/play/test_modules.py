@@ -11,17 +11,17 @@ from unittest import mock
 from arena_lab import api
 from arena_lab.__main__ import main
 from arena_lab.play import schedulers, wasm_modules
-from arena_lab.play.agent_files import NoAgent
+from arena_lab.play.agent_files import AgentError
 from arena_lab.play.programs import command_of
 from arena_lab.play.teams import INSIDE, OUTSIDE, AgentWords, agent_named
 from arena_lab.rules.fixtures import fixture_of
 from arena_lab.rules.model import Setup
 from arena_lab.rules.networks import ring
-from arena_lab.search.history_tree import NoFunction
+from arena_lab.search.history_tree import NoFunctionError
 from arena_lab.search.match_results import unkept
 from arena_lab.support import built
 from tests.support.matches import AGENTS, InFolder, program
-from tests.support.output import ran
+from tests.support.output import run_call
 from tests.support.sample_modules import (
     LEAVER,
     MODULE,
@@ -76,13 +76,13 @@ class Modules(InFolder):
         play_by_stand_in(self, self.folder)
 
     def command(self, *words: object) -> Tuple[int, str]:
-        """The status of a command, and what it says."""
-        status, said, errors = ran(main, [*map(str, words)])
-        return status, said + errors
+        """Returns the status and the output of a command."""
+        status, output, errors = run_call(main, [*map(str, words)])
+        return status, output + errors
 
-    def explored(self, *words: object) -> Tuple[int, List[str]]:
-        """The status of an exploration, and what it says but for seconds."""
-        status, said = self.command(
+    def explore(self, *words: object) -> Tuple[int, List[str]]:
+        """Returns the status of an exploration, and its output without times."""
+        status, output = self.command(
             "explore",
             "--board",
             48,
@@ -94,7 +94,7 @@ class Modules(InFolder):
         )
         return (
             status,
-            re.sub(r"\d+\.\d( s|$)", r"_\1", said, flags=re.MULTILINE).splitlines(),
+            re.sub(r"\d+\.\d( s|$)", r"_\1", output, flags=re.MULTILINE).splitlines(),
         )
 
     def test_whatever_names_a_module_it_is_a_program(self) -> None:
@@ -118,13 +118,21 @@ class Modules(InFolder):
         words = command_of("'a b.wasm:{nodes},3'", fixture, 1, {})
         self.assertEqual(
             words[1:],
-            ["127.0.0.1", "{port}", fixture.keys[1], "--module", "a b.wasm:5,3"],
+            [
+                "127.0.0.1",
+                "{port}",
+                fixture.keys[1],
+                "--spurious-wakeups",
+                "4294967295",
+                "--module",
+                "a b.wasm:5,3",
+            ],
         )
         self.assertEqual(
             wasm_modules.word_of("a.wasm:{links},3", fixture.setup),
             f"{self.folder.cwd() / 'a.wasm'}:5,3",
         )
-        with self.assertRaisesRegex(NoAgent, "behind the colon"):
+        with self.assertRaisesRegex(AgentError, "behind the colon"):
             wasm_modules.word_of("a.wasm:{key}", fixture.setup)
 
     def test_it_plays_as_the_same_search_in_python(self) -> None:
@@ -138,7 +146,7 @@ class Modules(InFolder):
         self.assertEqual(rows[0], rows[1])
         self.assertEqual({row[2] for row in rows[0]}, {"solved"})
         for option in ("--agent", "--command"):
-            status, said = self.command(
+            status, output = self.command(
                 "run",
                 "--network",
                 "ring:5",
@@ -151,7 +159,7 @@ class Modules(InFolder):
                 "--repeat",
             )
             self.assertEqual(
-                (status, said.splitlines()[0]), (0, "2 schedules: solved 2; failed 0")
+                (status, output.splitlines()[0]), (0, "2 schedules: solved 2; failed 0")
             )
 
     def test_a_file_that_is_none_fails(self) -> None:
@@ -160,7 +168,7 @@ class Modules(InFolder):
             ("a.wasm", "a.wasm: head at byte 0"),
             ("b.wasm", "No such file"),
         ):
-            status, said = self.command(
+            status, output = self.command(
                 "run",
                 "--network",
                 "ring:4",
@@ -173,11 +181,11 @@ class Modules(InFolder):
             )
             self.assertEqual(status, 1)
             self.assertRegex(
-                said, f"has ended with status 1 before it connected: .*{why}"
+                output, f"has ended with status 1 before it connected: .*{why}"
             )
 
     def test_it_is_hunted_checked_and_swept(self) -> None:
-        status, said = self.command(
+        status, output = self.command(
             "hunt",
             "--network",
             "ring:4",
@@ -192,9 +200,9 @@ class Modules(InFolder):
             "--database",
             self.folder / "hunted",
         )
-        self.assertEqual(status, 1, said)
-        self.assertIn(": the team fails", said)
-        status, said = self.command(
+        self.assertEqual(status, 1, output)
+        self.assertIn(": the team fails", output)
+        status, output = self.command(
             "check",
             MODULE.words,
             "--network",
@@ -202,11 +210,11 @@ class Modules(InFolder):
             "--program",
             program(),
         )
-        self.assertEqual(status, 0, said)
-        # or it is said that this was left out, as of a program that is not proved
-        self.assertIn("every schedule of a ring of 4 with 16 numberings", said)
+        self.assertEqual(status, 0, output)
+        # an unproved program skips this step and says so
+        self.assertIn("every schedule of a ring of 4 with 16 numberings", output)
         (self.folder / "sweep.toml").write_text(SWEEP)
-        status, said = self.command(
+        status, output = self.command(
             "sweep",
             self.folder / "sweep.toml",
             "--out",
@@ -216,7 +224,7 @@ class Modules(InFolder):
             "--explore",
             1000,
         )
-        self.assertEqual(status, 0, said)
+        self.assertEqual(status, 0, output)
         with (self.folder / "out" / "runs.csv").open() as file:
             moves = {
                 (row["team"], row["hole"]): row["moves"] for row in csv.DictReader(file)
@@ -225,11 +233,11 @@ class Modules(InFolder):
             [moves["module", str(hole)] for hole in (1, 2, 3)],
             [moves["python", str(hole)] for hole in (1, 2, 3)],
         )
-        self.assertIn("every schedule of 6 matches", said)
+        self.assertIn("every schedule of 6 matches", output)
 
     def test_a_course_grades_it(self) -> None:
         (self.folder / "course.toml").write_text(COURSE)
-        status, said = self.command(
+        status, output = self.command(
             "grade",
             self.folder / "course.toml",
             "--out",
@@ -237,9 +245,9 @@ class Modules(InFolder):
             "--engine",
             "model",
         )
-        self.assertEqual(status, 0, said)
-        for name, solved in (("amber", 2), ("blue", 0), ("cyan", 0)):
-            self.assertRegex(said, rf"{name} +{solved} of 2 ")
+        self.assertEqual(status, 0, output)
+        for name, solved_count in (("amber", 2), ("blue", 0), ("cyan", 0)):
+            self.assertRegex(output, rf"{name} +{solved_count} of 2 ")
         with (self.folder / "out" / "runs.csv").open() as file:
             faults = {row["team"]: row["fault"] for row in csv.DictReader(file)}
         self.assertRegex(faults["cyan"], "before it connected: .*No such file")
@@ -247,18 +255,18 @@ class Modules(InFolder):
 
     def test_every_schedule_is_tried_by_the_program_alone(self) -> None:
         words = ["--network", "ring:3..4", "--agent", MODULE.words]
-        status, said = self.explored(*words)
-        self.assertEqual(status, 0, said)
+        status, output = self.explore(*words)
+        self.assertEqual(status, 0, output)
         self.assertIn(
             "home 0 holes [2]: 91 states, every schedule solves, most moves 9, _ s",
-            said,
+            output,
         )
         self.assertRegex(
-            "\n".join(said),
+            "\n".join(output),
             "(?m)^151 states in _ s: every schedule solves, by memories of the module "
             "with the SHA-256 3191ff3430cd[0-9a-f]{52}(, .*)?; the program ran the module itself$",
         )
-        self.assertEqual(self.explored(*words, "--workers", 2), (status, said))
+        self.assertEqual(self.explore(*words, "--workers", 2), (status, output))
         self.assertTrue(
             api.explore("ring:4", MODULE.words, board=48, engine=program()).solves
         )
@@ -268,7 +276,7 @@ class Modules(InFolder):
         walker = self.folder / "walker.wasm"
         leaver.write_bytes(LEAVER)
         walker.write_bytes(WALKER)
-        one = "by memories of the module with the SHA-256 {}"
+        first = "by memories of the module with the SHA-256 {}"
         two = "by memories of the modules with the SHA-256 {}, {}"
         for agents, moves, by in (
             ((walker, leaver), 1, two.format(*map(digest, (WALKER, LEAVER)))),
@@ -276,19 +284,19 @@ class Modules(InFolder):
             (
                 (MODULE.words, f"{MODULE.words},0"),
                 4,
-                one.format(digest(RING.read_bytes())),
+                first.format(digest(RING.read_bytes())),
             ),
         ):
             words = [it for agent in agents for it in ("--agent", agent)]
-            status, said = self.explored("--network", "ring:3", "--hole", 2, *words)
-            self.assertEqual(status, 0, said)
-            self.assertIn(f"every schedule solves, most moves {moves}, ", said[0])
-            self.assertIn(f"every schedule solves, {by}", said[1])
+            status, output = self.explore("--network", "ring:3", "--hole", 2, *words)
+            self.assertEqual(status, 0, output)
+            self.assertIn(f"every schedule solves, most moves {moves}, ", output[0])
+            self.assertIn(f"every schedule solves, {by}", output[1])
 
     def test_a_schedule_that_fails_is_played_again(self) -> None:
-        status, said = self.explored("--network", "ring:4", "--agent", f"{RING}:5")
+        status, output = self.explore("--network", "ring:4", "--agent", f"{RING}:5")
         self.assertEqual(
-            (status, said[0]),
+            (status, output[0]),
             (1, "home 0 holes [1]: 21 states, a schedule fails, its moves 12, _ s"),
         )
         self.assertTrue((self.folder / "find" / "schedule.txt").exists())
@@ -298,30 +306,30 @@ class Modules(InFolder):
         path = self.folder / "sleeper.wasm"
         path.write_bytes(SLEEPER)
         words = ["--network", "ring:3", "--hole", 1, "--agents", 1, "--agent", path]
-        told = unkept([0, 0, 0])
-        for more in ([], ["--draws", 1]):
-            status, said = self.explored(*words, *more)
-            self.assertEqual((status, said[-1]), (1, told))
-        with self.assertRaisesRegex(NoFunction, f"a schedule fails; {told}"):
+        message = unkept([0, 0, 0])
+        for extra in ([], ["--draws", 1]):
+            status, output = self.explore(*words, *extra)
+            self.assertEqual((status, output[-1]), (1, message))
+        with self.assertRaisesRegex(NoFunctionError, f"a schedule fails; {message}"):
             api.explore("ring:3", str(path), count=1, holes=[1], engine=program())
 
     def test_schedules_are_drawn_too(self) -> None:
-        status, said = self.explored(
+        status, output = self.explore(
             "--network", "ring:4", "--hole", 2, "--agent", MODULE.words, "--draws", 10
         )
-        self.assertEqual(status, 0, said)
-        self.assertRegex(said[0], "10 solved, 0 failed")
+        self.assertEqual(status, 0, output)
+        self.assertRegex(output[0], "10 solved, 0 failed")
 
     def test_what_the_program_says_against_a_module(self) -> None:
         shutil.copy(AGENTS / "ring.py", self.folder / "a.wasm")
-        status, said = self.explored(
+        status, output = self.explore(
             "--network", "ring:3", "--agent", self.folder / "a.wasm"
         )
-        told = f"{self.folder / 'a.wasm'}: head at byte 0"
+        text = f"{self.folder / 'a.wasm'}: head at byte 0"
         self.assertEqual(
-            (status, said[-1]), (3, f"{told}: {wasm_modules.ADVICE['head']}")
+            (status, output[-1]), (3, f"{text}: {wasm_modules.ADVICE['head']}")
         )
-        status, said = self.explored(
+        status, output = self.explore(
             "--network",
             "ring:4",
             "--hole",
@@ -332,17 +340,17 @@ class Modules(InFolder):
             9,
         )
         self.assertEqual(
-            (status, said[0]),
+            (status, output[0]),
             (130, "home 0 holes [2]: more states than were to be visited, _ s"),
         )
-        status, said = self.explored(
+        status, output = self.explore(
             "--network", "ring:4", "--agent", MODULE.words, "--search", "model"
         )
         self.assertEqual(status, 2)
-        self.assertIn("plays Python agents inside the lab", said[-1])
+        self.assertIn("plays Python agents inside the lab", output[-1])
 
 
-PLAYER = built.PLAYER.proved
+PLAYER = built.PLAYER.proved_path
 
 
 @unittest.skipUnless(
@@ -352,14 +360,14 @@ PLAYER = built.PLAYER.proved
 class ByPlayer(unittest.TestCase):
     def test_the_sample_module_says_what_the_same_search_in_python_says(self) -> None:
         self.enterContext(mock.patch.object(built, "player", lambda: PLAYER))
-        for scheduler in sorted(schedulers.NAMED):
+        for scheduler in sorted(schedulers.SCHEDULER_MAKERS):
             for network in ("ring:3", "ring:8"):
-                found = [
+                results = [
                     [
-                        row.match().played.replay
+                        row.match().match.replay
                         for row in api.play(network, agent, scheduler, 3, board=48)
                     ]
                     for agent in (MODULE.words, f"{AGENTS / 'ring.py'} {{nodes}}")
                 ]
                 with self.subTest(scheduler, network=network):
-                    self.assertEqual(found[0], found[1])
+                    self.assertEqual(results[0], results[1])

@@ -17,7 +17,7 @@ from arena_lab.rules.networks import ring
 Asked = Callable[[Any], Coroutine[Any, Any, None]]
 
 
-def asked(ask: Asked) -> None:
+def with_client(ask: Asked) -> None:
     """Lets a client ask the server of a ring of four nodes."""
 
     async def talk() -> None:
@@ -30,29 +30,29 @@ def asked(ask: Asked) -> None:
     asyncio.run(talk())
 
 
-async def said(client: Any, agent: int, **command: object) -> Dict[str, Any]:
+async def state_of(client: Any, agent: int, **command: object) -> Dict[str, Any]:
     answer = await client.post("/say", json={"agent": agent, "command": command})
-    found: Dict[str, Any] = await answer.json()
-    return found
+    results: Dict[str, Any] = await answer.json()
+    return results
 
 
 class TestPerson(unittest.TestCase):
     def test_the_match_is_shown_once_it_is_over(self) -> None:
         async def ask(client: Any) -> None:
-            seen = await said(client, 0, do="enter")
-            self.assertEqual("at a node", seen["agents"][0]["standing"])
-            await said(client, 0, do="depart", port=0)
+            state = await state_of(client, 0, do="enter")
+            self.assertEqual("at a node", state["agents"][0]["standing"])
+            await state_of(client, 0, do="depart", port=0)
             for _ in range(3):
-                seen = await (await client.post("/wait", json={})).json()
-            self.assertEqual("on a link", seen["agents"][0]["standing"])
-            self.assertNotIn("hole", json.dumps(seen))
+                state = await (await client.post("/wait", json={})).json()
+            self.assertEqual("on a link", state["agents"][0]["standing"])
+            self.assertNotIn("hole", json.dumps(state))
             self.assertEqual(404, (await client.get("/match")).status)
             self.assertTrue((await (await client.post("/end", json={})).json())["over"])
             self.assertIn(
                 "silent moves 1 lost 1", await (await client.get("/match")).text()
             )
 
-        asked(ask)
+        with_client(ask)
 
     def test_pages_elsewhere_play_nothing(self) -> None:
         async def ask(client: Any) -> None:
@@ -68,14 +68,14 @@ class TestPerson(unittest.TestCase):
             ):
                 answer = await client.post("/say", data=enter, headers=headers)
                 self.assertIn(answer.status, (400, 403), headers)
-            seen = await (await client.get("/seen")).json()
-            self.assertEqual("outside", seen["agents"][0]["standing"])
+            observations = await (await client.get("/seen")).json()
+            self.assertEqual("outside", observations["agents"][0]["standing"])
 
-        asked(ask)
+        with_client(ask)
 
     def test_what_no_agent_says(self) -> None:
         async def ask(client: Any) -> None:
-            for given in (
+            for arguments in (
                 [],
                 {"agent": 2, "command": {"do": "enter"}},
                 {"agent": True, "command": {"do": "enter"}},
@@ -83,7 +83,7 @@ class TestPerson(unittest.TestCase):
                 {"agent": 0, "command": {}},
             ):
                 self.assertEqual(
-                    400, (await client.post("/say", json=given)).status, given
+                    400, (await client.post("/say", json=arguments)).status, arguments
                 )
 
-        asked(ask)
+        with_client(ask)

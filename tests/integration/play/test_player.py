@@ -14,7 +14,7 @@ from arena_lab.play.schedulers import Choice, MatchView, Scheduler
 from arena_lab.play.teams import INSIDE, OUTSIDE, AgentWords
 from arena_lab.rules.fixtures import Fixture, fixture_of
 from arena_lab.rules.model import Setup
-from arena_lab.rules.networks import Network, drawn as drawn_network, ring
+from arena_lab.rules.networks import Network, draw_network as drawn_network, ring
 from tests.integration.play.test_halves import SEARCHES, fixture
 from tests.program.unmapped_networks import CUBIC, QUOTA, Search
 from tests.support.matches import (
@@ -67,16 +67,16 @@ def agents(runs: Sequence[str]) -> List[AgentWords]:
     ]
 
 
-def ring_of(sizes: Sequence[int], chance: random.Random) -> Network:
-    nodes = chance.choice(sizes)
-    return flipped_ring(nodes, chance) if chance.random() < 0.5 else ring(nodes)
+def ring_of(sizes: Sequence[int], rng: random.Random) -> Network:
+    nodes = rng.choice(sizes)
+    return flipped_ring(nodes, rng) if rng.random() < 0.5 else ring(nodes)
 
 
-def searched(name: str, chance: random.Random) -> Game:
+def search_game(name: str, rng: random.Random) -> Game:
     """A match on a ring with the least quota and the least whiteboards of the theorem
     on a search in Python."""
-    network = ring_of(SIZES, chance)
-    home, hole = chance.sample(range(network.nodes), 2)
+    network = ring_of(SIZES, rng)
+    home, hole = rng.sample(range(network.nodes), 2)
     bounds = SEARCHES[name](network.nodes)
     runs = [f"{pathlib.PurePath(name).stem} {network.nodes} {side}" for side in (0, 1)]
     return Game(
@@ -84,14 +84,14 @@ def searched(name: str, chance: random.Random) -> Game:
     )
 
 
-def charted(chance: random.Random) -> Game:
+def chart_game(rng: random.Random) -> Game:
     """A match on a drawn network, with the least whiteboards, and one agent more than
     the black hole has links. If no node has more than three links, the agents are told
     just that, or the number of links."""
-    network = drawn_network(chance, CHARTED)
-    home, hole = chance.sample(range(network.nodes), 2)
+    network = drawn_network(rng, CHARTED)
+    home, hole = rng.sample(range(network.nodes), 2)
     is_cubic = max(network.degrees()) <= CUBIC
-    links = chance.choice([len(network.links), 0][: 1 + is_cubic])
+    links = rng.choice([len(network.links), 0][: 1 + is_cubic])
     search = Search(network, home, hole, links)
     count = search.degree + 1
     setup = Setup(
@@ -119,44 +119,46 @@ class Players(InFolder):
     def write(self, games: Sequence[Game]) -> None:
         write_cup(self.folder, [game.fixture for game in games], seed="7" * 64)
 
-    def found(self, game: Game, *words: str) -> Dict[str, Any]:
+    def explore(self, game: Game, *words: str) -> Dict[str, Any]:
         """What `explore` finds of a match whose agents run the module."""
         self.write([game])
         word = f"{MODULE}:{game.network.nodes}"
-        ran = subprocess.run(
+        result = subprocess.run(
             [program(), "explore", "cup.toml", "0", "--module", word, *words],
             cwd=self.folder,
             capture_output=True,
             text=True,
         )
-        found: Dict[str, Any] = json.loads(ran.stdout.splitlines()[0])
-        return found
+        report: Dict[str, Any] = json.loads(result.stdout.splitlines()[0])
+        return report
 
-    def explored(self, chance: random.Random) -> Game:
+    def explore_drawn(self, rng: random.Random) -> Game:
         """A match that the module solves under every schedule, within these moves."""
-        network = ring_of(SMALL, chance)
-        home, hole = chance.sample(range(network.nodes), 2)
-        given = fixture_of(
+        network = ring_of(SMALL, rng)
+        home, hole = rng.sample(range(network.nodes), 2)
+        fixture = fixture_of(
             Setup(network.nodes, network.links, home, [hole], 2, 200, 48)
         )
-        game = Game(network, given, [f"--module {MODULE}:{network.nodes}"] * 2, 0)
-        found = self.found(game)
-        self.assertEqual(found["found"], "solves")
-        return game._replace(moves=found["moves"])
+        game = Game(network, fixture, [f"--module {MODULE}:{network.nodes}"] * 2, 0)
+        result = self.explore(game)
+        self.assertEqual(result["found"], "solves")
+        return game._replace(moves=result["moves"])
 
     def test_they_say_what_the_searches_in_python_say(self) -> None:
         for name in SEARCHES:
-            for scheduler, maker in sorted(schedulers.NAMED.items()):
+            for scheduler, maker in sorted(schedulers.SCHEDULER_MAKERS.items()):
                 for seed in range(DRAWN):
-                    game = searched(name, random.Random(f"{name} {scheduler} {seed}"))
+                    game = search_game(
+                        name, random.Random(f"{name} {scheduler} {seed}")
+                    )
                     with self.subTest(name, scheduler=scheduler, seed=seed):
-                        found = under(
+                        result = under(
                             maker(seed), game.fixture, agents(game.runs), seconds=20
                         )
-                        self.assertFalse(found.has_failed())
-                        self.assertLessEqual(found.verdict().moves, game.moves)
+                        self.assertFalse(result.has_failed())
+                        self.assertLessEqual(result.verdict().moves, game.moves)
                         self.assertEqual(
-                            found.replay,
+                            result.replay,
                             under(
                                 maker(seed), game.fixture, two(name, "{nodes}")
                             ).replay,
@@ -165,48 +167,50 @@ class Players(InFolder):
     def test_charts_solve_networks_without_a_map(self) -> None:
         for scheduler in LETTING:
             for seed in range(CHARTS):
-                game = charted(random.Random(f"chart {scheduler} {seed}"))
+                game = chart_game(random.Random(f"chart {scheduler} {seed}"))
                 with self.subTest(game.runs[0], scheduler=scheduler, seed=seed):
-                    maker = schedulers.NAMED[scheduler]
-                    found = under(
+                    maker = schedulers.SCHEDULER_MAKERS[scheduler]
+                    result = under(
                         maker(seed), game.fixture, agents(game.runs), seconds=20
                     )
-                    self.assertFalse(found.has_failed(), found.faults)
-                    self.assertLessEqual(found.verdict().moves, game.moves)
-                    self.assertLess(found.verdict().lost, len(game.runs))
+                    self.assertFalse(result.has_failed(), result.faults)
+                    self.assertLessEqual(result.verdict().moves, game.moves)
+                    self.assertLess(result.verdict().lost, len(game.runs))
 
     def test_charts_say_what_the_agents_in_python_say(self) -> None:
-        told = set()
-        for scheduler, maker in sorted(schedulers.NAMED.items()):
-            game = charted(random.Random(f"told {scheduler}"))
+        message = set()
+        for scheduler, maker in sorted(schedulers.SCHEDULER_MAKERS.items()):
+            game = chart_game(random.Random(f"told {scheduler}"))
             _, nodes, links = game.runs[0].split()
-            told.add(links == "0")
+            message.add(links == "0")
             python = AgentWords(INSIDE, f"{AGENTS / 'chart.py'} {nodes} {links}")
             with self.subTest(game.runs[0], scheduler=scheduler):
-                played = under(maker(0), game.fixture, [python] * len(game.runs))
-                self.assertFalse(played.has_failed(), played.faults)
+                match = under(maker(0), game.fixture, [python] * len(game.runs))
+                self.assertFalse(match.has_failed(), match.faults)
                 # each agent of the program plays alone, and hears what the one in Python heard
-                again = with_repeats(played, agents(game.runs), game.fixture, 20)
+                again = with_repeats(match, agents(game.runs), game.fixture, 20)
                 self.assertEqual(again.faults, [])
-        self.assertEqual(told, {False, True})
+        self.assertEqual(message, {False, True})
 
     def test_modules_solve_what_they_are_proved_to_solve(self) -> None:
-        for scheduler, maker in sorted(schedulers.NAMED.items()):
+        for scheduler, maker in sorted(schedulers.SCHEDULER_MAKERS.items()):
             for seed in range(MODULES):
                 with self.subTest(scheduler=scheduler, seed=seed):
-                    game = self.explored(random.Random(f"{scheduler} {seed}"))
-                    found = under(
+                    game = self.explore_drawn(random.Random(f"{scheduler} {seed}"))
+                    result = under(
                         maker(seed), game.fixture, agents(game.runs), seconds=20
                     )
-                    self.assertFalse(found.has_failed(), found.faults)
-                    self.assertLessEqual(found.verdict().moves, game.moves)
+                    self.assertFalse(result.has_failed(), result.faults)
+                    self.assertLessEqual(result.verdict().moves, game.moves)
 
     def test_modules_come_to_what_explore_says_of_a_schedule(self) -> None:
         for scheduler in EXPLORED:
             for seed in range(MODULES):
                 with self.subTest(scheduler=scheduler, seed=seed):
-                    game = self.explored(random.Random(f"{scheduler} {seed} drawn"))
-                    drawn = self.found(
+                    game = self.explore_drawn(
+                        random.Random(f"{scheduler} {seed} drawn")
+                    )
+                    draw = self.explore(
                         game,
                         "--draws",
                         "3",
@@ -215,28 +219,28 @@ class Players(InFolder):
                         "--seed",
                         str(seed),
                     )
-                    found = under(
-                        following(drawn["schedule"]),
+                    result = under(
+                        following(draw["schedule"]),
                         game.fixture,
                         agents(game.runs),
                         seconds=20,
                     )
                     self.assertEqual(
-                        (found.verdict().moves, found.verdict().lost),
-                        (drawn["moves"], drawn["lost"]),
+                        (result.verdict().moves, result.verdict().lost),
+                        (draw["moves"], draw["lost"]),
                     )
 
     def test_they_solve_the_matches_of_a_contest(self) -> None:
-        chance = random.Random("a contest of players")
-        drawn = [searched(name, chance) for name in SEARCHES for _ in range(SERVED)]
-        drawn += [self.explored(chance) for _ in range(MODULES)]
+        rng = random.Random("a contest of players")
+        draw = [search_game(name, rng) for name in SEARCHES for _ in range(SERVED)]
+        draw += [self.explore_drawn(rng) for _ in range(MODULES)]
         games = [
             game._replace(
                 fixture=game.fixture._replace(
                     keys=[f"{number}-{key}" for key in game.fixture.keys]
                 )
             )
-            for number, game in enumerate(drawn)
+            for number, game in enumerate(draw)
         ]
         self.write(games)
         self.serve(games)
@@ -257,14 +261,14 @@ class Players(InFolder):
         with Server(
             [program(), "serve", "cup.toml", "--pause", 1], self.folder
         ) as server:
-            started = [
+            processes = [
                 subprocess.Popen([PLAYER, HOST, str(server.port), key, *runs.split()])
                 for game in games
                 for runs, key in zip(game.runs, game.fixture.keys)
             ]
             try:
                 self.assertEqual(server.child.wait(PATIENCE), 0)
-                self.assertEqual({child.wait(PATIENCE) for child in started}, {0})
+                self.assertEqual({child.wait(PATIENCE) for child in processes}, {0})
             finally:
-                for child in started:
+                for child in processes:
                     child.kill()

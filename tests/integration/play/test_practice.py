@@ -60,7 +60,7 @@ class Practice(InFolder):
             .verdict()
             .outcome
             for seed in range(SEEDS)
-            for engine in (Rehearsal, lambda it: Program(it, program()))
+            for engine in (Rehearsal, lambda fixture: Program(fixture, program()))
         ]
 
     def test_a_timeout_takes_the_held_link_for_a_black_hole(self) -> None:

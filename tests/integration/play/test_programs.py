@@ -8,13 +8,13 @@ import unittest
 from typing import List
 
 from arena_lab.play import kept_matches, schedulers
-from arena_lab.play.agent_files import NoAgent
+from arena_lab.play.agent_files import AgentError
 from arena_lab.play.matches import PlayedMatch
 from arena_lab.play.schedules import schedule_of
 from arena_lab.play.teams import OUTSIDE, AgentWords
 from arena_lab.rules.networks import ring
-from arena_lab.sandbox.processes import listed, words_of
-from tests.support.matches import AGENTS, RING, fixture, played, program, under
+from arena_lab.sandbox.processes import process_numbers, command_words
+from tests.support.matches import AGENTS, RING, fixture, play_fixture, program, under
 from tests.support.output import InTemporary
 
 PYTHON = AgentWords(
@@ -41,8 +41,10 @@ LONG = 30
 
 def running(words: str) -> List[str]:
     """The processes whose command lines have these words."""
-    found = [f"{process} {' '.join(words_of(process))}" for process in listed()]
-    return [line for line in found if words in line]
+    results = [
+        f"{process} {' '.join(command_words(process))}" for process in process_numbers()
+    ]
+    return [line for line in results if words in line]
 
 
 class Programs(InTemporary):
@@ -55,7 +57,7 @@ class Programs(InTemporary):
 
     def test_programs_and_agents_inside_play_the_same(self) -> None:
         for seed in range(3):
-            inside = played(fixture(ring(8), 5), RING, seed, schedulers.fair)
+            inside = play_fixture(fixture(ring(8), 5), RING, seed, schedulers.fair)
             for agents in ([PYTHON, PYTHON], [PYTHON, RING]):
                 with self.subTest(seed=seed):
                     self.assertEqual(self.of(agents, seed).replay, inside.replay)
@@ -73,15 +75,15 @@ class Programs(InTemporary):
         kept_matches.write_find(folder, schedule, match, None)
         self.assertIn("no such map", (folder / "errors1.txt").read_text())
         self.assertFalse((folder / "errors0.txt").exists())
-        # it is no part of the match
+        # standard error does not belong to the match
         (folder / "errors1.txt").write_text("another time")
         self.assertEqual(kept_matches.changed_in(folder, schedule, match, None), [])
 
     @unittest.skipUnless(shutil.which("cc"), "no C compiler")
     def test_programs_in_c_are_played_again_on_both_engines(self) -> None:
-        made = f"{self.folder}/ring"
-        subprocess.run(["cc", "-O2", "-o", made, str(AGENTS / "ring.c")], check=True)
-        agents = [AgentWords(OUTSIDE, f"{made} {{port}} {{key}} 8"), PYTHON]
+        path = f"{self.folder}/ring"
+        subprocess.run(["cc", "-O2", "-o", path, str(AGENTS / "ring.c")], check=True)
+        agents = [AgentWords(OUTSIDE, f"{path} {{port}} {{key}} 8"), PYTHON]
         once = self.of(agents, 7)
         self.assertFalse(once.has_failed())
         schedule = schedule_of(fixture(ring(8), 5), agents, "fair 7", once.choices)
@@ -96,9 +98,9 @@ class Programs(InTemporary):
                 rude = AgentWords(
                     OUTSIDE, f"{sys.executable} {RUDE} {how} {{host}} {{port}} {{key}}"
                 )
-                found = self.of([RING, rude], 1, SHORT if how in WAITED_FOR else LONG)
-                self.assertEqual(found.faults, [fault])
-                self.assertTrue(found.has_failed())
+                result = self.of([RING, rude], 1, SHORT if how in WAITED_FOR else LONG)
+                self.assertEqual(result.faults, [fault])
+                self.assertTrue(result.has_failed())
                 self.assertEqual(running(str(RUDE)), [])
 
     def test_what_the_silent_started_is_ended(self) -> None:
@@ -111,5 +113,5 @@ class Programs(InTemporary):
 
     def test_a_command_that_cannot_be_started_is_told(self) -> None:
         for words in ("no-such-program {port}", "cat {nothing}"):
-            with self.assertRaises(NoAgent):
+            with self.assertRaises(AgentError):
                 self.of([AgentWords(OUTSIDE, words)] * 2, 1)

@@ -5,7 +5,7 @@ import sys
 
 from arena_lab.__main__ import main
 from tests.support.matches import InFolder
-from tests.support.output import ran
+from tests.support.output import run_call
 
 LINES = [
     "debug: here",
@@ -34,17 +34,15 @@ class Refused(InFolder):
         self.agent.write_text(RAW)
 
     def command(self, *lines: str, tail: str = "") -> str:
-        sent = json.dumps(list(lines)).replace("{", "{{").replace("}", "}}")
-        return (
-            f"{sys.executable} {self.agent} {{host}} {{port}} {{key}} '{sent}' '{tail}'"
-        )
+        payload = json.dumps(list(lines)).replace("{", "{{").replace("}", "}}")
+        return f"{sys.executable} {self.agent} {{host}} {{port}} {{key}} '{payload}' '{tail}'"
 
-    def said(self, *words: str) -> str:
-        said = ran(main, [*words, "--engine", "model"]).said
-        return said
+    def output(self, *words: str) -> str:
+        output = run_call(main, [*words, "--engine", "model"]).output
+        return output
 
-    def played(self, *lines: str, tail: str = "", more: "tuple[str, ...]" = ()) -> str:
-        return self.said(
+    def play(self, *lines: str, tail: str = "", extra: "tuple[str, ...]" = ()) -> str:
+        return self.output(
             "run",
             "--network",
             "ring:4",
@@ -54,75 +52,75 @@ class Refused(InFolder):
             "1",
             "--command",
             self.command(*lines, tail=tail),
-            *more,
+            *extra,
         )
 
     def test_the_kit_in_python_says_where_it_was_refused(self) -> None:
-        ran(main, ["new", "python", str(self.folder / "kit")])
+        run_call(main, ["new", "python", str(self.folder / "kit")])
         path = self.folder / "kit" / "careful.py"
-        departs = "found = agent.depart(ahead"
+        departs = "here = agent.depart(ahead"
         lines = path.read_text().splitlines()
         line = next(it for it, text in enumerate(lines, 1) if departs in text)
         lines[line - 1] = lines[line - 1].replace(departs, f"{departs} + 2")
         path.write_text("\n".join(lines))
         command = f"{sys.executable} {path} {{host}} {{port}} {{key}} {{nodes}}"
-        told = self.said("run", "--network", "ring:8", "--command", command)
-        self.assertIn(f": client.NoSuchPort: port (careful.py, line {line})\n", told)
+        message = self.output("run", "--network", "ring:8", "--command", command)
+        self.assertIn(f": client.NoSuchPort: port (careful.py, line {line})\n", message)
 
     def test_run_replay_and_the_page_tell_them(self) -> None:
         out = self.folder / "out"
-        said = self.played(*LINES, more=("--keep", str(out)))
-        self.assertIn(FIRST, said)
-        self.assertIn(PORTS, said)
+        output = self.play(*LINES, extra=("--keep", str(out)))
+        self.assertIn(FIRST, output)
+        self.assertIn(PORTS, output)
         self.assertIn(FIRST, (out / "refused.txt").read_text())
         page = (out / "match0.html").read_text()
         self.assertIn("Refused lines", page)
         self.assertIn("debug: here", page)
-        again = self.said("replay", str(out))
+        again = self.output("replay", str(out))
         self.assertIn(FIRST, again)
         self.assertIn("the replay is the same, byte for byte", again)
         # a find of an earlier version has no such file
         (out / "refused.txt").unlink()
-        self.assertNotIn("is not what belongs", self.said("replay", str(out)))
+        self.assertNotIn("is not what belongs", self.output("replay", str(out)))
 
     def test_what_is_shown_is_escaped(self) -> None:
-        said = self.played("at \x1b[31m<b>port</b>")
-        self.assertIn("`at \\x1b[31m<b>port</b>`", said)
-        self.assertNotIn("\x1b", said)
+        output = self.play("at \x1b[31m<b>port</b>")
+        self.assertIn("`at \\x1b[31m<b>port</b>`", output)
+        self.assertNotIn("\x1b", output)
 
     def test_a_row_of_json_has_them(self) -> None:
-        row = json.loads(self.played("look", more=("--json",)).splitlines()[0])
+        row = json.loads(self.play("look", extra=("--json",)).splitlines()[0])
         self.assertEqual(len(row["refused"]), 1)
         self.assertNotIn("look", " ".join(row["faults"]))
 
     def test_a_right_line_is_not_told(self) -> None:
-        self.assertNotIn("agent 0:", self.played('{"do":"look"}', '{"do":"leave"}'))
+        self.assertNotIn("agent 0:", self.play('{"do":"look"}', '{"do":"leave"}'))
 
     def test_a_first_line_and_an_end_without_a_line_feed(self) -> None:
         self.agent.write_text(RAW.replace('\'{"do":"enter"', '\'\\ufeff{"do":"enter"'))
-        said = self.played()
+        output = self.play()
         self.assertIn(
             'agent 0: its first line was no enter: `\\ufeff{"do":"enter","key":"KEY"}`',
-            said,
+            output,
         )
-        self.assertIn("a byte order mark stands before the line", said)
+        self.assertIn("a byte order mark stands before the line", output)
         self.agent.write_text(RAW)
-        said = self.played(tail="look")
+        output = self.play(tail="look")
         self.assertIn(
             "what it sent last was not taken, as no line feed stands behind it: `look`",
-            said,
+            output,
         )
 
     def test_the_page_of_a_team_tells_them_once(self) -> None:
         course = self.folder / "course.toml"
-        sent = json.dumps([*LINES[:4]]).replace("{", "{{").replace("}", "}}")
-        command = f"python3 raw.py {{host}} {{port}} {{key}} '{sent}' ''"
+        payload = json.dumps([*LINES[:4]]).replace("{", "{{").replace("}", "}}")
+        command = f"python3 raw.py {{host}} {{port}} {{key}} '{payload}' ''"
         course.write_text(
             'title = "T"\nnetworks = ["ring:4"]\nholes = [2]\nseeds = 3\n[[team]]\nname = "a"\n'
             f"agents = 1\nfiles = ['raw.py']\ncommand = {json.dumps(command)}\n"
         )
         out = self.folder / "graded"
-        self.said("grade", str(course), "--out", str(out))
+        self.output("grade", str(course), "--out", str(out))
         page = (out / "team-a.html").read_text()
         self.assertEqual(
             page.count("lines were no commands; the first: `debug: here`"), 1

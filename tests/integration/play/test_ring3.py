@@ -7,13 +7,13 @@ from arena_lab.play import schedulers
 from arena_lab.rules.fixtures import Fixture, fixture_of
 from arena_lab.rules.model import Setup
 from arena_lab.rules.networks import Network, ring
-from arena_lab.search.explore import explored
+from arena_lab.search.explore import explore_match
 from arena_lab.support.progress import NO_PROGRESS
 from experiments import adversary, turns
 from experiments.division import Table, of_ring3, ring3
 from tests.lab.play.test_ring3 import most_moves
 from tests.support.drawing import by_chance
-from tests.support.matches import RING3, flipped_ring, played
+from tests.support.matches import RING3, flipped_ring, play_fixture
 
 
 def fixture(network: Network, hole: int, home: int = 0) -> Fixture:
@@ -24,54 +24,57 @@ def fixture(network: Network, hole: int, home: int = 0) -> Fixture:
 class Ring3(unittest.TestCase):
     def test_every_schedule_of_small_rings(self) -> None:
         for nodes in range(3, 8):
-            found = [
-                explored(fixture(ring(nodes), hole), [RING3] * 2, NO_PROGRESS)
+            results = [
+                explore_match(fixture(ring(nodes), hole), [RING3] * 2, NO_PROGRESS)
                 for hole in range(1, nodes)
             ]
             with self.subTest(nodes=nodes):
                 self.assertTrue(
                     all(
-                        it.is_whole and not it.explorer.worst.has_failed for it in found
+                        result.is_whole and not result.explorer.worst.has_failed
+                        for result in results
                     )
                 )
                 self.assertEqual(
-                    max(it.explorer.worst.verdict.moves for it in found),
+                    max(result.explorer.worst.verdict.moves for result in results),
                     most_moves(nodes),
                 )
-                self.assertEqual(max(it.explorer.worst.verdict.lost for it in found), 1)
+                self.assertEqual(
+                    max(result.explorer.worst.verdict.lost for result in results), 1
+                )
 
     @by_chance(120)
-    def test_drawn_schedules_of_larger_rings(self, chance: random.Random) -> None:
-        nodes = chance.choice((8, 11, 16, 20, 27, 33, 50))
-        home, hole = chance.sample(range(nodes), 2)
-        network = chance.choice((flipped_ring(nodes, chance), ring(nodes)))
-        name = chance.choice(sorted(schedulers.NAMED))
-        found = played(
+    def test_drawn_schedules_of_larger_rings(self, rng: random.Random) -> None:
+        nodes = rng.choice((8, 11, 16, 20, 27, 33, 50))
+        home, hole = rng.sample(range(nodes), 2)
+        network = rng.choice((flipped_ring(nodes, rng), ring(nodes)))
+        name = rng.choice(sorted(schedulers.SCHEDULER_MAKERS))
+        match = play_fixture(
             fixture(network, hole, home),
             RING3,
-            chance.randrange(120),
-            schedulers.NAMED[name],
+            rng.randrange(120),
+            schedulers.SCHEDULER_MAKERS[name],
         )
-        self.assertFalse(found.has_failed())
-        self.assertLessEqual(found.verdict().moves, most_moves(nodes))
-        self.assertLessEqual(found.verdict().lost, 1)
+        self.assertFalse(match.has_failed())
+        self.assertLessEqual(match.verdict().moves, most_moves(nodes))
+        self.assertLessEqual(match.verdict().lost, 1)
 
     def test_the_worst_case_is_found(self) -> None:
-        most = max(
-            played(fixture(ring(16), 1 + seed % 15), RING3, seed).verdict().moves
+        maximum = max(
+            play_fixture(fixture(ring(16), 1 + seed % 15), RING3, seed).verdict().moves
             for seed in range(100)
         )
-        self.assertEqual(most, most_moves(16))
+        self.assertEqual(maximum, most_moves(16))
 
     def test_the_adversary_attains_the_worst_case(self) -> None:
         for nodes in (9, 16, 27, 32):
             with self.subTest(nodes=nodes):
                 hole = Table(nodes, of_ring3).runs()[1] + 1
-                found = played(
+                match = play_fixture(
                     fixture(ring(nodes), hole), RING3, 0, adversary.worst_case
                 )
-                self.assertFalse(found.has_failed())
-                self.assertEqual(found.verdict().moves, most_moves(nodes))
+                self.assertFalse(match.has_failed())
+                self.assertEqual(match.verdict().moves, most_moves(nodes))
 
 
 class Counting(unittest.TestCase):
@@ -83,7 +86,7 @@ class Counting(unittest.TestCase):
         for nodes in (*range(3, 40), 64, 81, 128):
             with self.subTest(nodes=nodes):
                 runs, right = Table(nodes, of_ring3).runs()
-                found = turns.played(ring3.search, nodes, runs)
+                search_end = turns.play_search(ring3.search, nodes, runs)
                 self.assertEqual(
-                    (found.moves, found.hole), (most_moves(nodes), right + 1)
+                    (search_end.moves, search_end.hole), (most_moves(nodes), right + 1)
                 )

@@ -14,7 +14,7 @@ from jsonschema.validators import validator_for
 
 from arena_lab.rules.engines import TOP
 from arena_lab.rules.model import BAD, command_of, value_of
-from tests.support.matches import MAP, RING, network_fixture, played, ring_fixture
+from tests.support.matches import MAP, RING, network_fixture, play_fixture, ring_fixture
 
 SCHEMA: Dict[str, Any] = json.loads(
     (TOP / "docs" / "agent.schema.json").read_text(encoding="utf-8")
@@ -27,7 +27,7 @@ ROWS = TOP / "tests" / "program"
 # bytes
 SEEN = re.compile(r"\S+: (match \d+ )?(missing|shape|version|unknown key)\b.*")
 UNSEEN = re.compile(".*shape (delay_odds|network|keys)")
-# what a client says in a script, and what it is told
+# lines sent by clients in a script, and lines sent to them
 SAID = re.compile(r"> \d+ (.*)")
 TOLD = re.compile(r'< \d+ (\{"(?:board|no|ok)":.*\})')
 
@@ -61,9 +61,9 @@ def of_files(kind: str) -> Any:
     )
 
 
-def kind_of(found: Dict[str, Any]) -> str:
-    """Whether a file of TOML is a network or a tournament."""
-    return "network" if "links" in found else "tournament"
+def kind_of(values: Dict[str, Any]) -> str:
+    """Returns whether a file of TOML is a network or a tournament."""
+    return "network" if "links" in values else "tournament"
 
 
 def changed_files() -> Iterator[Tuple[str, str, str]]:
@@ -85,20 +85,20 @@ def changed_files() -> Iterator[Tuple[str, str, str]]:
         elif mark == ">":
             files[name] = f"{files.get(name, '')}{rest}\n"
         elif line.count(" => ") == 2:
-            old, new, told = (part.replace("¶", "\n") for part in line.split(" => "))
-            yield source, files[source].replace(old, new, 1), told
+            old, new, message = (part.replace("¶", "\n") for part in line.split(" => "))
+            yield source, files[source].replace(old, new, 1), message
 
 
 def of_rows() -> Iterator[Tuple[bool, str]]:
-    """The lines of the rows, each with whether a client said it."""
+    """Yields the lines of the rows, each with whether a client sent it."""
     for path in sorted(ROWS.glob("*.rows")):
         for line in path.read_text(encoding="utf-8").split("\n"):
-            said = SAID.fullmatch(line)
-            told = TOLD.fullmatch(line.strip())
-            if said:
-                yield True, said[1]
-            elif told:
-                yield False, told[1]
+            output = SAID.fullmatch(line)
+            message = TOLD.fullmatch(line.strip())
+            if output:
+                yield True, output[1]
+            elif message:
+                yield False, message[1]
 
 
 def is_json(line: str) -> bool:
@@ -115,8 +115,8 @@ class TestSchema(unittest.TestCase):
 
     def take(self, is_said: bool, line: str) -> None:
         if is_said:
-            taken = is_json(line) and COMMANDS.is_valid(json.loads(line))
-            self.assertEqual(command_of(line) is not BAD, taken, line)
+            duration = is_json(line) and COMMANDS.is_valid(json.loads(line))
+            self.assertEqual(command_of(line) is not BAD, duration, line)
         else:
             ANSWERS.validate(json.loads(line))
 
@@ -129,16 +129,16 @@ class TestSchema(unittest.TestCase):
                 self.take(is_said, line)
 
     def test_lines_of_drawn_matches(self) -> None:
-        chance = random.Random(7)
+        rng = random.Random(7)
         for seed in range(5):
             for match in (
-                played(ring_fixture(6, 3, chance), RING, seed),
-                played(network_fixture(chance), MAP, seed),
+                play_fixture(ring_fixture(6, 3, rng), RING, seed),
+                play_fixture(network_fixture(rng), MAP, seed),
             ):
                 for line in match.script:
-                    said = SAID.fullmatch(f"> {line.decode()}")
-                    if said:
-                        self.take(True, said[1])
+                    output = SAID.fullmatch(f"> {line.decode()}")
+                    if output:
+                        self.take(True, output[1])
                 for event in map(json.loads, match.replay.decode().splitlines()[1:-1]):
                     if event["reply"] is not None:
                         self.take(False, json.dumps(event["reply"]))
@@ -153,8 +153,8 @@ class TestFiles(unittest.TestCase):
             for line in text.splitlines():
                 of_files("replay line").validate(json.loads(line))
         else:
-            found = tomllib.loads(text)
-            of_files(kind_of(found)).validate(found)
+            document = tomllib.loads(text)
+            of_files(kind_of(document)).validate(document)
 
     def test_it_is_a_schema(self) -> None:
         OfFiles.check_schema(FILES)
@@ -173,44 +173,43 @@ class TestFiles(unittest.TestCase):
         )
         lines = re.findall(r'^    (\{"(?:agents|agent|do|end)".*)$', text, re.MULTILINE)
         self.assertGreater(len(lines), 4)
-        for shown in (
+        for view in (
             *(path.read_text(encoding="utf-8") for path in paths),
             network,
             cup,
             third + cup[cup.index("[[match]]") :],
             *lines,
         ):
-            with self.subTest(shown):
-                self.take(shown)
+            with self.subTest(view):
+                self.take(view)
 
     def test_files_of_rows_and_their_faults(self) -> None:
         counts = [0, 0, 0]
-        for name, text, told in changed_files():
+        for name, text, message in changed_files():
             try:
-                found = tomllib.loads(text)
+                document = tomllib.loads(text)
             except tomllib.TOMLDecodeError:
                 continue
             is_right = of_files(
                 "network" if name == "tri.toml" else "tournament"
-            ).is_valid(found)
-            with self.subTest(text=text, told=told):
-                if told.startswith(("right", "match ")):
+            ).is_valid(document)
+            with self.subTest(text=text, told=message):
+                if message.startswith(("right", "match ")):
                     self.assertTrue(is_right)
                     counts[0] += 1
                 elif (
-                    SEEN.fullmatch(told)
-                    and not UNSEEN.fullmatch(told)
-                    and "cup.toml: missing nodes" != told
+                    SEEN.fullmatch(message)
+                    and not UNSEEN.fullmatch(message)
+                    and "cup.toml: missing nodes" != message
                 ):
                     self.assertFalse(is_right)
                     counts[1] += 1
-                    counts[2] += "unknown key" in told
+                    counts[2] += "unknown key" in message
         self.assertGreater(min(counts[:2]), 25)
         self.assertGreater(counts[2], 5)
 
     def test_each_key_of_each_line_of_a_replay(self) -> None:
-        """A line without it, with another one, or with a value of another kind is
-        none."""
+        """Removing, renaming or mistyping any key invalidates the line."""
         lines: List[str] = (
             (TOP / "examples" / "appeal0.jsonl")
             .read_text(encoding="utf-8")
@@ -221,9 +220,9 @@ class TestFiles(unittest.TestCase):
         self.assertGreater(len(kinds), 5)
         for line in map(json.loads, kinds.values()):
             for key in line:
-                others = {name: value for name, value in line.items() if name != key}
+                rest = {name: value for name, value in line.items() if name != key}
                 for fault in (
-                    others,
+                    rest,
                     {**line, key: {}},
                     {**line, "more": 1},
                     {**line, key: [[]]},

@@ -10,7 +10,7 @@ from arena_lab.commands.words import games_of
 from arena_lab.rules.networks import ring
 from arena_lab.search import explore
 from tests.support.matches import FAULTY, RING
-from tests.support.output import InTemporary, ran
+from tests.support.output import InTemporary, run_call
 from tests.support.tournaments import match, write_cup
 
 # The black hole of ring:3 is node 1. One agent walks by node 2, writes x and then y at
@@ -103,7 +103,7 @@ def sleeps_before_it_enters(agent, key, sleep):
 )
 
 # sleepers wake once after each change alone
-WITHOUT_NAPS = ("--spurious-wakeups", "0")
+WITHOUT_SPURIOUS_WAKEUPS = ("--spurious-wakeups", "0")
 
 
 class Sleepers(InTemporary):
@@ -120,11 +120,11 @@ class Sleepers(InTemporary):
 
     def worst(self, names: List[str], *words: str) -> explore.End:
         """The worst end of a match of these agents."""
-        given: argparse.Namespace = parser().parse_args(
-            ["explore", *WITHOUT_NAPS, *words, *self.agents(names)]
+        args: argparse.Namespace = parser().parse_args(
+            ["explore", *WITHOUT_SPURIOUS_WAKEUPS, *words, *self.agents(names)]
         )
-        (game,) = games_of(given)
-        end = explore.explored(
+        (game,) = games_of(args)
+        end = explore.explore_match(
             game.fixtures()[-1], game.agents, mock.Mock()
         ).explorer.worst
         assert end is not None
@@ -137,10 +137,10 @@ class Sleepers(InTemporary):
             "wants_y_twice": (True, "unfinished"),
             "wants_y": (False, "solved"),
         }
-        for name, wanted in ends.items():
+        for name, expectation in ends.items():
             with self.subTest(name):
                 end = self.worst([name, "works"], "--network", "ring:3", "--hole", "1")
-                self.assertEqual((end.has_failed, end.verdict.outcome), wanted)
+                self.assertEqual((end.has_failed, end.verdict.outcome), expectation)
 
     def test_both_call_the_same_a_failure(self) -> None:
         agents = {
@@ -150,20 +150,20 @@ class Sleepers(InTemporary):
             "wants_news_at_each_wake": ("touches", False),
             "sleeps_before_it_enters": ("touches", False),
         }
-        for name, (other, fails) in agents.items():
-            for place in (["--hole", "1"], ["--home", "1", "--hole", "2"]):
-                with self.subTest(name, place=place):
-                    words = ["--network", "ring:3", *place]
+        for name, (agent, fails) in agents.items():
+            for position in (["--hole", "1"], ["--home", "1", "--hole", "2"]):
+                with self.subTest(name, place=position):
+                    words = ["--network", "ring:3", *position]
                     self.assertEqual(
-                        self.worst([name, other], *words).has_failed, fails
+                        self.worst([name, agent], *words).has_failed, fails
                     )
-                    self.assertEqual(self.has_failed([name, other], *words), fails)
+                    self.assertEqual(self.has_failed([name, agent], *words), fails)
 
     def has_failed(self, names: List[str], *words: str) -> bool:
-        """Whether some of twenty drawn schedules fails."""
-        given = [
+        """Returns whether some of twenty drawn schedules fails."""
+        conditions = [
             "run",
-            *WITHOUT_NAPS,
+            *WITHOUT_SPURIOUS_WAKEUPS,
             *words,
             *self.agents(names),
             "--runs",
@@ -171,7 +171,7 @@ class Sleepers(InTemporary):
             "--engine",
             "model",
         ]
-        return bool(ran(main, given).status == 1)
+        return bool(run_call(main, conditions).status == 1)
 
     def test_sleepers_that_may_nap_wake_without_a_change(self) -> None:
         for name in ("wants_news_at_each_wake", "sleeps_before_it_enters"):
@@ -198,13 +198,15 @@ class Sleepers(InTemporary):
         self.assertEqual((end.verdict.outcome, end.verdict.moves), ("silent", 2))
 
     def test_the_most_moves_for_each_black_hole(self) -> None:
-        most: Dict[int, int] = {}
-        given: argparse.Namespace = parser().parse_args(
+        maximum: Dict[int, int] = {}
+        args: argparse.Namespace = parser().parse_args(
             ["explore", "--network", "ring:6", "--agent", RING.words]
         )
-        (game,) = games_of(given)
+        (game,) = games_of(args)
         for fixture in game.fixtures():
-            end = explore.explored(fixture, game.agents, mock.Mock()).explorer.worst
+            end = explore.explore_match(
+                fixture, game.agents, mock.Mock()
+            ).explorer.worst
             assert end is not None and not end.has_failed
-            most[fixture.setup.holes[0]] = end.verdict.moves
-        self.assertEqual(most, {1: 23, 2: 23, 3: 19, 4: 19, 5: 19})
+            maximum[fixture.setup.holes[0]] = end.verdict.moves
+        self.assertEqual(maximum, {1: 23, 2: 23, 3: 19, 4: 19, 5: 19})

@@ -8,8 +8,8 @@ from unittest import mock
 
 from arena_lab.__main__ import main
 from arena_lab.play import kept_matches
-from arena_lab.play.schedules import read, schedule_of, text_of
-from arena_lab.rules.engines import Differs, Program
+from arena_lab.play.schedules import read_schedule, schedule_of, text_of
+from arena_lab.rules.engines import EnginesDifferError, Program
 from arena_lab.rules.networks import ring
 from arena_lab.rules.rehearsal import Rehearsal
 from tests.support.matches import (
@@ -18,13 +18,12 @@ from tests.support.matches import (
     RING,
     fixture,
     network_fixture,
-    played,
+    play_fixture,
     program,
 )
-from tests.support.output import InTemporary, ran
+from tests.support.output import InTemporary, run_call
 
-# changes of a find: the file, what is replaced in it by what, the status, and what is
-# said
+# (file, old text, new text, status, message): changes of a kept match
 CHANGES = (
     (
         "schedule.txt",
@@ -98,49 +97,54 @@ class Engines(unittest.TestCase):
     def test_a_replay_that_differs_is_found_out(self) -> None:
         with mock.patch.object(
             Rehearsal, "replay", lambda self: b""
-        ), self.assertRaises(Differs):
-            played(
+        ), self.assertRaises(EnginesDifferError):
+            play_fixture(
                 fixture(ring(4), 2),
                 RING,
                 1,
-                engine=lambda given: Program(given, program()),
+                engine=lambda conditions: Program(conditions, program()),
             )
 
     def test_the_sample_agents_play_the_same_on_both(self) -> None:
         for seed in range(3):
-            for agent, given in (
+            for agent, match_fixture in (
                 (RING, fixture(ring(8), 5)),
                 (MAP, network_fixture(random.Random(seed))),
             ):
                 with self.subTest(seed=seed, agent=agent.words):
-                    proved = played(
-                        given, agent, seed, engine=lambda it: Program(it, program())
+                    proof = play_fixture(
+                        match_fixture,
+                        agent,
+                        seed,
+                        engine=lambda fixture_given: Program(fixture_given, program()),
                     )
-                    tried = played(given, agent, seed)
-                    self.assertEqual(proved.replay, tried.replay)
-                    self.assertEqual(proved.choices, tried.choices)
+                    trial = play_fixture(match_fixture, agent, seed)
+                    self.assertEqual(proof.replay, trial.replay)
+                    self.assertEqual(proof.choices, trial.choices)
 
 
 class Schedules(InTemporary):
     def command(self, *words: str) -> int:
-        status, said, errors = ran(main, [str(word) for word in words])
-        self.said = said + errors
+        status, output, errors = run_call(main, [str(word) for word in words])
+        self.said = output + errors
         return status
 
     def test_a_schedule_is_written_and_read(self) -> None:
-        given = network_fixture(random.Random(3))
-        agents = [MAP] * given.setup.agents
-        schedule = schedule_of(given, agents, "test 1", played(given, MAP, 1).choices)
+        match_fixture = network_fixture(random.Random(3))
+        agents = [MAP] * match_fixture.setup.agents
+        schedule = schedule_of(
+            match_fixture, agents, "test 1", play_fixture(match_fixture, MAP, 1).choices
+        )
         (self.folder / "s").write_text(text_of(schedule), encoding="utf-8")
-        self.assertEqual(read(self.folder / "s"), schedule)
+        self.assertEqual(read_schedule(self.folder / "s"), schedule)
         for program_or_none in (None, program()):
             self.assertEqual(
                 kept_matches.played_again(schedule, program_or_none).replay,
-                played(given, MAP, 1).replay,
+                play_fixture(match_fixture, MAP, 1).replay,
             )
 
     def test_a_run_is_kept_and_played_again(self) -> None:
-        kept = self.folder / "kept"
+        kept_folder = self.folder / "kept"
         words = [
             "--network",
             "ring:8",
@@ -151,32 +155,38 @@ class Schedules(InTemporary):
             "--program",
             program(),
         ]
-        self.assertEqual(self.command("run", *words, "--runs", "3", "--keep", kept), 0)
+        self.assertEqual(
+            self.command("run", *words, "--runs", "3", "--keep", kept_folder), 0
+        )
         self.assertIn("3 schedules: solved 3; failed 0", self.said)
         self.assertIn("the program's verdict: solved moves 37 lost 1", self.said)
         for engine in (["--program", program()], ["--engine", "model"]):
-            self.assertEqual(self.command("replay", kept, *engine), 0)
+            self.assertEqual(self.command("replay", kept_folder, *engine), 0)
             self.assertIn("the same, byte for byte", self.said)
-        with open(kept / "script.txt", "rb") as script:
+        with open(kept_folder / "script.txt", "rb") as script:
             subprocess.run(
                 [program(), "rehearse", "tournament.toml", "--replay", "again"],
-                cwd=kept,
+                cwd=kept_folder,
                 stdin=script,
                 stdout=subprocess.DEVNULL,
                 check=True,
             )
         self.assertEqual(
-            (kept / "again0.jsonl").read_bytes(), (kept / "match0.jsonl").read_bytes()
+            (kept_folder / "again0.jsonl").read_bytes(),
+            (kept_folder / "match0.jsonl").read_bytes(),
         )
         again = self.folder / "again.jsonl"
-        again.write_bytes((kept / "match0.jsonl").read_bytes() + b"\n")
+        again.write_bytes((kept_folder / "match0.jsonl").read_bytes() + b"\n")
         self.assertEqual(
-            self.command("replay", kept, "--engine", "model", "--against", again), 1
+            self.command(
+                "replay", kept_folder, "--engine", "model", "--against", again
+            ),
+            1,
         )
 
     def test_a_schedule_that_cannot_happen_is_told(self) -> None:
-        given = fixture(ring(3), 1)
-        schedule = schedule_of(given, [RING] * 2, "by hand", [])
+        match_fixture = fixture(ring(3), 1)
+        schedule = schedule_of(match_fixture, [RING] * 2, "by hand", [])
         (self.folder / "s").write_text(
             text_of(schedule) + "answer 0\narrive 1\n", encoding="utf-8"
         )
@@ -224,7 +234,7 @@ class Schedules(InTemporary):
         self.assertIn("is another file than when the schedule was made", self.said)
 
     def test_each_change_of_what_was_kept_is_told(self) -> None:
-        kept = self.folder / "kept"
+        kept_folder = self.folder / "kept"
         words = [
             "run",
             "--engine",
@@ -234,19 +244,19 @@ class Schedules(InTemporary):
             "--hole",
             "4",
             "--keep",
-            kept,
+            kept_folder,
         ]
         self.assertEqual(self.command(*words), 0)
-        for file, old, new, status, said in CHANGES:
+        for file, old, new, status, message in CHANGES:
             with self.subTest(file, new=new):
-                text = (kept / file).read_text(encoding="utf-8")
+                text = (kept_folder / file).read_text(encoding="utf-8")
                 self.assertRegex(text, old)
-                (kept / file).write_text(
+                (kept_folder / file).write_text(
                     re.sub(old, new, text, count=1), encoding="utf-8"
                 )
                 self.assertEqual(
-                    self.command("replay", kept, "--engine", "model"), status
+                    self.command("replay", kept_folder, "--engine", "model"), status
                 )
-                self.assertIn(said, self.said)
-                (kept / file).write_text(text, encoding="utf-8")
-        self.assertEqual(self.command("replay", kept, "--engine", "model"), 0)
+                self.assertIn(message, self.said)
+                (kept_folder / file).write_text(text, encoding="utf-8")
+        self.assertEqual(self.command("replay", kept_folder, "--engine", "model"), 0)

@@ -24,17 +24,17 @@ class Kept(InTemporary):
         self.addCleanup(os.chdir, os.getcwd())
         os.chdir(TOP)
 
-    def said(self, folder: pathlib.Path, *words: str) -> str:
+    def output(self, folder: pathlib.Path, *words: str) -> str:
         """What the program prints for these words, in a folder."""
-        ran = subprocess.run(
+        result = subprocess.run(
             [program(), *words], cwd=folder, capture_output=True, text=True
         )
-        self.assertEqual(ran.returncode, 0, ran.stderr)
-        return ran.stdout
+        self.assertEqual(result.returncode, 0, result.stderr)
+        return result.stdout
 
     def test_each_released_version_is_kept(self) -> None:
         headings = re.findall(r"^## (\d\S+),", (TOP / "CHANGELOG.md").read_text(), re.M)
-        self.assertEqual(sorted(headings), [it.name for it in VERSIONS])
+        self.assertEqual(sorted(headings), [version.name for version in VERSIONS])
 
     def test_a_contest_is_judged_by_its_turns(self) -> None:
         for folder in VERSIONS:
@@ -47,32 +47,32 @@ class Kept(InTemporary):
                     "--match",
                     "0",
                 ]
-                said = self.said(folder, "judge", "appeal0.jsonl", *appeal)
-                self.assertEqual(said, self.said(folder, "judge", "appeal0.jsonl"))
-                self.assertRegex(said, r"^solved moves \d+ lost \d\n$")
-                self.assertIn("match", self.said(folder, "check", "appeal.toml"))
+                output = self.output(folder, "judge", "appeal0.jsonl", *appeal)
+                self.assertEqual(output, self.output(folder, "judge", "appeal0.jsonl"))
+                self.assertRegex(output, r"^solved moves \d+ lost \d\n$")
+                self.assertIn("match", self.output(folder, "check", "appeal.toml"))
 
     def test_a_kept_run_is_played_again(self) -> None:
         for folder in VERSIONS:
             with self.subTest(folder.name):
                 run = folder / "run"
-                schedule = schedules.read(run / "schedule.txt")
+                schedule = schedules.read_schedule(run / "schedule.txt")
                 for engine in (None, program()):
                     again = kept_matches.played_again(schedule, engine)
                     self.assertEqual(again.replay, (run / "match0.jsonl").read_bytes())
 
     def test_python_programs_find_what_they_call(self) -> None:
         for folder in VERSIONS:
-            kept = json.loads((folder / "api.json").read_text())
-            for name, parts in kept.items():
+            kept_folder = json.loads((folder / "api.json").read_text())
+            for name, parts in kept_folder.items():
                 with self.subTest(version=folder.name, name=name):
                     self.assertIn(name, api.__all__)
                     self.assertEqual(missing(getattr(api, name), parts), [])
 
 
-def missing(found: object, parts: List[str]) -> List[str]:
-    """Which parameters of a function, or fields and methods of a class, are not there."""
-    if inspect.isfunction(found):
-        there = {*inspect.signature(found).parameters}
+def missing(result: object, parts: List[str]) -> List[str]:
+    """Returns the missing parameters of a function, or missing members of a class."""
+    if inspect.isfunction(result):
+        there = {*inspect.signature(result).parameters}
         return [part for part in parts if part not in there]
-    return [part for part in parts if not hasattr(found, part)]
+    return [part for part in parts if not hasattr(result, part)]

@@ -1,5 +1,5 @@
-"""An agent inside the lab may compute for a while; a machine that lets it wait does not
-end it."""
+"""Limits the computing time of agents inside the lab; a busy machine must not end
+them."""
 import subprocess
 import sys
 import time
@@ -16,7 +16,7 @@ SECONDS = 0.2
 
 
 def faults(agent: Callable[[], Any], longer: float) -> List[str]:
-    """What is said of an agent that does this and then ends."""
+    """Returns the faults of an agent that calls this function and ends."""
     with mock.patch.object(players, "LONGER", longer):
         team = Team(["k0"], {0: lambda lines, key, sleep: agent()}, SECONDS)
     try:
@@ -42,8 +42,10 @@ class Limits(unittest.TestCase):
         )
 
     def test_who_sleeps_without_end_is_ended(self) -> None:
-        said = ["agent 0: has slept or computed for 0.4 s, and neither sends nor waits"]
-        self.assertEqual(faults(lambda: time.sleep(10_000), 2), said)
+        lines = [
+            "agent 0: has slept or computed for 0.4 s, and neither sends nor waits"
+        ]
+        self.assertEqual(faults(lambda: time.sleep(10_000), 2), lines)
 
 
 # an agent that computes without end
@@ -70,8 +72,10 @@ class Ends(InTemporary):
             "--agent",
             str(path),
         ]
-        with subprocess.Popen(words, cwd=TOP, stdout=subprocess.PIPE, text=True) as ran:
-            self.assertEqual(ran.stdout.readline(), "begun\n")
-            ran.terminate()
-            self.assertEqual(ran.communicate(timeout=60)[0], "")
-        self.assertEqual(ran.returncode, 143)
+        with subprocess.Popen(
+            words, cwd=TOP, stdout=subprocess.PIPE, text=True
+        ) as process:
+            self.assertEqual(process.stdout.readline(), "begun\n")
+            process.terminate()
+            self.assertEqual(process.communicate(timeout=60)[0], "")
+        self.assertEqual(process.returncode, 143)

@@ -21,9 +21,14 @@ from arena_lab.play.agent_files import Script, Sleep
 from arena_lab.play.matches import play
 from arena_lab.play.players import Team
 from arena_lab.rules import model, networks
-from arena_lab.rules.engines import Differs, EngineRefused, Program, judged
+from arena_lab.rules.engines import (
+    EnginesDifferError,
+    EngineRefusedError,
+    Program,
+    program_verdict,
+)
 from arena_lab.rules.fixtures import Fixture
-from arena_lab.rules.model import OVER, Match, Setup, Verdict, judge, spelled
+from arena_lab.rules.model import OVER, Match, Setup, Verdict, judge, spell
 from tests.hostile.bends import REPLAY_BENDS, Bend
 from tests.hostile.drawn_inputs import drawn_replay
 from tests.support.drawing import by_chance, drawing
@@ -49,13 +54,13 @@ AGENTS = 8
 QUOTA = 30
 BOARD = 6
 # the most that an agent says
-MOST_SAID = 40
+MAX_LINES = 40
 CONNECTIONS = strategies.integers(0, 5)
 # how many agents have entered when lines begin
 ENTERED = 3
 PORTS = strategies.integers(0, 3)
 BOARDS = strategies.sampled_from(TEXTS)
-# the program's status if it is a replay, if the text is refused, and if its match is
+# the program's status for a valid replay; for a rejected text, and for a rejected match
 TAKEN = 0
 REFUSED = (3, 4)
 
@@ -65,7 +70,7 @@ Said = strategies.none() | strategies.one_of(
     strategies.builds(lambda port: {"do": "depart", "port": port}, PORTS),
     strategies.builds(lambda port: {"do": "depart", "port": port}, PORTS),
     strategies.builds(
-        lambda expect, put: {"do": "write", "expect": expect, "put": put},
+        lambda expect, text: {"do": "write", "expect": expect, "put": text},
         BOARDS,
         BOARDS,
     ),
@@ -77,25 +82,25 @@ Said = strategies.none() | strategies.one_of(
 )
 
 
-def drawn_fixture(chance: random.Random) -> Fixture:
+def drawn_fixture(rng: random.Random) -> Fixture:
     """A match by chance, with keys and perhaps a held link."""
-    network = networks.drawn(chance)
-    home, *others = chance.sample(range(network.nodes), network.nodes)
-    holes = others[: chance.randint(0, min(3, len(others)))]
-    ends = [(v, p) if chance.random() < 0.5 else (w, q) for v, p, w, q in network.links]
-    agents = chance.randint(1, AGENTS)
+    network = networks.draw_network(rng)
+    home, *rest = rng.sample(range(network.nodes), network.nodes)
+    holes = rest[: rng.randint(0, min(3, len(rest)))]
+    ends = [(v, p) if rng.random() < 0.5 else (w, q) for v, p, w, q in network.links]
+    agents = rng.randint(1, AGENTS)
     setup = Setup(
         network.nodes,
         network.links,
         home,
         holes,
         agents,
-        chance.randint(1, QUOTA),
-        chance.randint(0, BOARD),
-        chance.sample(ends, chance.randint(0, 2)),
+        rng.randint(1, QUOTA),
+        rng.randint(0, BOARD),
+        rng.sample(ends, rng.randint(0, 2)),
     )
     keys = [f"key {agent} \u20ac" for agent in range(agents)]
-    return Fixture("lab", setup, keys, chance.sample(ends, chance.choice((0, 0, 1))))
+    return Fixture("lab", setup, keys, rng.sample(ends, rng.choice((0, 0, 1))))
 
 
 def compare_verdicts(replay: bytes) -> None:
@@ -103,10 +108,12 @@ def compare_verdicts(replay: bytes) -> None:
     with tempfile.NamedTemporaryFile(suffix=".jsonl") as file:
         file.write(replay)
         file.flush()
-        found = judged(program(), pathlib.Path(file.name))
-        wanted = judge(model.played(replay.decode()))
-    if found != wanted:
-        raise Differs(f"the program's verdict is {found}, the Python model's {wanted}")
+        verdict = program_verdict(program(), pathlib.Path(file.name))
+        expectation = judge(model.replay_match(replay.decode()))
+    if verdict != expectation:
+        raise EnginesDifferError(
+            f"the program's verdict is {verdict}, the Python model's {expectation}"
+        )
 
 
 def script_of(steps: List[Any]) -> Script:
@@ -117,10 +124,10 @@ def script_of(steps: List[Any]) -> Script:
             if step is None:
                 sleep(1)
                 continue
-            lines.send(spelled(step))
-            while (heard := lines.receive()) == spelled({"ok": "gone"}):
+            lines.send(spell(step))
+            while (heard := lines.receive()) == spell({"ok": "gone"}):
                 pass
-            if heard == spelled(OVER):
+            if heard == spell(OVER):
                 return
 
     return wander
@@ -128,17 +135,17 @@ def script_of(steps: List[Any]) -> Script:
 
 def steps_of_agents() -> "strategies.SearchStrategy[List[List[Any]]]":
     """What each agent does; many agents are drawn with many steps."""
-    steps = strategies.integers(0, MOST_SAID).flatmap(
+    steps = strategies.integers(0, MAX_LINES).flatmap(
         lambda count: strategies.lists(Said, min_size=count, max_size=count)
     )
     return strategies.lists(steps, min_size=AGENTS, max_size=AGENTS)
 
 
 def schedulers_of_all() -> "strategies.SearchStrategy[Any]":
-    """A scheduler that has a name."""
-    names = strategies.sampled_from(sorted(schedulers.NAMED))
+    """Returns a strategy of named schedulers."""
+    names = strategies.sampled_from(sorted(schedulers.SCHEDULER_MAKERS))
     return strategies.builds(
-        lambda name, seed: schedulers.NAMED[name](seed),
+        lambda name, seed: schedulers.SCHEDULER_MAKERS[name](seed),
         names,
         strategies.integers(0, 2**32),
     )
@@ -147,15 +154,15 @@ def schedulers_of_all() -> "strategies.SearchStrategy[Any]":
 class Lines(RuleBasedStateMachine):
     """A rehearsal on both engines; Program compares them line by line."""
 
-    @initialize(chance=strategies.randoms(use_true_random=False))
-    def begins(self, chance: random.Random) -> None:
-        self.fixture = drawn_fixture(chance)
+    @initialize(rng=strategies.randoms(use_true_random=False))
+    def begins(self, rng: random.Random) -> None:
+        self.fixture = drawn_fixture(rng)
         self.engine = Program(self.fixture, program())
         for number, key in enumerate(self.fixture.keys[:ENTERED]):
             self.says(number, {"do": "enter", "key": key})
 
-    def says(self, number: int, said: Any) -> None:
-        self.engine.feed(number, spelled(said).encode())
+    def says(self, number: int, text: Any) -> None:
+        self.engine.feed(number, spell(text).encode())
 
     @rule(number=CONNECTIONS, key=strategies.integers(0, 8))
     def enters(self, number: int, key: int) -> None:
@@ -166,9 +173,9 @@ class Lines(RuleBasedStateMachine):
     def departs(self, number: int, port: int) -> None:
         self.says(number, {"do": "depart", "port": port})
 
-    @rule(number=CONNECTIONS, expect=BOARDS, put=BOARDS)
-    def writes(self, number: int, expect: str, put: str) -> None:
-        self.says(number, {"do": "write", "expect": expect, "put": put})
+    @rule(number=CONNECTIONS, expect=BOARDS, text=BOARDS)
+    def writes(self, number: int, expect: str, text: str) -> None:
+        self.says(number, {"do": "write", "expect": expect, "put": text})
 
     @rule(number=CONNECTIONS, do=strategies.sampled_from(["look", "leave", "bad"]))
     def looks_or_leaves(self, number: int, do: str) -> None:
@@ -202,8 +209,8 @@ class Lines(RuleBasedStateMachine):
 
 def bends() -> "strategies.SearchStrategy[List[Bend]]":
     """One to three places in which a replay is bent."""
-    one = strategies.sampled_from(REPLAY_BENDS)
-    return strategies.lists(one, min_size=1, max_size=3)
+    first = strategies.sampled_from(REPLAY_BENDS)
+    return strategies.lists(first, min_size=1, max_size=3)
 
 
 class Engines(InTemporary):
@@ -212,36 +219,36 @@ class Engines(InTemporary):
 
     @by_chance(30, steps=steps_of_agents, scheduler=schedulers_of_all)
     def test_both_play_the_same_agents_under_a_schedule(
-        self, chance: random.Random, steps: List[Any], scheduler: Any
+        self, rng: random.Random, steps: List[Any], scheduler: Any
     ) -> None:
-        fixture = drawn_fixture(chance)
-        scripts = {number: script_of(it) for number, it in enumerate(steps)}
+        fixture = drawn_fixture(rng)
+        scripts = {number: script_of(step) for number, step in enumerate(steps)}
         team = Team(fixture.keys, dict(list(scripts.items())[: len(fixture.keys)]))
         engine = Program(fixture, program())
         compare_verdicts(play(engine, team, scheduler, fixture).replay)
 
     def is_found_out(self) -> bool:
-        """Whether lines in any order show that the engines differ."""
+        """Returns whether lines in any order show that the engines differ."""
         once = settings(
             drawing(60), phases=[Phase.generate], report_multiple_bugs=False
         )
         try:
             run_state_machine_as_test(Lines, settings=once)
-        except (Differs, EngineRefused, KeyError):
+        except (EnginesDifferError, EngineRefusedError, KeyError):
             return True
         return False
 
     def test_a_model_that_is_wrong_is_found_out(self) -> None:
         wrongs = {
             "a write is longer than a whiteboard": mock.patch.object(
-                Match, "_write", lambda self, node, expect, put: {"ok": "written"}
+                Match, "_write", lambda self, node, expect, text: {"ok": "written"}
             ),
             "a quota has no end": mock.patch.object(
                 Match, "_refusal", lambda self, agent, do: None
             ),
             "nothing is last": mock.patch("arena_lab.rules.rehearsal.LAST", ()),
             "keys are used twice": mock.patch(
-                "arena_lab.rules.rehearsal.denial", lambda command, keys, taken: None
+                "arena_lab.rules.rehearsal.denial", lambda command, keys, duration: None
             ),
         }
         for title, wrong in wrongs.items():
@@ -254,34 +261,36 @@ class Engines(InTemporary):
         path.chmod(0o755)
         engine = Program(drawn_fixture(random.Random(0)), str(path))
         self.addCleanup(engine.stop)
-        with self.assertRaisesRegex(EngineRefused, "cup.toml: wrong"):
+        with self.assertRaisesRegex(EngineRefusedError, "cup.toml: wrong"):
             engine.close()
 
     def test_moves_are_compared_too(self) -> None:
         match = Match(Setup(3, networks.ring(3).links, 0, [2], 2, 10, 8))
         match.close()
-        with mock.patch(f"{__name__}.judged", return_value=Verdict("silent", 9, 9)):
-            with self.assertRaises(Differs):
+        with mock.patch(
+            f"{__name__}.program_verdict", return_value=Verdict("silent", 9, 9)
+        ):
+            with self.assertRaises(EnginesDifferError):
                 compare_verdicts(match.replay().encode())
 
-    def judged(self, text: bytes) -> Tuple[int, str]:
-        """The status of the program on a text, and what it prints."""
+    def judge(self, text: bytes) -> Tuple[int, str]:
+        """Returns the status and the output of the program for a text."""
         with tempfile.NamedTemporaryFile(suffix=".jsonl", dir=self.folder) as file:
             pathlib.Path(file.name).write_bytes(text)
             words = [program(), "judge", file.name]
-            ran = subprocess.run(words, capture_output=True)
-        return ran.returncode, ran.stdout.decode().strip()
+            result = subprocess.run(words, capture_output=True)
+        return result.returncode, result.stdout.decode().strip()
 
     @by_chance(60, bent=bends)
     def test_a_bent_replay_is_refused_or_is_one_that_the_model_plays(
-        self, chance: random.Random, bent: List[Bend]
+        self, rng: random.Random, bent: List[Bend]
     ) -> None:
-        text = drawn_replay(chance)
+        text = drawn_replay(rng)
         for bend in bent:
-            text = bend(text, chance)
-        status, said = self.judged(text)
+            text = bend(text, rng)
+        status, output = self.judge(text)
         self.assertIn(status, (TAKEN, *REFUSED))
         if status == TAKEN:
-            match = model.played(text.decode())
+            match = model.replay_match(text.decode())
             self.assertEqual(match.replay().encode(), text)
-            self.assertEqual(said, str(judge(match)))
+            self.assertEqual(output, str(judge(match)))

@@ -12,7 +12,7 @@ from arena_lab.__main__ import main
 from arena_lab.rules.fixtures import read_tournament
 from arena_lab.rules.networks import Network, cut_of
 from tests.support.matches import program
-from tests.support.output import InTemporary, ran
+from tests.support.output import InTemporary, run_call
 from tests.support.servers import without_notes
 
 NAMES = (
@@ -31,9 +31,9 @@ NAMES = (
 
 
 def lab(*words: str) -> Tuple[int, str, str]:
-    """The status of a command of the lab, and what it says."""
-    status, said, errors = ran(main, list(words))
-    return status, said, errors
+    """Returns the status, output and errors of a command of the lab."""
+    status, output, errors = run_call(main, list(words))
+    return status, output, errors
 
 
 class Written(InTemporary):
@@ -42,15 +42,15 @@ class Written(InTemporary):
         self.addCleanup(os.chdir, os.getcwd())
         os.chdir(self.folder)
 
-    def checked(self, folder: str) -> str:
+    def check(self, folder: str) -> str:
         """What `arena check` says of the tournament in a folder."""
         words = [program(), "check", "tournament.toml"]
-        ran = subprocess.run(
+        result = subprocess.run(
             words, cwd=folder, capture_output=True, text=True, stdin=subprocess.DEVNULL
         )
-        told = without_notes(ran.stderr.encode(), words)
-        self.assertEqual((ran.returncode, told), (0, b""))
-        return ran.stdout
+        errors = without_notes(result.stderr.encode(), words)
+        self.assertEqual((result.returncode, errors), (0, b""))
+        return result.stdout
 
     def test_each_kind_of_network(self) -> None:
         for number, name in enumerate(NAMES):
@@ -77,7 +77,7 @@ class Written(InTemporary):
                 )
                 links = tomllib.loads(pathlib.Path(file).read_text())["links"]
                 nodes = len({end for link in links for end in link[::2]})
-                self.assertIn(f"match 0 red nodes {nodes} ", self.checked(folder))
+                self.assertIn(f"match 0 red nodes {nodes} ", self.check(folder))
 
     def test_a_network_file_of_its_author_is_kept(self) -> None:
         text = "# a triangle\nnodes = 3\nlinks = [[0, 0, 1, 0], [1, 1, 2, 0], [2, 1, 0, 1]]\n"
@@ -115,13 +115,18 @@ class Written(InTemporary):
             "degree",
         ]
         self.assertEqual(lab("tournament", *words, "--out", "contest")[0], 0)
-        self.assertEqual(len(self.checked("contest").splitlines()), 2 * (5 + 4))
+        self.assertEqual(len(self.check("contest").splitlines()), 2 * (5 + 4))
         os.chdir("contest")
         fixtures = read_tournament("tournament.toml").fixtures
         self.assertEqual(
             [
-                (it.team, it.setup.nodes, it.setup.holes, it.setup.agents)
-                for it in fixtures
+                (
+                    fixture.team,
+                    fixture.setup.nodes,
+                    fixture.setup.holes,
+                    fixture.setup.agents,
+                )
+                for fixture in fixtures
             ],
             [
                 (team, nodes, [hole], agents)
@@ -147,26 +152,31 @@ class Written(InTemporary):
         )
         os.chdir("contest")
         fixtures = read_tournament("tournament.toml").fixtures
-        keys = [key for it in fixtures for key in it.keys]
+        keys = [key for fixture in fixtures for key in fixture.keys]
         self.assertEqual(len(set(keys)), 8)
         for team in ("red", "blue"):
             sheet = pathlib.Path(f"keys-{team}.txt")
             words = sheet.read_text().split()
-            wanted = {key for it in fixtures if it.team == team for key in it.keys}
-            self.assertEqual(wanted, set(keys) & set(words))
+            expectation = {
+                key
+                for fixture in fixtures
+                if fixture.team == team
+                for key in fixture.keys
+            }
+            self.assertEqual(expectation, set(keys) & set(words))
             self.assertEqual(stat.S_IMODE(sheet.stat().st_mode), 0o600)
         self.assertEqual(stat.S_IMODE(os.stat("tournament.toml").st_mode), 0o600)
 
     def test_two_tournaments_share_no_key_and_no_seed(self) -> None:
-        found = []
+        results = []
         for folder in ("one", "two"):
             lab("tournament", "--team", "red", "--network", "ring:6", "--out", folder)
-            found.append(
+            results.append(
                 tomllib.loads(pathlib.Path(folder, "tournament.toml").read_text())
             )
-        self.assertNotEqual(found[0]["seed"], found[1]["seed"])
+        self.assertNotEqual(results[0]["seed"], results[1]["seed"])
         self.assertFalse(
-            set(found[0]["match"][0]["keys"]) & set(found[1]["match"][0]["keys"])
+            set(results[0]["match"][0]["keys"]) & set(results[1]["match"][0]["keys"])
         )
 
     def test_traps_have_no_black_hole_and_two_nodes_at_which_nobody_arrives(
@@ -189,25 +199,27 @@ class Written(InTemporary):
         for number in range(6):
             lab(*words, "--out", f"contest{number}")
             with contextlib.chdir(f"contest{number}"):
-                found = read_tournament("tournament.toml").fixtures
-            self.assertEqual(len(found), 2 * (1 + 1 + 2))
-            traps = [it for it in found if not it.setup.holes]
+                result = read_tournament("tournament.toml").fixtures
+            self.assertEqual(len(result), 2 * (1 + 1 + 2))
+            traps = [result for result in result if not result.setup.holes]
             self.assertEqual(
-                sorted(it.team for it in traps), ["blue", "blue", "red", "red"]
+                sorted(trap.team for trap in traps), ["blue", "blue", "red", "red"]
             )
-            for it in traps:
-                far = {(v, p): w for v, p, w, _ in it.setup.links} | {
-                    (w, q): v for v, _, w, q in it.setup.links
+            for trap in traps:
+                far = {(v, p): w for v, p, w, _ in trap.setup.links} | {
+                    (w, q): v for v, _, w, q in trap.setup.links
                 }
-                nodes = {far[place] for place in it.held}
+                nodes = {far[link_end] for link_end in trap.held}
                 self.assertEqual(
-                    sorted(place for place, end in far.items() if end in nodes),
-                    sorted(it.held),
+                    sorted(link_end for link_end, end in far.items() if end in nodes),
+                    sorted(trap.held),
                 )
-                self.assertEqual((len(nodes), it.setup.home in nodes), (2, False))
-            self.assertTrue(all(not it.held for it in found if it.setup.holes))
-            orders.add(tuple(bool(it.setup.holes) for it in found))
-            self.assertEqual(self.checked(f"contest{number}").count("match "), 8)
+                self.assertEqual((len(nodes), trap.setup.home in nodes), (2, False))
+            self.assertTrue(
+                all(not result.held for result in result if result.setup.holes)
+            )
+            orders.add(tuple(bool(result.setup.holes) for result in result))
+            self.assertEqual(self.check(f"contest{number}").count("match "), 8)
         self.assertGreater(len(orders), 1)
         sheet = pathlib.Path("contest0/keys-red.txt").read_text()
         self.assertNotIn("trap", sheet)
@@ -240,14 +252,14 @@ class Written(InTemporary):
                     )[0],
                     0,
                 )
-                self.assertIn("match 0 ", self.checked(folder))
+                self.assertIn("match 0 ", self.check(folder))
                 self.assertEqual(
                     pathlib.Path(folder, "again.toml").read_text(),
                     f"match = {number}\n",
                 )
                 with contextlib.chdir(folder):
-                    found = read_tournament("tournament.toml")
-                (second,) = found.fixtures
+                    tournament = read_tournament("tournament.toml")
+                (second,) = tournament.fixtures
                 self.assertEqual(
                     (
                         second.team,
@@ -263,7 +275,9 @@ class Written(InTemporary):
                 )
                 self.assertFalse(set(second.keys) & set(first.keys))
                 self.assertNotEqual(second.setup.links, first.setup.links)
-                self.assertNotEqual(found.seed, read_tournament("tournament.toml").seed)
+                self.assertNotEqual(
+                    tournament.seed, read_tournament("tournament.toml").seed
+                )
                 for name in ("tournament.toml", f"keys-{first.team}.txt"):
                     self.assertEqual(
                         stat.S_IMODE(os.stat(f"{folder}/{name}").st_mode), 0o600
@@ -284,9 +298,9 @@ class Written(InTemporary):
         ]
         lab(*words)
         before = pathlib.Path("contest/tournament.toml").read_text()
-        status, _, said = lab(*words)
+        status, _, output = lab(*words)
         self.assertEqual(status, 2)
-        self.assertIn("name another folder by --out", said)
+        self.assertIn("name another folder by --out", output)
         self.assertEqual(pathlib.Path("contest/tournament.toml").read_text(), before)
 
     def test_what_is_refused(self) -> None:
@@ -303,10 +317,10 @@ class Written(InTemporary):
         )
         self.assertEqual(cut_of(bow), "without node 2 some other nodes are apart")
         pathlib.Path("bow.toml").write_text(
-            f"version = 1\nnodes = 5\nlinks = {[list(it) for it in bow.links]}\n"
+            f"version = 1\nnodes = 5\nlinks = {[list(link) for link in bow.links]}\n"
         )
         team = ["tournament", "--out", "contest", "--team", "red", "--network"]
-        for words, said in (
+        for words, message in (
             (
                 ["network", "bow.toml"],
                 "without node 2 some other nodes are apart; add a link",
@@ -334,5 +348,5 @@ class Written(InTemporary):
             with self.subTest(" ".join(words)):
                 status, _, errors = lab(*words)
                 self.assertEqual(status, 2)
-                self.assertIn(said, errors)
+                self.assertIn(message, errors)
                 self.assertFalse(pathlib.Path("contest").exists())

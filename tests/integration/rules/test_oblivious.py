@@ -60,7 +60,7 @@ class ObliviousTest(InFolder):
         self.file.write_text(WALKS)
         write_cup(self.folder, [self.fixture], DELAYS, f"{SEED:064x}")
 
-    def served(self) -> bytes:
+    def serve(self) -> bytes:
         """The replay of a contest over TCP. Turns begin once the last agent has
         entered."""
         agents = ModuleType("walks")
@@ -82,7 +82,7 @@ class ObliviousTest(InFolder):
                     daemon=True,
                 ).start()
                 time.sleep(SETTLES if number + 1 < len(STEPS) else 0)
-            server.ended()
+            server.wait_for_end()
         return pathlib.Path(self.folder, "match0.jsonl").read_bytes()
 
     def inside(self, scheduler: Scheduler) -> bytes:
@@ -94,20 +94,20 @@ class ObliviousTest(InFolder):
         return under(scheduler, self.fixture, agents).replay
 
     def test_a_served_contest_and_the_lab_write_one_replay(self) -> None:
-        wanted = self.inside(Oblivious(SEED, DELAYS))
-        self.assertIn(b'"do":"deliver","reply":null', wanted)
+        expectation = self.inside(Oblivious(SEED, DELAYS))
+        self.assertIn(b'"do":"deliver","reply":null', expectation)
         for _ in range(TRIES):
-            found = self.served()
-            if found == wanted:
+            result = self.serve()
+            if result == expectation:
                 break
-        self.assertEqual(found.decode(), wanted.decode())
+        self.assertEqual(result.decode(), expectation.decode())
 
     def test_another_schedule_writes_another(self) -> None:
-        wanted = self.inside(Oblivious(SEED, DELAYS))
-        for other in (
+        expectation = self.inside(Oblivious(SEED, DELAYS))
+        for second in (
             fair(SEED),
             Oblivious(SEED + 1, DELAYS),
             Oblivious(SEED, Delays(0, 6)),
             Oblivious(SEED),
         ):
-            self.assertNotEqual(self.inside(other), wanted)
+            self.assertNotEqual(self.inside(second), expectation)

@@ -15,7 +15,7 @@ from arena_lab.__main__ import main
 from arena_lab.rules import printed
 from arena_lab.rules.engines import TOP
 from tests.support.matches import InFolder, program
-from tests.support.output import ran
+from tests.support.output import run_call
 from tests.support.program_rows import Stage, Step, rows_of
 from tests.support.sample_modules import LEAVER
 from tests.support.wasm_encoding import Function, module
@@ -41,42 +41,42 @@ def steps() -> Iterator[Tuple[str, Step]]:
                     yield command, step
 
 
-def words_of(value: Any) -> List[str]:
+def words_in(value: Any) -> List[str]:
     """The words and numbers of a value of JSON, without the names of its objects."""
     if isinstance(value, dict):
-        return [word for one in value.values() for word in words_of(one)]
+        return [word for first in value.values() for word in words_in(first)]
     if isinstance(value, list):
-        return [word for one in value for word in words_of(one)]
+        return [word for first in value for word in words_in(first)]
     return (value if isinstance(value, str) else json.dumps(value)).split()
 
 
 class Rows(unittest.TestCase):
     def readings(self) -> Iterator[Tuple[str, Step, Dict[str, Any]]]:
         for command, step in steps():
-            text = ASKED.sub("", step.wanted.decode())
+            text = ASKED.sub("", step.expected.decode())
             if step.status != 2 and not HELP & {*step.rest.split(" ")}:
-                errors = step.told.decode(errors="replace")
+                errors = step.stderr.decode(errors="replace")
                 words = shlex.split(step.rest)
-                found = printed.reading(words, text, errors, step.status)
-                yield text, step, found
+                result = printed.reading(words, text, errors, step.status)
+                yield text, step, result
 
     def test_each_reading_has_what_is_printed_and_its_schema(self) -> None:
         count = 0
-        found: Dict[str, set] = {}
+        results: Dict[str, set] = {}
         for text, step, reading in self.readings():
             count += 1
-            found.setdefault(reading["command"], set()).add(step.status)
+            results.setdefault(reading["command"], set()).add(step.status)
             Validator(SCHEMA).validate(reading)
             self.assertEqual(reading["status"], step.status)
             names = {"#", "team", "outcome", "moves", "lost", "match", "nodes", "links"}
             names |= {"agents", *re.findall(r'"(\w+)":', text)}
             self.assertEqual(
                 set(WORD.findall(text)) - names,
-                set(words_of(reading["result"] or [])) - names,
+                set(words_in(reading["result"] or [])) - names,
             )
         self.assertGreater(count, 300)
         self.assertEqual(
-            {command: sorted(it) for command, it in found.items()},
+            {command: sorted(it) for command, it in results.items()},
             {
                 "check": [0, 3, 6],
                 "explore": [0, 1, 3, 6],
@@ -87,11 +87,11 @@ class Rows(unittest.TestCase):
 
     def test_each_fault_is_told(self) -> None:
         for _, step, reading in self.readings():
-            lines = step.told.decode(errors="replace").splitlines()
+            lines = step.stderr.decode(errors="replace").splitlines()
             again = reading["notes"][:]
-            for it in reading["faults"]:
-                again.append(f"{it['where']}: {it['fault']}")
-                again += [f"  {line}" for line in it["more"]]
+            for fault in reading["faults"]:
+                again.append(f"{fault['where']}: {fault['fault']}")
+                again += [f"  {line}" for line in fault["more"]]
             self.assertEqual(sorted(again), sorted(lines))
             has_fault = step.status > 1 and reading["result"] is None
             self.assertTrue(reading["faults"] or not has_fault)
@@ -113,66 +113,68 @@ class Texts(unittest.TestCase):
             ("explore", '{"found":"solves"}\n{"states":1}\nmore\n'),
         ):
             with self.subTest(command, text=text):
-                self.assertRaises(printed.NoResult, printed.result_in, command, text)
+                self.assertRaises(
+                    printed.PrintedTextError, printed.result_in, command, text
+                )
 
 
 class Runs(InFolder):
     def json(self, *words: object) -> Tuple[int, str, str]:
         """The status of `arena-lab json`, and what it writes to both streams."""
-        return ran(main, ["json", "--program", program(), *map(str, words)])
+        return run_call(main, ["json", "--program", program(), *map(str, words)])
 
-    def compared(self, *words: object) -> Dict[str, Any]:
+    def compare(self, *words: object) -> Dict[str, Any]:
         """The JSON of a run, whose status and faults are the program's."""
         alone = Stage(program(), pathlib.Path.cwd()).run(
-            [str(it) for it in words], wants_notes=True
+            [str(word) for word in words], wants_notes=True
         )
-        status, said, errors = self.json(*words)
+        status, output, errors = self.json(*words)
         self.assertEqual(status, alone.status)
-        told = alone.told.decode()
-        self.assertIn(re.sub("^arena: .*\n", "", told), errors)
-        found: Dict[str, Any] = json.loads(said)
-        Validator(SCHEMA).validate(found)
-        text = alone.printed.decode()
-        self.assertEqual(found["result"], printed.result_in(str(words[0]), text))
-        return found
+        error_text = alone.stderr.decode()
+        self.assertIn(re.sub("^arena: .*\n", "", error_text), errors)
+        report: Dict[str, Any] = json.loads(output)
+        Validator(SCHEMA).validate(report)
+        text = alone.stdout.decode()
+        self.assertEqual(report["result"], printed.result_in(str(words[0]), text))
+        return report
 
     def test_each_command(self) -> None:
         replay = EXAMPLES / "guess0.jsonl"
         self.assertEqual(
-            self.compared("judge", replay)["result"],
+            self.compare("judge", replay)["result"],
             {"outcome": "guess 1", "moves": 0, "lost": 0},
         )
-        found = self.compared("table", f"red={replay}", f"blue={EXAMPLES}/first0.jsonl")
+        result = self.compare("table", f"red={replay}", f"blue={EXAMPLES}/first0.jsonl")
         self.assertEqual(
-            [(it["place"], it["team"]) for it in found["result"]["teams"]],
+            [(team["place"], team["team"]) for team in result["result"]["teams"]],
             [(1, "blue"), (2, "red")],
         )
-        found = self.compared("check", "examples/first.toml")
+        result = self.compare("check", "examples/first.toml")
         self.assertEqual(
-            [it["nodes"] for it in found["result"]["matches"]], [8, 16, 25, 3]
+            [match["nodes"] for match in result["result"]["matches"]], [8, 16, 25, 3]
         )
-        self.assertEqual(len(found["notes"]), 2)
+        self.assertEqual(len(result["notes"]), 2)
         leaver = self.folder / "leaver.wasm"
         leaver.write_bytes(LEAVER)
-        for given in (("--module", leaver), (f"--module={leaver}",)):
-            found = self.compared("explore", "examples/first.toml", 0, *given)
+        for arguments in (("--module", leaver), (f"--module={leaver}",)):
+            result = self.compare("explore", "examples/first.toml", 0, *arguments)
             self.assertEqual(
-                (found["status"], found["result"]["found"]["found"]), (1, "fails")
+                (result["status"], result["result"]["found"]["found"]), (1, "fails")
             )
 
     def test_what_is_left_out_of_a_table_is_a_fault(self) -> None:
-        found = self.compared(
+        result = self.compare(
             "table", "examples/appeal.toml", "--replay", self.folder / "none"
         )
-        self.assertEqual((found["status"], found["result"]), (6, {"teams": []}))
-        (fault,) = found["faults"]
+        self.assertEqual((result["status"], result["result"]), (6, {"teams": []}))
+        (fault,) = result["faults"]
         self.assertEqual(fault["fault"], "read")
         self.assertIn("match 0 (red) is left out of the table", fault["more"])
 
     def test_names_of_files_may_have_colons_and_characters_that_are_escaped(
         self,
     ) -> None:
-        for name, shown in (
+        for name, view in (
             ("x: y", "x: y"),
             ("a: b is ignored", "a: b is ignored"),
             ("a: the schedule is x", "a: the schedule is x"),
@@ -182,41 +184,41 @@ class Runs(InFolder):
             ("a\x7f\x9f\u061c: c", r"a\u{7f}\u{9f}\u{61c}: c"),
         ):
             file = self.folder / name
-            place = f"{self.folder}/{shown}"
+            folder = f"{self.folder}/{view}"
             absent = {
-                "where": place,
+                "where": folder,
                 "fault": "read",
                 "more": ["there is no such file"],
             }
             with self.subTest(name):
                 for words in (("judge", file), ("table", f"a={file}")):
-                    self.assertEqual(self.compared(*words)["faults"], [absent])
+                    self.assertEqual(self.compare(*words)["faults"], [absent])
                 shutil.copy(EXAMPLES / "first.toml", file)
-                found = self.compared("check", file)
-                self.assertEqual((found["faults"], len(found["notes"])), ([], 2))
+                result = self.compare("check", file)
+                self.assertEqual((result["faults"], len(result["notes"])), ([], 2))
 
     def test_names_of_imports_may_have_colons(self) -> None:
         file = self.folder / "x.wasm"
         for name in ("a: b", "a is ignored: did you mean b?"):
             file.write_bytes(module([Function([], [], b"", "run")], [name]))
-            found = self.compared(
+            result = self.compare(
                 "explore", "examples/first.toml", 0, "--module", f"{file}:8"
             )
-            (fault,) = found["faults"]
+            (fault,) = result["faults"]
             self.assertEqual(
                 (fault["where"], fault["fault"]),
                 (str(file), f"import arena.{name} at byte 21"),
             )
 
     def test_words_that_are_refused_have_no_json(self) -> None:
-        given = ("--module=a.wasm", "--all-holes")
-        for words, told in (
+        conditions = ("--module=a.wasm", "--all-holes")
+        for words, message in (
             (("judge",), ""),
             (("table", "red"), ""),
             (("explore", "cup.toml", 0), "name modules"),
-            (("explore", "cup.toml", 0, *given), "leave out --all-holes"),
+            (("explore", "cup.toml", 0, *conditions), "leave out --all-holes"),
         ):
             with self.subTest(words):
-                status, said, errors = self.json(*words)
-                self.assertEqual((status, said), (2, ""))
-                self.assertIn(f"error: {told}", errors)
+                status, output, errors = self.json(*words)
+                self.assertEqual((status, output), (2, ""))
+                self.assertIn(f"error: {message}", errors)

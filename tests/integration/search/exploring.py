@@ -8,21 +8,21 @@ from arena_lab.play.teams import AgentWords, Game
 from arena_lab.rules.fixtures import Fixture
 from arena_lab.search.findings import ExploreAnswer
 from arena_lab.search.machines import Machines
-from arena_lab.search.program_search import SampleRequest, asked
+from arena_lab.search.program_search import SampleRequest, run_search
 from arena_lab.search.sampled_runs import follow
 from arena_lab.support.progress import NO_PROGRESS
 from tests.support.matches import InFolder, program
-from tests.support.output import ran
+from tests.support.output import run_call
 
 
 class InExplore(InFolder):
     """Tests that explore by the program. `said` is what the last command printed."""
 
-    said = ""
+    output = ""
 
     def command(self, *words: object) -> int:
         """The exit status of `explore` with these words."""
-        status, said, errors = ran(
+        status, output, errors = run_call(
             main,
             [
                 "explore",
@@ -33,22 +33,22 @@ class InExplore(InFolder):
                 str(self.folder / "find"),
             ],
         )
-        self.said = said + errors
+        self.output = output + errors
         return status
 
     def game(self, *words: str) -> Tuple[Game, Fixture]:
-        """A game, and its one match."""
+        """Parses a game with a single match."""
         (game,) = games_of(parser().parse_args(["explore", *words]))
         (fixture,) = game.fixtures()
         return game, fixture
 
-    def answered(
+    def explore(
         self,
         fixture: Fixture,
         agents: List[AgentWords],
         *,
         draws: Optional[SampleRequest] = None,
-        shown: Any = NO_PROGRESS,
+        view: Any = NO_PROGRESS,
         check: int = 0,
     ) -> ExploreAnswer:
         """What the program answers of all schedules, or of drawn ones. Then this many
@@ -56,9 +56,9 @@ class InExplore(InFolder):
         machines = Machines(fixture, agents, 5)
         machines.start()
         try:
-            answered = asked(program(), fixture, machines, 1_000_000, shown, draws)
+            answer = run_search(program(), fixture, machines, 1_000_000, view, draws)
             for seed in range(check):
                 follow(fixture, agents, machines, seed, 5)
-            return answered
+            return answer
         finally:
             machines.stop()

@@ -6,12 +6,18 @@ from typing import List, Tuple
 from arena_lab.__main__ import main
 from arena_lab.play.teams import INSIDE, AgentWords, Game
 from arena_lab.rules.networks import Network, complete, ring
-from arena_lab.search.adversary import Adversary, Beaten, NotARing, Phase, steps_of
+from arena_lab.search.adversary import (
+    Adversary,
+    BeatenError,
+    NotARingError,
+    Phase,
+    steps_of,
+)
 from arena_lab.search.ring_bounds import least_moves
 from tests.support.matches import RING, RING3, InFolder, flipped_ring, two
-from tests.support.output import ran
+from tests.support.output import run_call
 
-# wrong teams: the text of a file, and of each what is said of it
+# source of wrong teams, and the message about each
 WRONG = '''
 def straight(agent, key, nodes, side):
     """Goes on without coming back, and accuses what is left: right alone, but the other one may do the same."""
@@ -67,15 +73,15 @@ class RightTeams(InFolder):
 
     def test_whatever_the_labels_and_the_home_base(self) -> None:
         for seed in range(6):
-            chance = random.Random(seed)
-            nodes = chance.randrange(4, 10)
+            rng = random.Random(seed)
+            nodes = rng.randrange(4, 10)
             with self.subTest(seed=seed):
                 self.check(
                     Adversary(
                         game(
-                            flipped_ring(nodes, chance),
+                            flipped_ring(nodes, rng),
                             TEAMS["halves"],
-                            chance.randrange(nodes),
+                            rng.randrange(nodes),
                         )
                     )
                 )
@@ -95,28 +101,30 @@ class RightTeams(InFolder):
         self.assertEqual(last.new, 2)
         self.assertGreaterEqual(last.moves, least_moves(adversary.nodes))
         for hole in last.ends():
-            played, _ = adversary.at_rest(hole, last.turns)
-            self.assertFalse(played.has_failed())
-            self.assertGreaterEqual(played.verdict().moves, last.moves)
+            match, _ = adversary.at_rest(hole, last.turns)
+            self.assertFalse(match.has_failed())
+            self.assertGreaterEqual(match.verdict().moves, last.moves)
 
     @staticmethod
     def due(nodes: int, before: Phase) -> int:
         """The moves that a phase costs: n + v - 3 if it leaves v of 2 v - 1 new nodes,
         or three for each node."""
         steps = steps_of(before.arcs.new)
-        left = before.arcs.new - steps
-        return nodes + left - 3 if before.arcs.new == 2 * left - 1 else 3 * steps
+        remaining = before.arcs.new - steps
+        return (
+            nodes + remaining - 3 if before.arcs.new == 2 * remaining - 1 else 3 * steps
+        )
 
 
 class WrongTeams(InFolder):
-    def wrong(self, name: str, nodes: int) -> Tuple[Adversary, Beaten]:
+    def wrong(self, name: str, nodes: int) -> Tuple[Adversary, BeatenError]:
         path = self.folder / "wrong.py"
         path.write_text(WRONG, encoding="utf-8")
         agents = [
             AgentWords(INSIDE, f"{path}:{name} {{nodes}} {side}") for side in (0, 1)
         ]
         adversary = Adversary(game(ring(nodes), agents))
-        with self.assertRaises(Beaten) as caught:
+        with self.assertRaises(BeatenError) as caught:
             list(adversary.phases())
         return adversary, caught.exception
 
@@ -126,8 +134,8 @@ class WrongTeams(InFolder):
                 with self.subTest(name, nodes=nodes):
                     adversary, fault = self.wrong(name, nodes)
                     self.assertIn(why, fault.why)
-                    played, schedule = adversary.at_rest(fault.hole, fault.turns)
-                    self.assertTrue(played.has_failed())
+                    match, schedule = adversary.at_rest(fault.hole, fault.turns)
+                    self.assertTrue(match.has_failed())
                     self.assertEqual(schedule.fixture.setup.holes, [fault.hole])
 
     def test_both_agents_are_lost_that_go_straight(self) -> None:
@@ -138,8 +146,8 @@ class WrongTeams(InFolder):
 
 
 class CommandLine(InFolder):
-    def called(self, *words: str) -> Tuple[int, str]:
-        status, said, errors = ran(
+    def run(self, *words: str) -> Tuple[int, str]:
+        status, output, errors = run_call(
             main,
             [
                 "adversary",
@@ -150,29 +158,29 @@ class CommandLine(InFolder):
                 str(self.folder / "find"),
             ],
         )
-        return status, said + errors
+        return status, output + errors
 
     def test_it_says_what_each_phase_forces_and_keeps_the_schedule(self) -> None:
-        status, said = self.called(
+        status, output = self.run(
             "--network", "ring:8", "--agent", "examples/agents/ring.py {nodes}"
         )
         self.assertEqual(status, 0)
         self.assertIn(
             "20 moves, 3 new nodes: agent 1 came back over 3 of 3 explored nodes and went on\n",
-            said,
+            output,
         )
-        self.assertIn("must make 19 on this ring\n", said)
+        self.assertIn("must make 19 on this ring\n", output)
         self.assertTrue((self.folder / "find" / "schedule.txt").exists())
 
     def test_a_team_that_fails_is_refuted(self) -> None:
-        status, said = self.called(
+        status, output = self.run(
             "--network",
             "ring:8",
             "--agent",
             "arena_lab/mutants/forgets_to_mark.py {nodes}",
         )
         self.assertEqual(status, 1)
-        self.assertIn("the team fails with the black hole at node 1: ", said)
+        self.assertIn("the team fails with the black hole at node 1: ", output)
 
     def test_other_networks_and_teams_are_refused(self) -> None:
         agent = "examples/agents/ring.py {nodes}"
@@ -182,15 +190,15 @@ class CommandLine(InFolder):
             ["--dark", "0,0"],
         ):
             with self.subTest(words=words):
-                status, said = self.called(*words, "--agent", agent)
-                self.assertEqual((status, "two agents on a ring" in said), (2, True))
+                status, output = self.run(*words, "--agent", agent)
+                self.assertEqual((status, "two agents on a ring" in output), (2, True))
 
     def test_two_rings_are_no_ring(self) -> None:
         links = [
             *ring(3).links,
             *((v + 3, p, w + 3, q) for v, p, w, q in ring(3).links),
         ]
-        with self.assertRaises(NotARing):
+        with self.assertRaises(NotARingError):
             Adversary(game(Network(6, links), TEAMS["ring"]))
-        with self.assertRaises(NotARing):
+        with self.assertRaises(NotARingError):
             Adversary(game(complete(4), TEAMS["ring"]))

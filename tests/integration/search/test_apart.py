@@ -16,8 +16,7 @@ def search(agent, key):
     agent.depart(1)
     agent.accuse(1 if {is_right} else 0)
 """
-# agents that now and then do something else after the same replies: their lines, what
-# they do first, and when they are right
+# nondeterministic agents: their code, first action, and condition of success
 ACCIDENTS = {
     "the order of a set": (
         "",
@@ -53,7 +52,7 @@ READ = {
         "True",
     ),
 }
-# what an agent may read, by the word for it and the modules of the library
+# kind of input -> library modules that read it
 READERS = {
     "draw by chance": [
         "os.urandom(1)",
@@ -95,7 +94,7 @@ def second(agent, key):
 
 
 class Apart(InExplore):
-    def explored(self, lines: str, first: str, is_right: str, check: int = 20) -> int:
+    def explore(self, lines: str, first: str, is_right: str, check: int = 20) -> int:
         (self.folder / "agent.py").write_text(
             AGENT.format(lines=lines, first=first, is_right=is_right)
         )
@@ -115,25 +114,25 @@ class Apart(InExplore):
     def test_accidents_are_found_out(self) -> None:
         for name, agent in ACCIDENTS.items():
             with self.subTest(name):
-                self.assertNotEqual(self.explored(*agent), 0, self.said)
-                self.assertNotIn("every schedule solves", self.said)
+                self.assertNotEqual(self.explore(*agent), 0, self.output)
+                self.assertNotIn("every schedule solves", self.output)
 
     def test_two_looks_are_two_texts(self) -> None:
         first = (
             "agent.write('', 'seen'); kept = agent.look().board is agent.look().board"
         )
-        self.assertEqual(self.explored("", first, "kept"), 1, self.said)
+        self.assertEqual(self.explore("", first, "kept"), 1, self.output)
 
     def test_it_is_said_what_agents_go_by(self) -> None:
-        for said, agent in READ.items():
-            with self.subTest(said):
-                self.assertEqual(self.explored(*agent), 0, self.said)
+        for message, agent in READ.items():
+            with self.subTest(message):
+                self.assertEqual(self.explore(*agent), 0, self.output)
                 self.assertIn(
-                    f"; the agents {said}, and may do something else another time\n",
-                    self.said,
+                    f"; the agents {message}, and may do something else another time\n",
+                    self.output,
                 )
         self.assertEqual(
-            self.explored(
+            self.explore(
                 "import random\nrandom.seed(7)", "pass", "random.random() < 2"
             ),
             0,
@@ -141,22 +140,22 @@ class Apart(InExplore):
         self.assertIn(
             "checked, and all agree: 20 drawn schedules, 200 histories told in other processes, the Python "
             "model's search of 1 of 1 matches\n",
-            self.said,
+            self.output,
         )
 
     def test_each_reader_of_the_library_is_named(self) -> None:
-        for said, readers in READERS.items():
+        for message, readers in READERS.items():
             for reader in readers:
                 with self.subTest(reader):
                     lines = f"import {reader.partition('.')[0]}"
                     self.assertEqual(
-                        self.explored(lines, "pass", f"{reader} is not None", check=1),
+                        self.explore(lines, "pass", f"{reader} is not None", check=1),
                         0,
-                        self.said,
+                        self.output,
                     )
                     self.assertIn(
-                        f"; the agents {said}, and may do something else another time\n",
-                        self.said,
+                        f"; the agents {message}, and may do something else another time\n",
+                        self.output,
                     )
 
     def test_a_library_in_another_folder_is_of_one_agent(self) -> None:
@@ -166,9 +165,9 @@ class Apart(InExplore):
         file.write_text(MATES.format(folder=str(self.folder / "elsewhere")))
         team = ["--agent", f"{file}:first", "--agent", f"{file}:second"]
         self.assertEqual(
-            self.command("--network", "ring:3", "--hole", 1, *team), 1, self.said
+            self.command("--network", "ring:3", "--hole", 1, *team), 1, self.output
         )
-        self.assertIn("it comes to: home 0 holes [1], wrong", self.said)
+        self.assertIn("it comes to: home 0 holes [1], wrong", self.output)
         self.assertNotIn("marks", sys.modules)
         row = lab.play("ring:3", [f"{file}:first", f"{file}:second"], holes=[1])[0]
         self.assertEqual(row["outcome"], "wrong")
@@ -186,7 +185,7 @@ class Apart(InExplore):
             f"engine={program()!r}).solves)"
         )
         for seed in map(str, range(4)):
-            ran = subprocess.run(
+            result = subprocess.run(
                 [sys.executable, "-c", text],
                 capture_output=True,
                 text=True,
@@ -197,4 +196,4 @@ class Apart(InExplore):
                     "PYTHONPATH": str(pathlib.Path.cwd()),
                 },
             )
-            self.assertNotIn("True", ran.stdout, ran.stderr)
+            self.assertNotIn("True", result.stdout, result.stderr)

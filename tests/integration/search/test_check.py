@@ -7,7 +7,7 @@ from typing import Tuple
 from arena_lab.__main__ import main
 from arena_lab.rules.engines import TOP
 from tests.support.matches import AGENTS, InFolder, program
-from tests.support.output import ran
+from tests.support.output import run_call
 
 RAISES = (
     "def search(agent, key, nodes):\n    agent.enter(key)\n    raise KeyError('west')\n"
@@ -27,15 +27,15 @@ def search(agent, key, nodes):
 
 
 class Checks(InFolder):
-    def checked(self, agent: str, *more: str) -> Tuple[int, str]:
-        status, said, _ = ran(
-            main, ["check", agent, "--keep", str(self.folder / "kept"), *more]
+    def check(self, agent: str, *extra: str) -> Tuple[int, str]:
+        status, output, _ = run_call(
+            main, ["check", agent, "--keep", str(self.folder / "kept"), *extra]
         )
-        return status, said
+        return status, output
 
     def test_a_right_agent_gets_one_sentence(self) -> None:
         # a program that is not proved tries few schedules a second
-        for more, engine in (
+        for extra, engine in (
             (r"\b.*", ("--program", program())),
             (
                 r" and under every schedule of a ring of 4 with 16 numberings of its ports and a ring of 5: on 7 "
@@ -44,12 +44,12 @@ class Checks(InFolder):
                 ("--engine", "model", "--seconds", "200"),
             ),
         ):
-            status, said = self.checked(f"{AGENTS / 'ring.py'} {{nodes}}", *engine)
-            self.assertEqual(status, 0, said)
+            status, output = self.check(f"{AGENTS / 'ring.py'} {{nodes}}", *engine)
+            self.assertEqual(status, 0, output)
             self.assertRegex(
-                said.splitlines()[-1],
+                output.splitlines()[-1],
                 r"^Right on all 14 matches(?:,| and) under 100 schedules that were drawn and 40 that were hunted"
-                + more,
+                + extra,
             )
         self.assertFalse((self.folder / "kept").exists())
 
@@ -57,7 +57,7 @@ class Checks(InFolder):
         command = (
             f"{sys.executable} {AGENTS / 'ring.py'} {{host}} {{port}} {{key}} {{nodes}}"
         )
-        status, said = self.checked(
+        status, output = self.check(
             command,
             "--network",
             "ring:4",
@@ -68,9 +68,9 @@ class Checks(InFolder):
             "--engine",
             "model",
         )
-        self.assertEqual(status, 0, said)
+        self.assertEqual(status, 0, output)
         self.assertRegex(
-            said.splitlines()[-1],
+            output.splitlines()[-1],
             (
                 r"^Right on all 4 matches, with arrivals 6 s late and under 24 schedules that were drawn and 0 that "
                 r"were hunted: on 2 networks with \d\d numberings of ports, from (?:8 of 9 home bases|every home "
@@ -78,28 +78,28 @@ class Checks(InFolder):
                 r"40 of 40 hunted schedules$"
             ),
         )
-        self.assertIn("not every schedule of a ring of 4 with 16 numberings", said)
+        self.assertIn("not every schedule of a ring of 4 with 16 numberings", output)
 
     def test_the_first_thing_to_mend_is_told_and_shown(self) -> None:
         agent = self.folder / "agent.py"
-        for text, told in (
+        for text, message in (
             (RAISES, "agent 0: raises KeyError: 'west'"),
             (SAYS_BAD, "agent 0: 1 line named a port that its node does not have"),
         ):
             agent.write_text(text)
-            status, said = self.checked(f"{agent} {{nodes}}", "--engine", "model")
+            status, output = self.check(f"{agent} {{nodes}}", "--engine", "model")
             self.assertEqual(status, 1)
-            self.assertIn("To mend first: on ring:3 with ports shuffled:", said)
-            self.assertIn(" under fair the match came to silent", said)
-            self.assertIn(f"\n  {told}", said)
-            self.assertIn("\n  nobody accused: agent", said)
-            self.assertLess(max(map(len, said.splitlines())), 250)
-            self.check_shown(told)
+            self.assertIn("To mend first: on ring:3 with ports shuffled:", output)
+            self.assertIn(" under fair the match came to silent", output)
+            self.assertIn(f"\n  {message}", output)
+            self.assertIn("\n  nobody accused: agent", output)
+            self.assertLess(max(map(len, output.splitlines())), 250)
+            self.check_shown(message)
 
     def test_what_no_match_finds(self) -> None:
         agent = self.folder / "agent.py"
         shutil.copy(TOP / "arena_lab" / "mutants" / "reads_once.py", agent)
-        status, said = self.checked(
+        status, output = self.check(
             f"{agent} {{nodes}}",
             "--network",
             "ring:4",
@@ -108,32 +108,32 @@ class Checks(InFolder):
             "--engine",
             "model",
         )
-        self.assertEqual(status, 1, said)
-        self.assertIn("2 matches on ring:4: all solved", said)
+        self.assertEqual(status, 1, output)
+        self.assertIn("2 matches on ring:4: all solved", output)
         self.assertIn(
             "\nTo mend first: under ",
-            said,
+            output,
         )
         self.assertIn(
             f"replay {self.folder / 'kept'} --engine model --follow`",
-            said.splitlines()[-1],
+            output.splitlines()[-1],
         )
         self.check_shown("silent")
 
     def kit(self, old: str, new: str, file: str) -> str:
         """A kit in Python with a change; gives the folder."""
-        ran(main, ["new", "python", str(self.folder / "kit")])
+        run_call(main, ["new", "python", str(self.folder / "kit")])
         path = self.folder / "kit" / file
         text = path.read_text()
         self.assertIn(old, text)
         path.write_text(text.replace(old, new))
         return str(self.folder / "kit")
 
-    def impatient(self, old: str, new: str, said: str) -> None:
+    def impatient(self, old: str, new: str, text: str) -> None:
         """Checks a kit whose client has a change by which it does something when two
         seconds have gone by."""
         kit = self.kit(old, new, "client.py")
-        status, told = self.checked(
+        status, message = self.check(
             f"{sys.executable} {kit}/careful.py {{host}} {{port}} {{key}} {{nodes}}",
             "--network",
             "ring:4",
@@ -141,18 +141,18 @@ class Checks(InFolder):
             "--engine",
             "model",
         )
-        self.assertEqual(status, 1, told)
-        self.assertIn("2 matches on ring:4: all solved\n", told)
+        self.assertEqual(status, 1, message)
+        self.assertIn("2 matches on ring:4: all solved\n", message)
         self.assertIn(
             "To mend first: on ring:4 with arrivals 6 s late the match came to silent",
-            told,
+            message,
         )
         self.assertRegex(
-            told,
-            rf"\n  agent \d: {said} within 6 s of `gone`, and was told nothing meanwhile: .* "
+            message,
+            rf"\n  agent \d: {text} within 6 s of `gone`, and was told nothing meanwhile: .* "
             "without a timeout\n",
         )
-        self.assertIn("check again once it is mended", told.splitlines()[-1])
+        self.assertIn("check again once it is mended", message.splitlines()[-1])
 
     def test_a_timeout_that_a_contest_outlasts(self) -> None:
         reads = "        self._reader = self._socket.makefile("
@@ -189,11 +189,11 @@ class Checks(InFolder):
             f"{kit}/careful.py {{nodes}}",
             f"{sys.executable} {kit}/careful.py {{host}} {{port}} {{key}} {{nodes}}",
         ):
-            status, said = self.checked(agent, "--no-repeat", "--engine", "model")
-            self.assertEqual(status, 1, said)
+            status, output = self.check(agent, "--no-repeat", "--engine", "model")
+            self.assertEqual(status, 1, output)
             self.assertIn(
                 "\nTo mend first: ",
-                said,
+                output,
             )
 
     def test_an_agent_that_forgets_the_arrival_label(self) -> None:
@@ -202,19 +202,19 @@ class Checks(InFolder):
             "agent.depart(1 - back(here))", "agent.depart(port)", "careful.py"
         )
         agent = f"{kit}/careful.py {{nodes}}"
-        status, said = self.checked(agent, "--engine", "model")
-        self.assertEqual(status, 1, said)
-        self.assertIn("with ports shuffled:", said)
-        self.assertIn("the two ends of a link may have different numbers", said)
+        status, output = self.check(agent, "--engine", "model")
+        self.assertEqual(status, 1, output)
+        self.assertIn("with ports shuffled:", output)
+        self.assertIn("the two ends of a link may have different numbers", output)
         rings = ("--network", "ring:4", "--network", "ring:6", "--seconds", "20")
-        given = ("--ports", "given", "--engine", "model", *rings)
-        self.assertEqual(self.checked(agent, *given)[0], 0)
+        conditions = ("--ports", "given", "--engine", "model", *rings)
+        self.assertEqual(self.check(agent, *conditions)[0], 0)
 
     def test_agents_that_toss_a_coin_each(self) -> None:
         agent = str(TOP / "arena_lab" / "mutants" / "tosses_coin.py") + " {nodes}"
-        status, said = self.checked(agent, "--engine", "model")
-        self.assertEqual(status, 1, said)
-        self.assertIn("agents 0 and 1 both went over the link from node", said)
+        status, output = self.check(agent, "--engine", "model")
+        self.assertEqual(status, 1, output)
+        self.assertIn("agents 0 and 1 both went over the link from node", output)
 
     def test_the_conditions_of_a_course(self) -> None:
         file = self.folder / "course.toml"
@@ -223,16 +223,16 @@ class Checks(InFolder):
         )
         agent = f"{AGENTS / 'ring.py'} {{nodes}}"
         words = ("--for", str(file), "--engine", "model", "--seconds", "2")
-        status, said = self.checked(agent, *words)
-        self.assertEqual(status, 1, said)
-        self.assertIn("home", said)
-        self.assertIn("has used all of its 12 commands", said)
+        status, output = self.check(agent, *words)
+        self.assertEqual(status, 1, output)
+        self.assertIn("home", output)
+        self.assertIn("has used all of its 12 commands", output)
         file.write_text(file.read_text().replace("12", "400"))
-        status, said = self.checked(agent, *words)
-        self.assertEqual(status, 0, said)
+        status, output = self.check(agent, *words)
+        self.assertEqual(status, 0, output)
         # how much is drawn in two seconds depends on the machine
-        self.assertRegex(said, r"Right on all 2 matches(?:,| and) under ")
-        self.assertIn("under starved", said)
+        self.assertRegex(output, r"Right on all 2 matches(?:,| and) under ")
+        self.assertIn("under starved", output)
 
     def test_refused_lines_of_a_right_agent_are_to_be_mended(self) -> None:
         agent = self.folder / "agent.py"
@@ -245,17 +245,17 @@ class Checks(InFolder):
             "        return here\n"
             "    agent.enter = chatty\n    ring.search(agent, key, nodes)\n"
         )
-        status, said = self.checked(f"{agent} {{nodes}}", "--engine", "model")
-        self.assertEqual(status, 1, said)
-        self.assertIn("14 matches on ring:3, ring:4,", said)
+        status, output = self.check(f"{agent} {{nodes}}", "--engine", "model")
+        self.assertEqual(status, 1, output)
+        self.assertIn("14 matches on ring:3, ring:4,", output)
         self.assertIn(
             "To mend first: lines are refused, which cost commands\n  agent 0: 1 line named a port",
-            said,
+            output,
         )
 
-    def check_shown(self, told: str) -> None:
+    def check_shown(self, text: str) -> None:
         """The command that is told shows it."""
-        said = ran(
+        output = run_call(
             main, ["replay", str(self.folder / "kept"), "--engine", "model"]
-        ).said
-        self.assertIn(told, said)
+        ).output
+        self.assertIn(text, output)

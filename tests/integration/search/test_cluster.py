@@ -12,7 +12,7 @@ from arena_lab.play import parallel
 from arena_lab.play.parallel import digest_of, other_files
 from arena_lab.sweep import tables
 from tests.support.matches import InFolder, program
-from tests.support.output import InTemporary, ran
+from tests.support.output import InTemporary, run_call
 
 TEXT = """title = "A trial"
 networks = ["ring:5", "ring:8"]
@@ -36,7 +36,7 @@ class OnCluster(InFolder):
         self.file = self.folder / "sweep.toml"
         self.file.write_text(TEXT)
 
-    def begun(self, module: str, *words: str) -> "subprocess.Popen[str]":
+    def start_process(self, module: str, *words: str) -> "subprocess.Popen[str]":
         """A part of a cluster, which is ended with the test."""
         child = subprocess.Popen(
             [sys.executable, "-m", module, *words],
@@ -52,7 +52,7 @@ class OnCluster(InFolder):
 
     def scheduler(self) -> str:
         """The address of a scheduler that has begun."""
-        child = self.begun(
+        child = self.start_process(
             SCHEDULER, "--host", "127.0.0.1", "--port", "0", "--no-dashboard"
         )
         for line in child.stderr:
@@ -62,7 +62,7 @@ class OnCluster(InFolder):
 
     def worker(self, address: str) -> None:
         """Begins a worker, and waits until it is known."""
-        child = self.begun(
+        child = self.start_process(
             WORKER,
             address,
             "--host",
@@ -77,11 +77,11 @@ class OnCluster(InFolder):
                 return
         raise AssertionError("the worker has ended")
 
-    def swept(self, out: str, *more: str) -> bytes:
-        status, said, errors = ran(
-            main, ["sweep", str(self.file), "--out", str(self.folder / out), *more]
+    def swept(self, out: str, *extra: str) -> bytes:
+        status, output, errors = run_call(
+            main, ["sweep", str(self.file), "--out", str(self.folder / out), *extra]
         )
-        self.assertEqual(status, 0, said + errors)
+        self.assertEqual(status, 0, output + errors)
         return (self.folder / out / tables.RUNS).read_bytes()
 
 
@@ -102,7 +102,7 @@ class Clusters(OnCluster):
             self.swept("program", "--program", program(), "--cluster", address), few
         )
 
-    def check_fault(self, address: str, wanted: str) -> None:
+    def check_fault(self, address: str, expectation: str) -> None:
         words = [
             "sweep",
             str(self.file),
@@ -111,9 +111,9 @@ class Clusters(OnCluster):
             "--engine",
             "model",
         ]
-        status, _, errors = ran(main, [*words, "--cluster", address])
+        status, _, errors = run_call(main, [*words, "--cluster", address])
         self.assertEqual(status, 2)
-        self.assertIn(wanted, errors)
+        self.assertIn(expectation, errors)
 
     def test_an_address_at_which_nobody_listens(self) -> None:
         with mock.patch.object(parallel, "SECONDS_TO_ANSWER", 1):

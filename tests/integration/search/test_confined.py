@@ -8,7 +8,7 @@ from unittest import mock
 
 from arena_lab.commands import check
 from arena_lab.course import hand_in
-from arena_lab.course.checked import Checked, Tried, conditions_of
+from arena_lab.course.checked import CheckJob, CheckBudget, conditions_of
 from arena_lab.play.teams import OUTSIDE, AgentWords
 from arena_lab.sandbox import sandboxes
 from arena_lab.sandbox.own_sandboxes import OwnSandboxes
@@ -46,29 +46,29 @@ class Confined(InTemporary):
             (self.folder / name).write_text(text)
 
     def left_by(self, agent: AgentWords) -> int:
-        """How many lines the program leaves outside its ground; each step finds that it
-        has played and does not solve its match."""
-        given = {
+        """Returns how many lines the program leaves outside its ground; each step finds
+        that it has played and does not solve its match."""
+        settings = {
             "networks": ["ring:3"],
             "schedulers": ["fair"],
             "seeds": 1,
             "ports": "given",
         }
-        asked = Checked(
+        job = CheckJob(
             agent,
-            conditions_of(given, pathlib.Path("."), agent, 1),
+            conditions_of(settings, pathlib.Path("."), agent, 1),
             60,
             program(),
             60,
             True,
         )
-        with mock.patch.multiple(check, EXPLORED=("ring:3",)):
+        with mock.patch.multiple(check, EXPLORE_NETWORKS=("ring:3",)):
             for step in STEPS:
-                wrong = step(asked, Tried(60))[1]
+                wrong = step(job, CheckBudget(60))[1]
                 assert wrong is not None
-                self.assertEqual(wrong.record.played.faults, [], step.__name__)
+                self.assertEqual(wrong.record.match.faults, [], step.__name__)
                 self.assertEqual(
-                    [it["do"] for it in wrong.record.played.match.log],
+                    [it["do"] for it in wrong.record.match.match.log],
                     ["enter", "leave", "close"],
                 )
         return len(self.mark.read_text().splitlines()) if self.mark.exists() else 0
@@ -80,8 +80,8 @@ class Confined(InTemporary):
         self.mark.unlink()
         if sandboxes.weakness():
             raise unittest.SkipTest(f"no walls here: {sandboxes.weakness()}")
-        files = hand_in.read([self.folder], self.folder).archive()
-        kept = ProgramFiles(files, {}, "python")
-        ground = OwnSandboxes(SandboxOptions(sandboxes.strongest()), lambda _: kept)
+        files = hand_in.read_files([self.folder], self.folder).archive()
+        record = ProgramFiles(files, {}, "python")
+        ground = OwnSandboxes(SandboxOptions(sandboxes.strongest()), lambda _: record)
         apart = AgentWords(OUTSIDE, f"python3 agent.py {words}", ground=ground)
         self.assertEqual(self.left_by(apart), 0)

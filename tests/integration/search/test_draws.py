@@ -24,39 +24,38 @@ class Drawing(InExplore):
         game, fixture = self.game(
             "--network", network, "--hole", str(hole), "--agent", RING_STEP.words
         )
-        return self.answered(fixture, game.agents, draws=draws)
+        return self.explore(fixture, game.agents, draws=draws)
 
-    def drawn(
+    def draw(
         self, network: str, hole: int, draws: SampleRequest
     ) -> Tuple[Comes, SampleCounts]:
-        """The worst of schedules that are drawn, none of which fails, and the counts of
-        all."""
-        answered = self.on_ring(network, hole, draws)
-        assert isinstance(answered.found, Comes) and answered.drawn
-        return answered.found, answered.drawn
+        """Returns the worst drawn schedule, none of which may fail, and the counts."""
+        answer = self.on_ring(network, hole, draws)
+        assert isinstance(answer.finding, Comes) and answer.samples
+        return answer.finding, answer.samples
 
     def test_drawn_schedules_lie_within_what_is_proved(self) -> None:
         for network, hole in (("ring:4", 2), ("ring:5", 3)):
-            proved = self.on_ring(network, hole, None).found
-            assert isinstance(proved, Solves)
+            proof = self.on_ring(network, hole, None).finding
+            assert isinstance(proof, Solves)
             for scheduler in SCHEDULERS:
                 with self.subTest(network=network, hole=hole, scheduler=scheduler):
-                    found, drawn = self.drawn(
+                    result, draw = self.draw(
                         network, hole, SampleRequest(200, 1, scheduler, None)
                     )
-                    self.assertEqual((drawn.solved, drawn.failed), (200, 0))
+                    self.assertEqual((draw.solved, draw.failed), (200, 0))
                     self.assertEqual(
                         [
                             sum(times for _, times in of)
-                            for of in (drawn.moves, drawn.lost)
+                            for of in (draw.moves, draw.lost)
                         ],
                         [200, 200],
                     )
-                    self.assertEqual(found.moves, drawn.moves[-1][0])
-                    self.assertLessEqual(found.moves, proved.moves)
-                    self.assertLessEqual(len(found.schedule), proved.turns)
-                    self.assertLessEqual(drawn.turns, 200 * proved.turns)
-                    self.assertLessEqual(drawn.lost[-1][0], proved.lost)
+                    self.assertEqual(result.moves, draw.moves[-1][0])
+                    self.assertLessEqual(result.moves, proof.moves)
+                    self.assertLessEqual(len(result.schedule), proof.turns)
+                    self.assertLessEqual(draw.turns, 200 * proof.turns)
+                    self.assertLessEqual(draw.lost[-1][0], proof.lost)
 
     def test_a_hunt_comes_to_the_most_moves(self) -> None:
         for network, hole, scheduler in (
@@ -64,17 +63,17 @@ class Drawing(InExplore):
             ("ring:6", 4, "slow-agents"),
         ):
             with self.subTest(network=network, hole=hole):
-                proved = self.on_ring(network, hole, None).found
-                hunted, _ = self.drawn(
+                proof = self.on_ring(network, hole, None).finding
+                hunt_result, _ = self.draw(
                     network, hole, SampleRequest(2000, 2, scheduler, "moves")
                 )
-                assert isinstance(proved, Solves)
-                self.assertEqual(hunted.moves, proved.moves)
+                assert isinstance(proof, Solves)
+                self.assertEqual(hunt_result.moves, proof.moves)
 
     def test_schedules_are_drawn_as_the_schedulers_of_the_lab_draw(self) -> None:
         for scheduler in SCHEDULERS:
             with self.subTest(scheduler=scheduler):
-                _, drawn = self.drawn(
+                _, draw = self.draw(
                     "ring:6", 3, SampleRequest(2000, 3, scheduler, None)
                 )
                 rows = lab.play(
@@ -89,14 +88,14 @@ class Drawing(InExplore):
                 moves = [row["moves"] for row in rows]
                 error = statistics.stdev(moves) / len(moves) ** 0.5
                 self.assertAlmostEqual(
-                    moves_of(drawn.moves).mean,
+                    moves_of(draw.moves).mean,
                     statistics.fmean(moves),
                     delta=5 * error + 0.01,
                 )
 
     def test_what_is_drawn_is_a_function_of_the_seed(self) -> None:
         runs = [
-            self.drawn("ring:6", 3, SampleRequest(100, seed, "slow-agents", None))
+            self.draw("ring:6", 3, SampleRequest(100, seed, "slow-agents", None))
             for seed in (1, 1, 2)
         ]
         self.assertEqual(runs[0], runs[1])
@@ -115,16 +114,16 @@ class Drawing(InExplore):
             "--check",
             2,
         )
-        self.assertEqual(status, 0, self.said)
-        self.assertIn("800 drawn schedules, ", self.said)
+        self.assertEqual(status, 0, self.output)
+        self.assertIn("800 drawn schedules, ", self.output)
         self.assertIn(
             "checked, and all agree: 2 drawn schedules, 200 histories told in other processes\n",
-            self.said,
+            self.output,
         )
         self.assertIn(
-            "most moves: home 0 holes [1], solved moves 14 lost 1\n", self.said
+            "most moves: home 0 holes [1], solved moves 14 lost 1\n", self.output
         )
-        self.assertIn("the program's verdict: solved moves 14 lost 1", self.said)
+        self.assertIn("the program's verdict: solved moves 14 lost 1", self.output)
         self.assertEqual(
             main(["replay", str(self.folder / "find"), "--program", program()]), 0
         )
@@ -135,13 +134,13 @@ class Drawing(InExplore):
                 agent = f"{FOLDER / 'reads_once'}.py {{nodes}}"
                 match = ["--network", "ring:4", "--hole", 2, "--agent", agent]
                 self.assertEqual(self.command(*match, "--draws", 100, *hunt), 1)
-                self.assertIn("a schedule fails\nit comes to: ", self.said)
+                self.assertIn("a schedule fails\nit comes to: ", self.output)
                 verdict = (
-                    self.said.partition("it comes to: ")[2]
+                    self.output.partition("it comes to: ")[2]
                     .partition("\n")[0]
                     .rpartition(", ")[2]
                 )
-                self.assertIn(f"the program's verdict: {verdict}", self.said)
+                self.assertIn(f"the program's verdict: {verdict}", self.output)
 
     def test_what_has_too_many_turns(self) -> None:
         self.assertEqual(
@@ -158,17 +157,17 @@ class Drawing(InExplore):
             130,
         )
         self.assertIn(
-            "a drawn schedule has more turns than --max-states allows", self.said
+            "a drawn schedule has more turns than --max-states allows", self.output
         )
 
     def test_a_quota_that_does_not_suffice(self) -> None:
         words = ["--network", "ring:5", "--agent", RING.words, "--draws", 5]
         self.assertNotEqual(self.command(*words, "--quota", 6), 0)
-        self.assertIn("give a larger --quota", self.said)
+        self.assertIn("give a larger --quota", self.output)
 
     def test_options_of_draws_need_draws(self) -> None:
         ring = ["--network", "ring:4", "--agent", RING.words]
-        for words, told in (
+        for words, message in (
             (["--seed", 1], "--seed needs --draws"),
             (["--scheduler", "fair"], "--scheduler needs --draws"),
             (["--objective", "lost"], "--objective needs --draws"),
@@ -176,7 +175,7 @@ class Drawing(InExplore):
         ):
             with self.subTest(words=words):
                 self.assertEqual(self.command(*ring, *words), 2)
-                self.assertIn(told, self.said)
+                self.assertIn(message, self.output)
 
     def test_least_mean_median_and_most(self) -> None:
         self.assertEqual(moves_of([(2, 1), (4, 2), (9, 1)]), (2, 4.75, 4, 9))

@@ -12,11 +12,11 @@ from arena_lab.__main__ import main
 from arena_lab.play.matches import STUCK
 from arena_lab.play.teams import Game
 from arena_lab.rules.fixtures import Fixture
-from arena_lab.search.explore import End, explored
+from arena_lab.search.explore import End, explore_match
 from arena_lab.search.findings import Breaks, Fails, Finding, Solves, name_of
-from arena_lab.search.history_tree import NoFunction
+from arena_lab.search.history_tree import NoFunctionError
 from arena_lab.search.machines import Machines
-from arena_lab.search.program_search import asked
+from arena_lab.search.program_search import run_search
 from arena_lab.search.sampled_runs import follow
 from tests.integration.search.exploring import InExplore
 from tests.integration.search.odd_agents import LONG, ODD, OWN
@@ -44,12 +44,12 @@ class Exploring(InExplore):
                 status = self.command(
                     "--network", f"ring:{nodes}", "--agent", RING.words, "--check", 2
                 )
-                self.assertEqual(status, 0, self.said)
-                self.assertIn(SOLVED, self.said)
+                self.assertEqual(status, 0, self.output)
+                self.assertIn(SOLVED, self.output)
                 self.assertIn(
-                    f"most moves {moves}, most agents lost 1, most turns ", self.said
+                    f"most moves {moves}, most agents lost 1, most turns ", self.output
                 )
-                self.assertNotIn("warning", self.said)
+                self.assertNotIn("warning", self.output)
 
     def test_several_networks_end_in_a_table(self) -> None:
         status = self.command(
@@ -62,8 +62,8 @@ class Exploring(InExplore):
             "--check",
             2,
         )
-        self.assertEqual(status, 1, self.said)
-        table = self.said.partition("network matches states moves lost seconds\n")[
+        self.assertEqual(status, 1, self.output)
+        table = self.output.partition("network matches states moves lost seconds\n")[
             2
         ].split("\n")
         self.assertEqual(
@@ -89,8 +89,8 @@ class Exploring(InExplore):
             ],
         ):
             with self.subTest(words=words):
-                self.assertEqual(self.command(*words), 0, self.said)
-                self.assertIn(SOLVED, self.said)
+                self.assertEqual(self.command(*words), 0, self.output)
+                self.assertIn(SOLVED, self.output)
 
     def test_wrong_versions_are_found_out(self) -> None:
         for name, network in (("forgets_to_mark", "ring:4"), ("reads_once", "ring:4")):
@@ -99,13 +99,13 @@ class Exploring(InExplore):
                 self.assertEqual(
                     self.command("--network", network, "--agent", agent), 1
                 )
-                self.assertIn("a schedule fails\nit comes to: ", self.said)
+                self.assertIn("a schedule fails\nit comes to: ", self.output)
                 verdict = (
-                    self.said.partition("it comes to: ")[2]
+                    self.output.partition("it comes to: ")[2]
                     .partition("\n")[0]
                     .rpartition(", ")[2]
                 )
-                self.assertIn(f"the program's verdict: {verdict}", self.said)
+                self.assertIn(f"the program's verdict: {verdict}", self.output)
                 self.assertEqual(
                     main(["replay", str(self.folder / "find"), "--program", program()]),
                     0,
@@ -120,8 +120,8 @@ class Exploring(InExplore):
         ):
             with self.subTest(names):
                 agents = [word for name in names for word in self.odd(name)]
-                self.assertEqual(self.command(*match, *agents), 1, self.said)
-                self.assertIn(f"a schedule goes on for ever, {fair}", self.said)
+                self.assertEqual(self.command(*match, *agents), 1, self.output)
+                self.assertIn(f"a schedule goes on for ever, {fair}", self.output)
 
     def test_an_agent_that_polls_spends_its_quota(self) -> None:
         for name in ("polls", "is_refused"):
@@ -129,9 +129,9 @@ class Exploring(InExplore):
                 status = self.command(
                     "--network", "ring:3", "--hole", 1, "--quota", 4, *self.odd(name)
                 )
-                self.assertEqual(status, 1, self.said)
+                self.assertEqual(status, 1, self.output)
                 self.assertRegex(
-                    self.said,
+                    self.output,
                     "agent [01] may use 5 commands: the Python model's search takes over",
                 )
 
@@ -147,27 +147,27 @@ class Exploring(InExplore):
         for naps in (0, 2):
             with self.subTest(naps=naps):
                 self.assertEqual(
-                    self.command(*match, "--spurious-wakeups", naps), 0, self.said
+                    self.command(*match, "--spurious-wakeups", naps), 0, self.output
                 )
-                self.assertIn(f", if agents nap at most {naps} times\n", self.said)
+                self.assertIn(f", if agents nap at most {naps} times\n", self.output)
                 self.assertIn(
                     "what they do when they wake once more is not known: "
                     f"try --spurious-wakeups {naps + 1}\n",
-                    self.said,
+                    self.output,
                 )
-        self.assertEqual(self.command(*match, "--spurious-wakeups", 3), 1, self.said)
+        self.assertEqual(self.command(*match, "--spurious-wakeups", 3), 1, self.output)
 
     def test_a_sleeper_that_waits_for_nothing(self) -> None:
         self.assertEqual(
             self.command("--network", "ring:3", "--hole", 1, *self.odd("sleeps")), 1
         )
-        self.assertIn("sleeps, and nothing changes any more", self.said)
+        self.assertIn("sleeps, and nothing changes any more", self.output)
 
     def test_an_agent_fails_whatever_the_verdict(self) -> None:
         at_the_end = (
             "under a schedule agent 1 fails when it is told that the match is over"
         )
-        for names, found, fault in (
+        for names, result, fault in (
             (["knows"], "", ""),
             (["knows_and_naps"], "", ""),
             (
@@ -199,9 +199,9 @@ class Exploring(InExplore):
             with self.subTest(names=names):
                 agents = [word for name in names for word in self.odd(name)]
                 status = self.command("--network", "ring:3", "--hole", 2, *agents)
-                self.assertEqual(status, 1 if found else 0, self.said)
-                self.assertIn(f"{found}, " if found else SOLVED, self.said)
-                self.assertIn(f"\n{fault}", self.said)
+                self.assertEqual(status, 1 if result else 0, self.output)
+                self.assertIn(f"{result}, " if result else SOLVED, self.output)
+                self.assertIn(f"\n{fault}", self.output)
 
     def test_agents_that_do_not_enter(self) -> None:
         for name, fault in (
@@ -212,16 +212,16 @@ class Exploring(InExplore):
                 self.assertEqual(
                     self.command("--network", "ring:3", "--hole", 1, *self.odd(name)), 1
                 )
-                self.assertIn(f"agent 0: {fault}", self.said)
+                self.assertIn(f"agent 0: {fault}", self.output)
 
     def test_a_quota_that_does_not_suffice(self) -> None:
         status = self.command(
             "--network", "ring:3", "--hole", 2, "--quota", 5, *self.odd("counts")
         )
-        self.assertEqual(status, 1, self.said)
+        self.assertEqual(status, 1, self.output)
         self.assertIn(
             "agent 0 may use 6 commands: the Python model's search takes over",
-            self.said,
+            self.output,
         )
 
     def test_too_many_states(self) -> None:
@@ -231,8 +231,8 @@ class Exploring(InExplore):
             ),
             130,
         )
-        self.assertIn("more states than were to be visited", self.said)
-        self.assertIn("stopped before all were visited", self.said)
+        self.assertIn("more states than were to be visited", self.output)
+        self.assertIn("stopped before all were visited", self.output)
 
     def test_ctrl_c_ends_it_with_what_was_found(self) -> None:
         with mock.patch(
@@ -243,18 +243,19 @@ class Exploring(InExplore):
                 self.command("--network", "ring:3", "--agent", RING.words), 130
             )
         self.assertIn(
-            "stopped before all were visited; no schedule failed until then", self.said
+            "stopped before all were visited; no schedule failed until then",
+            self.output,
         )
 
     def test_it_is_told_how_long_the_program_works(self) -> None:
         game, fixture = self.game(
             "--network", "ring:6", "--hole", "1", "--agent", RING.words
         )
-        shown = mock.Mock()
+        view = mock.Mock()
         with mock.patch("arena_lab.search.program_search.PAUSE", 0.01):
-            self.answered(fixture, game.agents, shown=shown)
+            self.explore(fixture, game.agents, view=view)
         self.assertRegex(
-            shown.set_postfix_str.call_args.args[0],
+            view.set_postfix_str.call_args.args[0],
             r"^the program works for \d+ s and takes \d+ MB$",
         )
 
@@ -265,12 +266,12 @@ class Exploring(InExplore):
         long = self.folder / "long"
         long.write_text(LONG, encoding="utf-8")
         long.chmod(0o755)
-        shown = mock.Mock()
+        view = mock.Mock()
         machines = mock.Mock(modules=[])
         with mock.patch("arena_lab.search.program_search.PAUSE", 0.01):
-            answered = asked(str(long), fixture, machines, 1_000_000, shown)
-        self.assertEqual(answered.states, 600_000)
-        all_told = [call.args[0] for call in shown.set_postfix_str.call_args_list]
+            answer = run_search(str(long), fixture, machines, 1_000_000, view)
+        self.assertEqual(answer.states, 600_000)
+        all_told = [call.args[0] for call in view.set_postfix_str.call_args_list]
         for states in ("262,144", "524,288"):
             far = re.compile(
                 rf" MB: {states} states, [\d,]+ a second, 37 turns on the path$"
@@ -283,24 +284,24 @@ class Exploring(InExplore):
                 team = f"python3 {self.folder}/own.py {{port}} {{key}} '{how}'"
                 match = ["--network", "ring:3", "--hole", 2, "--agents", 1]
                 status = self.command(*match, "--command", team, "--check", 1)
-                self.assertEqual(status, 0, self.said)
+                self.assertEqual(status, 0, self.output)
                 self.assertIn(
                     "every schedule that the lab tried solves, by histories or declared memories of programs",
-                    self.said,
+                    self.output,
                 )
         built = self.folder / "ring"
         subprocess.run(["cc", "-O2", "-o", built, AGENTS / "ring.c"], check=True)
         status = self.command(
             "--network", "ring:3", "--command", f"{built} {{port}} {{key}} {{nodes}}"
         )
-        self.assertEqual(status, 0, self.said)
-        self.assertIn("most moves 4, most agents lost 1", self.said)
+        self.assertEqual(status, 0, self.output)
+        self.assertIn("most moves 4, most agents lost 1", self.output)
 
     def test_a_held_link(self) -> None:
         match = ["--network", "ring:3", "--hole", "2", "--agents", "1"]
         game, fixture = self.game(*match, *self.odd("knows"))
-        answered = self.answered(fixture._replace(held=[(0, 0)]), game.agents)
-        self.assertEqual(answered.found, Fails("silent", 1, 0, (0, 0)))
+        answer = self.explore(fixture._replace(held=[(0, 0)]), game.agents)
+        self.assertEqual(answer.finding, Fails("silent", 1, 0, (0, 0)))
 
     def test_an_agent_that_is_no_function_is_found_by_drawn_schedules(self) -> None:
         game, fixture = self.game(
@@ -324,7 +325,7 @@ class Exploring(InExplore):
                             ),
                         )
                     )
-                    stack.enter_context(self.assertRaises(NoFunction))
+                    stack.enter_context(self.assertRaises(NoFunctionError))
                 for seed in range(20):
                     follow(fixture, game.agents, machines, seed, 5)
 
@@ -343,60 +344,61 @@ class Exploring(InExplore):
                 *self.odd("knows"),
                 *self.odd(f"ends {seed}"),
             )
-            found, beside = self.both(game, fixture, check=2)
-            kinds[name_of(type(found))] = kinds.get(name_of(type(found)), 0) + 1
+            result, beside = self.both(game, fixture, check=2)
+            kinds[name_of(type(result))] = kinds.get(name_of(type(result)), 0) + 1
             self.assertEqual(
-                not isinstance(found, Solves), beside.has_failed, (seed, found, beside)
+                not isinstance(result, Solves),
+                beside.has_failed,
+                (seed, result, beside),
             )
         self.assertLessEqual({"solves", "breaks", "fails"}, set(kinds), kinds)
 
     def both(self, game: Game, fixture: Fixture, check: int = 0) -> Tuple[Finding, End]:
         """What the program finds, and the worst end by the Python model."""
-        found = self.answered(fixture, game.agents, check=check).found
-        beside = explored(fixture, game.agents, mock.Mock()).explorer.worst
-        assert beside is not None and found is not None
-        return found, beside
+        result = self.explore(fixture, game.agents, check=check).finding
+        beside = explore_match(fixture, game.agents, mock.Mock()).explorer.worst
+        assert beside is not None and result is not None
+        return result, beside
 
     def test_drawn_machines_come_to_what_the_model_comes_to(self) -> None:
         kinds: Dict[str, int] = {}
         for seed in range(MACHINES):
-            kind = self.compared(seed)
+            kind = self.compare(seed)
             kinds[kind] = kinds.get(kind, 0) + 1
         self.assertLessEqual({"fails", "solves", "exceeds"}, set(kinds), kinds)
 
-    def compared(self, seed: int) -> str:
+    def compare(self, seed: int) -> str:
         """Compares both searches of a drawn match; gives what the program found."""
-        chance = random.Random(seed)
+        rng = random.Random(seed)
         machines = [
-            f"machine {chance.randrange(10 ** 6)} {chance.randrange(1, 4)}"
-            for _ in range(2)
+            f"machine {rng.randrange(10 ** 6)} {rng.randrange(1, 4)}" for _ in range(2)
         ]
-        if chance.random() < 0.5:
+        if rng.random() < 0.5:
             machines[1] = machines[0]
-        network = chance.choice(["ring:3", "ring:4"])
+        network = rng.choice(["ring:3", "ring:4"])
         match = [
             "--network",
             network,
             "--hole",
-            str(chance.randrange(1, int(network[-1]))),
+            str(rng.randrange(1, int(network[-1]))),
         ]
         match += [
             "--quota",
-            str(chance.randrange(3, 9)),
+            str(rng.randrange(3, 9)),
             "--spurious-wakeups",
-            str(chance.randrange(3)),
+            str(rng.randrange(3)),
         ]
         game, fixture = self.game(
-            *match, *(word for it in machines for word in self.odd(it))
+            *match, *(word for machine in machines for word in self.odd(machine))
         )
-        found, beside = self.both(game, fixture)
-        if isinstance(found, (Fails, Breaks)):
-            self.assertTrue(beside.has_failed, (seed, found, beside))
-        elif isinstance(found, Solves):
-            self.assertFalse(beside.has_failed, (seed, found, beside))
+        result, beside = self.both(game, fixture)
+        if isinstance(result, (Fails, Breaks)):
+            self.assertTrue(beside.has_failed, (seed, result, beside))
+        elif isinstance(result, Solves):
+            self.assertFalse(beside.has_failed, (seed, result, beside))
             self.assertEqual(
                 (beside.verdict.outcome, beside.verdict.moves),
-                ("solved", found.moves),
+                ("solved", result.moves),
                 (seed, beside),
             )
-        return name_of(type(found))
+        return name_of(type(result))

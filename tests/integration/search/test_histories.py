@@ -103,15 +103,15 @@ def goes(agent, key):
 
 
 class Histories(InExplore):
-    def explored(self, text: str, *words: object) -> int:
+    def explore(self, text: str, *words: object) -> int:
         (self.folder / "hides.py").write_text(text, encoding="utf-8")
         return self.command("--network", "ring:3", "--hole", 1, *words)
 
     def hidden(self, hides: Hides, good: str) -> int:
-        """The status of a team whose reader hides a text so, and is right if it finds
-        this one again."""
+        """Returns the status of a team whose reader hides a text this way and succeeds
+        if it reads the text again."""
         file = f"{self.folder}/hides.py"
-        return self.explored(
+        return self.explore(
             TEXT.format(**hides._asdict(), good=good),
             "--agent",
             f"{file}:writer",
@@ -123,35 +123,35 @@ class Histories(InExplore):
         for name, hides in HIDDEN.items():
             for good in ("", "x"):
                 with self.subTest(name, good=good):
-                    self.assertEqual(self.hidden(hides, good), 1, self.said)
-                    self.assertIn("a schedule fails", self.said)
+                    self.assertEqual(self.hidden(hides, good), 1, self.output)
+                    self.assertIn("a schedule fails", self.output)
 
     def test_roles(self) -> None:
         for name in ("by_key", "by_key_later", "by_random", "by_number"):
             with self.subTest(name):
-                status = self.explored(
+                status = self.explore(
                     ROLES, "--agents", 2, "--agent", f"{self.folder}/hides.py:{name}"
                 )
-                self.assertEqual(status, 1, self.said)
+                self.assertEqual(status, 1, self.output)
 
     def test_lines_after_the_end_and_before_the_arrival(self) -> None:
         words = ["--agents", 1, "--agent", f"{self.folder}/hides.py:after"]
-        self.assertEqual(self.explored(ROLES, *words), 0, self.said)
+        self.assertEqual(self.explore(ROLES, *words), 0, self.output)
         self.assertEqual(
-            self.explored(ROLES, *words, "--search", "model"), 0, self.said
+            self.explore(ROLES, *words, "--search", "model"), 0, self.output
         )
-        for more in ((), ("--search", "model")):
-            status = self.explored(
-                ROLES, "--agents", 1, "--agent", f"{self.folder}/hides.py:early", *more
+        for extra in ((), ("--search", "model")):
+            status = self.explore(
+                ROLES, "--agents", 1, "--agent", f"{self.folder}/hides.py:early", *extra
             )
-            self.assertEqual(status, 2, self.said)
-            self.assertIn("sends a line before it has arrived", self.said)
+            self.assertEqual(status, 2, self.output)
+            self.assertIn("sends a line before it has arrived", self.output)
 
     def test_who_sleeps_before_it_enters(self) -> None:
-        status = self.explored(
+        status = self.explore(
             ROLES, "--agents", 2, "--agent", f"{self.folder}/hides.py:sleeper"
         )
-        self.assertEqual(status, 0, self.said)
+        self.assertEqual(status, 0, self.output)
 
     def test_who_sleeps_before_it_enters_and_is_played_again(self) -> None:
         text = "import ring\ndef search(agent, key, nodes, sleep):\n    sleep(1)\n    ring.search(agent, key, nodes)\n"
@@ -164,7 +164,7 @@ class Histories(InExplore):
             "--agent",
             f"{self.folder}/hides.py {{nodes}}",
         )
-        self.assertEqual(status, 0, self.said)
+        self.assertEqual(status, 0, self.output)
 
     def test_a_held_link_that_leads_to_a_black_hole(self) -> None:
         """How many are lost is a bound then, which `replay` need not come to."""
@@ -175,33 +175,33 @@ class Histories(InExplore):
         status = self.command(
             "--tournament", cup, "--match", 0, "--agent", f"{self.folder}/hides.py:goes"
         )
-        self.assertEqual(status, 1, self.said)
-        self.assertIn("silent moves 1 lost at most 1\n", self.said)
-        self.assertIn("the program's verdict: silent moves 1 lost 0", self.said)
+        self.assertEqual(status, 1, self.output)
+        self.assertIn("silent moves 1 lost at most 1\n", self.output)
+        self.assertIn("the program's verdict: silent moves 1 lost 0", self.output)
 
     def test_nothing_is_checked_if_nobody_wants_it(self) -> None:
         words = ["--network", "ring:4", "--hole", 2, "--agent", RING.words]
-        self.assertEqual(self.command(*words, "--check", 0), 0, self.said)
-        self.assertIn(", by histories of Python programs", self.said)
-        self.assertIn("; nothing was checked\n", self.said)
+        self.assertEqual(self.command(*words, "--check", 0), 0, self.output)
+        self.assertIn(", by histories of Python programs", self.output)
+        self.assertIn("; nothing was checked\n", self.output)
 
     def test_the_python_model_searches_small_matches_beside(self) -> None:
         words = ["--network", "ring:3", "--hole", 2, "--agent", RING.words]
-        self.assertEqual(self.command(*words), 0, self.said)
-        self.assertIn(", the Python model's search of 1 of 1 matches\n", self.said)
-        found = explore.Explorer._end
+        self.assertEqual(self.command(*words), 0, self.output)
+        self.assertIn(", the Python model's search of 1 of 1 matches\n", self.output)
+        result = explore.Explorer._end
 
-        def fails(explorer: explore.Explorer, *given: Any) -> bool:
-            found(explorer, *given)
+        def fails(explorer: explore.Explorer, *args: Any) -> bool:
+            result(explorer, *args)
             assert explorer.worst is not None
             explorer.worst = explorer.worst._replace(has_failed=True)
             return True
 
         with mock.patch.object(explore.Explorer, "_end", fails):
-            self.assertEqual(self.command(*words), 1, self.said)
+            self.assertEqual(self.command(*words), 1, self.output)
         self.assertIn(
             "no schedule fails by the program, and one by the Python model's search",
-            self.said,
+            self.output,
         )
 
     def test_who_changes_what_the_lab_plays_it_by_fails(self) -> None:
@@ -219,11 +219,11 @@ class Histories(InExplore):
             for value in values:
                 with self.subTest(part, value=value):
                     sets = Hides("", f"setattr(agent._lines, {part!r}, {value})", "''")
-                    self.assertEqual(self.hidden(sets, ""), 1, self.said)
-                    said = "the class or the dict" if "__" in part else part
+                    self.assertEqual(self.hidden(sets, ""), 1, self.output)
+                    output = "the class or the dict" if "__" in part else part
                     self.assertIn(
-                        f"agent 1: has changed {said} of its lines, by which the lab plays it",
-                        self.said,
+                        f"agent 1: has changed {output} of its lines, by which the lab plays it",
+                        self.output,
                     )
 
     def test_an_agent_was_told_what_the_lab_has_told_it(self) -> None:
@@ -234,11 +234,11 @@ class Histories(InExplore):
         )
         file = f"{self.folder}/hides.py"
         self.assertEqual(
-            self.explored(text, "--agent", f"{file}:good", "--agent", f"{file}:wrong"),
+            self.explore(text, "--agent", f"{file}:good", "--agent", f"{file}:wrong"),
             1,
-            self.said,
+            self.output,
         )
-        self.assertIn("it comes to: home 0 holes [1], wrong", self.said)
+        self.assertIn("it comes to: home 0 holes [1], wrong", self.output)
 
     def test_a_line_that_is_no_text(self) -> None:
         for value in ("5", "b''", "[]"):
@@ -249,5 +249,5 @@ class Histories(InExplore):
                     "''",
                     "agent._lines.receive()",
                 )
-                self.assertEqual(self.hidden(sets, ""), 2, self.said)
-                self.assertIn(f"agent 1 sends {value}, which is no line", self.said)
+                self.assertEqual(self.hidden(sets, ""), 2, self.output)
+                self.assertIn(f"agent 1 sends {value}, which is no line", self.output)

@@ -9,7 +9,7 @@ from typing import Any, List, NamedTuple, Optional, Sequence, Set, Tuple
 from arena_lab.__main__ import main
 from arena_lab.play import schedulers
 from arena_lab.play.players import Team
-from arena_lab.play.schedules import read
+from arena_lab.play.schedules import read_schedule
 from arena_lab.play.teams import INSIDE, AgentWords
 from arena_lab.rules.engines import TOP
 from arena_lab.rules.fixtures import Fixture, fixture_of
@@ -36,9 +36,9 @@ from arena_lab.search.configurations import (
     Position,
     World,
 )
-from arena_lab.search.explore import TooMany
+from arena_lab.search.explore import TooManyStatesError
 from arena_lab.search.history_tree import HistoryState
-from arena_lab.search.invariants import Candidate, Walk, Walked, walked
+from arena_lab.search.invariants import Candidate, Walk, WalkedMatch, walk_match
 from arena_lab.support.progress import NO_PROGRESS
 from tests.support.matches import (
     FAULTY,
@@ -49,7 +49,7 @@ from tests.support.matches import (
     two,
     under,
 )
-from tests.support.output import ran
+from tests.support.output import run_call
 
 INVARIANTS = TOP / "examples" / "invariants"
 SEEDS = 20
@@ -68,8 +68,8 @@ class Mistake(NamedTuple):
 
 MISTAKES = {
     "both agents know of each other at each time": Mistake(
-        "(one.theirs == other.mine or other.theirs == one.mine)",
-        "one.theirs == other.mine",
+        "(first.theirs == second.mine or second.theirs == first.mine)",
+        "first.theirs == second.mine",
         6,
         "the candidate does not hold",
     ),
@@ -99,7 +99,7 @@ TRIANGLE = two("triangle.py")
 
 
 def place_of(agent: AgentState) -> Position:
-    """Where an agent of a match is that was played."""
+    """Returns the position of an agent in a played match."""
     if agent.standing == OUTSIDE:
         return Before()
     if agent.standing == PRESENT:
@@ -107,12 +107,12 @@ def place_of(agent: AgentState) -> Position:
     return Bound(agent.node, agent.port) if agent.standing == AWAY else After()
 
 
-def seen(match: Match) -> Tuple[Any, ...]:
-    """What a picture shows of a match that was played, as the match has it."""
-    used = tuple(agent.used for agent in match.agents)
+def view_of(match: Match) -> Tuple[Any, ...]:
+    """Returns the configuration of a played match as a tuple."""
+    usage = tuple(agent.used for agent in match.agents)
     return (
         tuple(map(place_of, match.agents)),
-        used,
+        usage,
         tuple(match.boards),
         frozenset(match.reached),
         judge(match).moves,
@@ -120,7 +120,13 @@ def seen(match: Match) -> Tuple[Any, ...]:
 
 
 def shown_by(picture: Configuration) -> Tuple[Any, ...]:
-    return picture.position, picture.used, picture.shown, picture.reached, picture.moves
+    return (
+        picture.position,
+        picture.used,
+        picture.shown,
+        picture.reached,
+        picture.moves,
+    )
 
 
 FAILURES = {
@@ -130,29 +136,29 @@ FAILURES = {
 }
 
 
-def changed(values: Sequence[Any], place: int, value: Any) -> Tuple[Any, ...]:
-    return (*values[:place], value, *values[place + 1 :])
+def with_value(values: Sequence[Any], index: int, value: Any) -> Tuple[Any, ...]:
+    return (*values[:index], value, *values[index + 1 :])
 
 
 def sight(
-    world: World, position: Position, shown: Sequence[str]
+    world: World, position: Position, view: Sequence[str]
 ) -> Optional[Tuple[int, str]]:
-    """The whiteboard that an agent has in front of it, and what it shows."""
+    """Returns the node in front of an agent and its whiteboard, or None on a link."""
     if isinstance(position, (Bound, After)):
         return None
     node = position.node if isinstance(position, At) else world.home
-    return node, shown[node]
+    return node, view[node]
 
 
-def turned(
+def after_turn(
     world: World, old: Configuration, agent: int, command: Optional[Object]
 ) -> Configuration:
     """What the turn of an agent that moves makes of a picture, as `turn_in` of
     crates/bhs_protocols/specs/Configurations.antt
     says it: it says this command, or arrives, or wakes."""
-    place = old.position[agent]
-    if isinstance(place, Bound):
-        node, label = world.far(place.node, place.port)
+    position = old.position[agent]
+    if isinstance(position, Bound):
+        node, label = world.far(position.node, position.port)
         here = {
             "ok": "here",
             "ports": world.degree(node),
@@ -160,61 +166,61 @@ def turned(
             "board": old.shown[node],
         }
         new = old._replace(
-            position=changed(old.position, agent, At(node, label)),
+            position=with_value(old.position, agent, At(node, label)),
             reached=old.reached | {node},
         )
-        return told(world, old, new, agent, here)
+        return after_reply(world, old, new, agent, here)
     if command is None:
         return old._replace(
-            history=changed(old.history, agent, (None, *old.history[agent])),
-            woken=changed(old.woken, agent, old.woken[agent] + 1),
+            history=with_value(old.history, agent, (None, *old.history[agent])),
+            woken=with_value(old.woken, agent, old.woken[agent] + 1),
         )
-    return said(world, old, agent, command)
+    return after_command(world, old, agent, command)
 
 
-def said(
+def after_command(
     world: World, old: Configuration, agent: int, command: Object
 ) -> Configuration:
-    """What a command makes of a picture that is heard of an agent at a node, or of one
-    that enters."""
-    place = old.position[agent]
+    """Returns the configuration after an accepted command of an agent at a node, or
+    after an entry."""
+    position = old.position[agent]
     do = command["do"]
-    node = place.node if isinstance(place, At) else world.home
-    came = place.came if isinstance(place, At) else None
+    node = position.node if isinstance(position, At) else world.home
+    outcome = position.came if isinstance(position, At) else None
     reply = {
         "ok": "here",
         "ports": world.degree(node),
-        "from": came,
+        "from": outcome,
         "board": old.shown[node],
     }
     new = (
         old
         if do == "enter"
-        else old._replace(used=changed(old.used, agent, old.used[agent] + 1))
+        else old._replace(used=with_value(old.used, agent, old.used[agent] + 1))
     )
     if do == "enter":
-        new = new._replace(position=changed(old.position, agent, At(node, None)))
+        new = new._replace(position=with_value(old.position, agent, At(node, None)))
     elif do == "write" and old.shown[node] == command["expect"]:
         reply = {"ok": "written"}
-        new = new._replace(shown=changed(old.shown, node, command["put"]))
+        new = new._replace(shown=with_value(old.shown, node, command["put"]))
     elif do == "write":
         reply = {"ok": "changed", "board": old.shown[node]}
     elif do == "depart":
         reply = {"ok": "gone"}
         new = new._replace(
-            position=changed(old.position, agent, Bound(node, command["port"])),
+            position=with_value(old.position, agent, Bound(node, command["port"])),
             moves=old.moves + 1,
         )
     elif do == "accuse":
         reply = {"ok": "noted"}
-        accused = changed(old.accused, agent, (node, command["port"]))
+        accused_value = with_value(old.accused, agent, (node, command["port"]))
         new = new._replace(
-            position=changed(old.position, agent, After()), accused=accused
+            position=with_value(old.position, agent, After()), accused=accused_value
         )
-    return told(world, old, new, agent, reply)
+    return after_reply(world, old, new, agent, reply)
 
 
-def told(
+def after_reply(
     world: World, old: Configuration, new: Configuration, agent: int, reply: Object
 ) -> Configuration:
     """A picture in which an agent has heard a reply. Who faces another sight than
@@ -226,7 +232,8 @@ def told(
         for times, before, after in zip(old.woken, old.position, new.position)
     )
     return new._replace(
-        history=changed(old.history, agent, (reply, *old.history[agent])), woken=woken
+        history=with_value(old.history, agent, (reply, *old.history[agent])),
+        woken=woken,
     )
 
 
@@ -241,7 +248,7 @@ class Noting:
         return True
 
     def left(self, world: World, picture: Configuration) -> None:
-        """It has no number that falls."""
+        """Provides no variant, so that only invariance is checked."""
 
     def bounds(self, world: World) -> Bounds:
         return Bounds()
@@ -251,8 +258,8 @@ class Following(Walk):
     """A search that compares what each turn makes of a picture with what the
     definitions make of it."""
 
-    def __init__(self, *given: Any) -> None:
-        super().__init__(*given)
+    def __init__(self, *args: Any) -> None:
+        super().__init__(*args)
         self.differ: List[Tuple[Configuration, int]] = []
         self.met: Set[str] = set()
 
@@ -262,36 +269,36 @@ class Following(Walk):
         past = state.pasts[agent]
         command = None if past.line is None else command_of(text_of(past.line))
         self.met.add(command["do"] if command else past.state)
-        if self._pictures.of(after) != turned(self._world, picture, agent, command):
+        if self._pictures.of(after) != after_turn(self._world, picture, agent, command):
             self.differ.append((picture, agent))
         return after
 
 
 class Invariants(InFolder):
-    said = ""
+    output = ""
 
     def command(
         self, candidate: object, agents: Sequence[AgentWords], *words: object
     ) -> int:
         """The exit status of `invariant`."""
-        named = [word for agent in agents for word in ("--agent", agent.words)]
-        status, said, _ = ran(
+        names = [word for agent in agents for word in ("--agent", agent.words)]
+        status, output, _ = run_call(
             main,
             [
                 "invariant",
                 str(candidate),
-                *named,
+                *names,
                 *map(str, words),
                 "--keep",
                 str(self.folder / "find"),
             ],
         )
-        self.said = said
+        self.output = output
         return status
 
-    def replayed(self, *words: str) -> int:
+    def replay(self, *words: str) -> int:
         """The exit status of `replay` of what was kept."""
-        return ran(main, ["replay", str(self.folder / "find"), *words]).status
+        return run_call(main, ["replay", str(self.folder / "find"), *words]).status
 
     def wrong(self, mistake: Mistake) -> pathlib.Path:
         """The file of a wrong candidate."""
@@ -301,10 +308,10 @@ class Invariants(InFolder):
         path.write_text(text.replace(mistake.old, mistake.new), encoding="utf-8")
         return path
 
-    def walked(
+    def walk(
         self, fixture: Fixture, agents: Sequence[AgentWords], candidate: Any
-    ) -> Walked:
-        return walked(fixture, agents, candidate, NO_PROGRESS, 100_000, 5)
+    ) -> WalkedMatch:
+        return walk_match(fixture, agents, candidate, NO_PROGRESS, 100_000, 5)
 
     def fixture(
         self, nodes: int, hole: int, labels: int, agents: int = 2, board: int = 4
@@ -316,11 +323,11 @@ class Invariants(InFolder):
         self.assertEqual(
             self.command(INVARIANTS / "shuttle.py", SHUTTLE, "--network", "ring:3..5"),
             0,
-            self.said,
+            self.output,
         )
         self.assertIn(
             "pictures of 9 matches; pictures that no schedule reaches were not tried",
-            self.said,
+            self.output,
         )
 
     def test_labels_of_ports_make_no_difference(self) -> None:
@@ -332,11 +339,11 @@ class Invariants(InFolder):
             for labels in range(1, 5):
                 for hole in range(1, nodes):
                     with self.subTest(name, labels=labels, hole=hole):
-                        found = self.walked(
+                        result = self.walk(
                             self.fixture(nodes, hole, labels), agents, candidate
                         )
-                        self.assertTrue(found.is_whole)
-                        self.assertIsNone(found.walk.breach)
+                        self.assertTrue(result.is_whole)
+                        self.assertIsNone(result.walk.breach)
 
     def test_each_order_of_turns_on_the_triangle_is_tried(self) -> None:
         """The agent that is lost has two turns, and the other six: any two numbers of
@@ -344,23 +351,25 @@ class Invariants(InFolder):
         self.assertEqual(
             self.command(INVARIANTS / "triangle.py", TRIANGLE, "--network", "ring:3"),
             0,
-            self.said,
+            self.output,
         )
-        self.assertEqual(self.said.count(": 21 pictures, holds, most moves 3, "), 2)
+        self.assertEqual(self.output.count(": 21 pictures, holds, most moves 3, "), 2)
 
     def test_of_a_wrong_candidate_the_first_picture_is_told(self) -> None:
         for name, mistake in MISTAKES.items():
             with self.subTest(name):
                 words = ("--network", "ring:3")
                 self.assertEqual(
-                    self.command(self.wrong(mistake), SHUTTLE, *words), 1, self.said
+                    self.command(self.wrong(mistake), SHUTTLE, *words), 1, self.output
                 )
-                self.assertIn(f"after {mistake.turns} turns: {mistake.why}", self.said)
+                self.assertIn(
+                    f"after {mistake.turns} turns: {mistake.why}", self.output
+                )
                 self.assertEqual(
-                    len(read(self.folder / "find" / "schedule.txt").choices),
+                    len(read_schedule(self.folder / "find" / "schedule.txt").choices),
                     mistake.turns,
                 )
-                self.assertEqual(self.replayed("--engine", "model"), 0)
+                self.assertEqual(self.replay("--engine", "model"), 0)
 
     def test_the_page_on_proofs_shows_what_is_told_of_a_wrong_candidate(self) -> None:
         path = self.folder / "wrong.py"
@@ -369,50 +378,55 @@ class Invariants(InFolder):
         path.write_text(text.replace("turns < 3", "turns < 2"), encoding="utf-8")
         self.assertEqual(self.command(path, TRIANGLE, "--network", "ring:3"), 1)
         page = (TOP / "docs" / "PROVING.md").read_text(encoding="utf-8")
-        shown = re.search(
+        match = re.search(
             r"(?:^    .*\n)*^    .* does not hold.*\n(?:^    .*\n)*", page, re.MULTILINE
         )
-        assert shown is not None
-        for line in shown[0].splitlines():
+        assert match is not None
+        for line in match[0].splitlines():
             parts = [re.escape(part) for part in line.strip().split("..")]
             self.assertRegex(
-                self.said, re.compile("^" + ".*".join(parts) + "$", re.MULTILINE)
+                self.output, re.compile("^" + ".*".join(parts) + "$", re.MULTILINE)
             )
 
     def test_the_schedule_that_is_told_leads_to_the_picture(self) -> None:
         for name, mistake in MISTAKES.items():
             with self.subTest(name):
                 fixture = self.fixture(4, 2, 0)
-                breach = self.walked(
+                breach = self.walk(
                     fixture, SHUTTLE, Candidate(self.wrong(mistake))
                 ).walk.breach
                 assert breach is not None
                 choices = list(breach.choices)
-                played = under(schedulers.recorded(choices), fixture, SHUTTLE)
-                self.assertEqual(seen(played.match), shown_by(breach.picture))
-                accused = {place for place in breach.picture.accused if place}
-                self.assertEqual(set(played.match.accused), accused)
+                match = under(schedulers.recorded_scheduler(choices), fixture, SHUTTLE)
+                self.assertEqual(view_of(match.match), shown_by(breach.picture))
+                accused_value = {
+                    link_end for link_end in breach.picture.accused if link_end
+                }
+                self.assertEqual(set(match.match.accused), accused_value)
 
     def test_each_picture_that_a_drawn_schedule_comes_to_is_tried(self) -> None:
         for hole in (1, 2, 3):
             noting = Noting()
             fixture = self.fixture(4, hole, 0)
-            found = self.walked(fixture, SHUTTLE, noting)
-            self.assertTrue(found.is_whole and found.walk.breach is None)
+            result = self.walk(fixture, SHUTTLE, noting)
+            self.assertTrue(result.is_whole and result.walk.breach is None)
             for seed in range(SEEDS):
-                met: Set[Tuple[Any, ...]] = set()
-                fair = schedulers.NAMED["fair"](seed)
+                cases_met: Set[Tuple[Any, ...]] = set()
+                fair = schedulers.SCHEDULER_MAKERS["fair"](seed)
 
                 def choose(
-                    choices: Any, state: Any, fair: Any = fair, met: Any = met
+                    choices: Any,
+                    state: Any,
+                    fair: Any = fair,
+                    cases_met: Any = cases_met,
                 ) -> Any:
-                    met.add(seen(state.match))
+                    cases_met.add(view_of(state.match))
                     return fair(choices, state)
 
-                played = under(choose, fixture, SHUTTLE)
-                self.assertFalse(played.has_failed())
+                match = under(choose, fixture, SHUTTLE)
+                self.assertFalse(match.has_failed())
                 with self.subTest(hole=hole, seed=seed):
-                    self.assertEqual(met - noting.found, set())
+                    self.assertEqual(cases_met - noting.found, set())
 
     def test_a_match_that_is_not_solved_is_told_whatever_the_candidate(self) -> None:
         path = self.folder / "always.py"
@@ -428,9 +442,9 @@ class Invariants(InFolder):
             self.command(path, reads_once, "--network", "ring:4", "--hole", "2"), 1
         )
         self.assertIn(
-            "nothing more can happen, and the match is not solved: silent", self.said
+            "nothing more can happen, and the match is not solved: silent", self.output
         )
-        self.assertEqual(self.replayed("--program", program()), 0)
+        self.assertEqual(self.replay("--program", program()), 0)
 
     def test_agents_that_fail_are_told_whatever_the_candidate(self) -> None:
         (self.folder / "faulty.py").write_text(FAULTY, encoding="utf-8")
@@ -438,15 +452,15 @@ class Invariants(InFolder):
         path.write_text(
             "def holds(world, picture):\n    return True\n", encoding="utf-8"
         )
-        for words, said in FAILURES.items():
+        for words, message in FAILURES.items():
             with self.subTest(words):
                 agent = AgentWords(INSIDE, f"{self.folder / 'faulty.py'}:{words}")
                 self.assertEqual(
                     self.command(path, [agent], "--network", "ring:3", "--hole", "1"),
                     1,
-                    self.said,
+                    self.output,
                 )
-                self.assertIn(said, self.said)
+                self.assertIn(message, self.output)
 
     def test_what_is_left_at_the_start_is_within_the_bound(self) -> None:
         path = self.folder / "wrong.py"
@@ -455,11 +469,11 @@ class Invariants(InFolder):
         self.assertEqual(self.command(path, TRIANGLE, "--network", "ring:3"), 1)
         self.assertIn(
             "1 picture, at the start: left is 8 at the start, and bounds says at most 7 turns",
-            self.said,
+            self.output,
         )
 
     def test_a_turn_makes_of_a_picture_what_the_definitions_say(self) -> None:
-        met: Set[str] = set()
+        cases_met: Set[str] = set()
         for agents, board in ((SHUTTLE, 4), ([MAP] * 3, 4096), (TRIANGLE, 0)):
             with self.subTest(agents[0].words):
                 fixture = self.fixture(3, 1, 1, len(agents), board)._replace(naps=1)
@@ -472,15 +486,16 @@ class Invariants(InFolder):
                     20_000,
                     Noting(),
                 )
-                with contextlib.suppress(TooMany):
+                with contextlib.suppress(TooManyStatesError):
                     for _ in walk.explore():
                         pass
                 team.stop()
                 self.assertIsNone(walk.breach)
                 self.assertEqual(walk.differ, [])
-                met |= walk.met
+                cases_met |= walk.met
         self.assertEqual(
-            met, {"enter", "depart", "travels", "write", "look", "sleeps", "accuse"}
+            cases_met,
+            {"enter", "depart", "travels", "write", "look", "sleeps", "accuse"},
         )
 
     def test_a_search_that_is_stopped_says_so(self) -> None:
@@ -497,5 +512,5 @@ class Invariants(InFolder):
         )
         self.assertIn(
             "stopped before all pictures were tried; the candidate held at those that were",
-            self.said,
+            self.output,
         )

@@ -9,16 +9,16 @@ from typing import Dict, List, Tuple
 from arena_lab.__main__ import parser
 from arena_lab.commands.words import games_of
 from arena_lab.play.players import DONE
-from arena_lab.rules.model import GONE, OVER, spelled
+from arena_lab.rules.model import GONE, OVER, spell
 from arena_lab.search.agent_processes import SAYS, STOP, AgentStep
 from arena_lab.search.machines import Machines
 from tests.support.matches import RING
 
 BOARDS = ("", "right going, left new", "right safe, left told 2")
-WRITTEN = spelled({"ok": "written"})
+WRITTEN = spell({"ok": "written"})
 HEARD = [
-    spelled({"ok": "here", "ports": 2, "from": came, "board": board})
-    for came in (0, 1)
+    spell({"ok": "here", "ports": 2, "from": outcome, "board": board})
+    for outcome in (0, 1)
     for board in BOARDS
 ]
 DEPTH = 6
@@ -26,17 +26,17 @@ History = Tuple[str, ...]
 
 
 def news_of(step: AgentStep) -> List[str]:
-    """What may happen to an agent that does this next."""
+    """Returns the possible next news of an agent after this step."""
     if step.does == STOP:
-        return [*HEARD, spelled(OVER)]
+        return [*HEARD, spell(OVER)]
     if step.does != SAYS:
         return []
     if b"depart" in step.line:
-        return [spelled(GONE)]
+        return [spell(GONE)]
     if b"write" in step.line:
         return [
             WRITTEN,
-            *(spelled({"ok": "changed", "board": board}) for board in BOARDS),
+            *(spell({"ok": "changed", "board": board}) for board in BOARDS),
         ]
     return HEARD[:2]
 
@@ -57,9 +57,9 @@ class Asked:
         try:
             self._ask(self.machines.begin(0), ())
             self.left = [
-                one.player.state
-                for left in self.machines._left.programs.values()
-                for one in left
+                first.player.state
+                for program in self.machines._left.programs.values()
+                for first in program
             ]
         finally:
             self.machines.stop()
@@ -67,7 +67,7 @@ class Asked:
     def _ask(self, memory: int, history: History) -> None:
         self.found[history] = memory
         step = self.machines.steps[memory]
-        is_over = step.does == STOP and history and history[-1] != spelled(GONE)
+        is_over = step.does == STOP and history and history[-1] != spell(GONE)
         if len(history) == DEPTH or is_over:
             return
         all_news = news_of(step)
@@ -80,27 +80,27 @@ class Asked:
 
 class Order(unittest.TestCase):
     def test_the_order_of_questions_changes_no_answer(self) -> None:
-        one = Asked(False)
-        other = Asked(True)
-        self.assertEqual(one.found.keys(), other.found.keys())
-        self.assertGreater(len(one.found), 100)
-        for history in one.found:
-            self.assertEqual(one.step(history), other.step(history), history)
+        first = Asked(False)
+        second = Asked(True)
+        self.assertEqual(first.found.keys(), second.found.keys())
+        self.assertGreater(len(first.found), 100)
+        for history in first.found:
+            self.assertEqual(first.step(history), second.step(history), history)
         # both merge the same histories, and only those of programs that have ended
         pairs = {
-            (memory, other.found[history]) for history, memory in one.found.items()
+            (memory, second.found[history]) for history, memory in first.found.items()
         }
-        self.assertEqual(len(pairs), len(set(one.found.values())))
-        self.assertEqual(len(pairs), len(set(other.found.values())))
-        by_memory = collections.Counter(one.found.values())
+        self.assertEqual(len(pairs), len(set(first.found.values())))
+        self.assertEqual(len(pairs), len(set(second.found.values())))
+        by_memory = collections.Counter(first.found.values())
         self.assertTrue(
             all(
-                one.machines.steps[it].does == STOP
+                first.machines.steps[it].does == STOP
                 for it, count in by_memory.items()
                 if count > 1
             )
         )
-        for asked, state in itertools.chain(
-            ((one, it) for it in one.left), ((other, it) for it in other.left)
+        for request, state in itertools.chain(
+            ((first, it) for it in first.left), ((second, it) for it in second.left)
         ):
-            self.assertNotEqual(state, DONE, asked)
+            self.assertNotEqual(state, DONE, request)

@@ -13,10 +13,10 @@ from arena_lab.play.teams import INSIDE, AgentWords, Game
 from arena_lab.rules import networks
 from arena_lab.rules.networks import ring
 from arena_lab.search import explore, history_tree, hunt
-from tests.integration.search.test_brute import played
+from tests.integration.search.test_brute import outcomes_of
 from tests.support import mutants
 from tests.support.matches import FAULTY, MAP, RING, fixture, program
-from tests.support.output import InTemporary, ran
+from tests.support.output import InTemporary, run_call
 
 WORST = {3: 4, 4: 9, 5: 14, 6: 23}
 BY_MODEL = ("--search", "model")
@@ -50,19 +50,23 @@ class Searches(InTemporary):
         (self.folder / "odd.py").write_text(ODD, encoding="utf-8")
 
     def command(self, *words: str) -> int:
-        status, said, errors = ran(main, [*map(str, words), "--program", program()])
-        self.said = said + errors
+        status, output, errors = run_call(
+            main, [*map(str, words), "--program", program()]
+        )
+        self.said = output + errors
         return status
 
-    def kept(self) -> List[str]:
+    def kept_files(self) -> List[str]:
         return ["--keep", str(self.folder / "find")]
 
 
 class Exploring(Searches):
-    def explored(self, *words: str) -> explore.Explorer:
-        given: argparse.Namespace = parser().parse_args(["explore", *words])
-        (game,) = games_of(given)
-        return explore.explored(game.fixtures()[-1], game.agents, mock.Mock()).explorer
+    def explorer(self, *words: str) -> explore.Explorer:
+        args: argparse.Namespace = parser().parse_args(["explore", *words])
+        (game,) = games_of(args)
+        return explore.explore_match(
+            game.fixtures()[-1], game.agents, mock.Mock()
+        ).explorer
 
     def test_the_most_moves_on_rings(self) -> None:
         for nodes, moves in WORST.items():
@@ -74,7 +78,7 @@ class Exploring(Searches):
                     f"ring:{nodes}",
                     "--agent",
                     RING.words,
-                    *self.kept(),
+                    *self.kept_files(),
                 )
                 self.assertEqual(status, 0, self.said)
                 self.assertIn("no schedule fails, of the Python model", self.said)
@@ -97,11 +101,11 @@ class Exploring(Searches):
             ],
         ):
             with self.subTest(words=words):
-                few = self.explored(*words)
+                few = self.explorer(*words)
                 with mock.patch.object(
                     history_tree.Pasts, "_is_local", lambda self, past: False
                 ):
-                    all_orders = self.explored(*words)
+                    all_orders = self.explorer(*words)
                 self.assertLess(few.states(), all_orders.states())
                 self.assertEqual(few.worst[:2], all_orders.worst[:2])
 
@@ -111,29 +115,37 @@ class Exploring(Searches):
             ("a wrong one", f"{FORGETFUL} {{nodes}}"),
         ):
             with self.subTest(name):
-                found = self.explored(
+                explorer = self.explorer(
                     "--network", "ring:3", "--hole", "1", "--agent", words
                 )
-                given = fixture(ring(3), 1)
-                scripts = [AgentWords(INSIDE, words).script(given.setup)] * 2
+                match_fixture = fixture(ring(3), 1)
+                scripts = [AgentWords(INSIDE, words).script(match_fixture.setup)] * 2
                 self.assertIsNone(
-                    played(given, scripts, 100), "there are few schedules"
+                    outcomes_of(match_fixture, scripts, 100), "there are few schedules"
                 )
-                ends = played(given, scripts, 100_000)
+                ends = outcomes_of(match_fixture, scripts, 100_000)
                 assert ends is not None
-                self.assertIn((*found.worst.verdict, found.worst.has_failed), ends)
-                self.assertEqual(
-                    found.worst.has_failed, any(end.has_failed for end in ends)
+                self.assertIn(
+                    (*explorer.worst.verdict, explorer.worst.has_failed), ends
                 )
-                if not found.worst.has_failed:
+                self.assertEqual(
+                    explorer.worst.has_failed, any(end.has_failed for end in ends)
+                )
+                if not explorer.worst.has_failed:
                     self.assertEqual(
-                        found.worst.verdict.moves, max(end.moves for end in ends)
+                        explorer.worst.verdict.moves, max(end.moves for end in ends)
                     )
 
     def test_an_agent_that_is_no_function_is_told(self) -> None:
         agent = f"{self.folder}/odd.py:drawn 4"
         status = self.command(
-            "explore", *BY_MODEL, "--network", "ring:4", "--agent", agent, *self.kept()
+            "explore",
+            *BY_MODEL,
+            "--network",
+            "ring:4",
+            "--agent",
+            agent,
+            *self.kept_files(),
         )
         self.assertEqual(status, 2)
         self.assertIn(
@@ -151,7 +163,7 @@ class Exploring(Searches):
             "--agent",
             RING.words,
         ]
-        self.assertEqual(self.command(*words, *self.kept()), 130)
+        self.assertEqual(self.command(*words, *self.kept_files()), 130)
         self.assertIn("stopped before all were visited", self.said)
 
     def test_what_is_kept_is_played_to_the_same_moves(self) -> None:
@@ -166,8 +178,8 @@ class Exploring(Searches):
             "--agent",
             MAP.words,
         ]
-        worst = self.explored(*words).worst.verdict
-        self.command("explore", *BY_MODEL, *words, *self.kept())
+        worst = self.explorer(*words).worst.verdict
+        self.command("explore", *BY_MODEL, *words, *self.kept_files())
         self.assertIn(f"the program's verdict: {worst}", self.said)
 
 
@@ -185,7 +197,7 @@ class Hunting(Searches):
             "1000",
             "--database",
             str(self.folder / "db"),
-            *self.kept(),
+            *self.kept_files(),
         )
         self.assertEqual(status, 0, self.said)
         self.assertIn("the program's verdict: solved moves 37 lost 1", self.said)
@@ -193,14 +205,14 @@ class Hunting(Searches):
 
     def test_draws_come_first(self) -> None:
         for name in ("reads_once", "forgets_to_mark", "counts_naps"):
-            place = mutants.PLANS[name].hunted
-            network = place.network
-            count = place.agents
+            position = mutants.PLANS[name].hunt_plan
+            network = position.network
+            count = position.agents
             words = mutants.agent_of(name)
             with self.subTest(name):
                 game = Game(
                     network,
-                    networks.named(network),
+                    networks.network_named(network),
                     [AgentWords(INSIDE, words)] * count,
                 )
                 first = next(
@@ -220,18 +232,18 @@ class Hunting(Searches):
                         str(count),
                         "--database",
                         str(self.folder / "db"),
-                        *self.kept(),
+                        *self.kept_files(),
                     ),
                 )
-                found = re.search(
+                match = re.search(
                     r"^(\d+) schedules were tried: the team fails, first under number (\d+)$",
                     self.said,
                     re.M,
                 )
-                assert found is not None, self.said
-                self.assertEqual(int(found[2]), first)
+                assert match is not None, self.said
+                self.assertEqual(int(match[2]), first)
                 # the find is made small
-                self.assertGreater(int(found[1]), first)
+                self.assertGreater(int(match[1]), first)
 
     def test_changed_schedules_come_next_and_earlier_finds_before(self) -> None:
         words = [
@@ -244,14 +256,14 @@ class Hunting(Searches):
             "120",
             "--database",
             str(self.folder / "db"),
-            *self.kept(),
+            *self.kept_files(),
         ]
-        for wanted in (
+        for expectation in (
             r"first under number (6[1-9]|[789]\d|1[012]\d)$",
             r"first under number 1$",
         ):
             self.assertEqual(self.command(*words), 1, self.said)
-            self.assertRegex(self.said, re.compile(wanted, re.M))
+            self.assertRegex(self.said, re.compile(expectation, re.M))
 
     def test_agents_with_faults(self) -> None:
         for name, fault in (
@@ -280,10 +292,10 @@ class Hunting(Searches):
         real = hunt.play
         tries = iter(range(10))
 
-        def play(*given: object) -> object:
+        def play(*args: object) -> object:
             if next(tries, None) is None:
                 raise KeyboardInterrupt
-            return real(*given)
+            return real(*args)
 
         with mock.patch.object(hunt, "play", play):
             status = self.command(
@@ -296,7 +308,7 @@ class Hunting(Searches):
                 "moves",
                 "--database",
                 str(self.folder / "db"),
-                *self.kept(),
+                *self.kept_files(),
             )
         self.assertEqual(status, 130, self.said)
         self.assertIn(
@@ -308,9 +320,9 @@ class Mutants(Searches):
     def test_two_are_caught(self) -> None:
         for name in ("reads_once", "counts_nodes_alone", "counts_naps"):
             with self.subTest(name):
-                for found in mutants.caught(name, program()):
-                    self.assertTrue(found.is_caught)
-                    self.assertNotEqual(found.verdict.outcome, "solved")
+                for result in mutants.caught(name, program()):
+                    self.assertTrue(result.is_caught)
+                    self.assertNotEqual(result.verdict.outcome, "solved")
 
     def test_a_timeout_fails_under_a_scheduler_if_agents_may_nap(self) -> None:
         agent = f"{mutants.FOLDER / 'counts_naps.py'} {{nodes}} {{links}}"
@@ -328,7 +340,7 @@ class Mutants(Searches):
             "model",
         ]
         self.assertEqual(self.command(*words, "--spurious-wakeups", "1"), 0)
-        self.assertEqual(self.command(*words, *self.kept()[:2]), 1)
+        self.assertEqual(self.command(*words, *self.kept_files()[:2]), 1)
         self.assertEqual(
             self.command("replay", self.folder / "find", "--engine", "model"), 0
         )

@@ -22,32 +22,32 @@ class TestSpin(unittest.TestCase):
                 f"ring:{nodes}", RING_STEP.words, engine=program(), check=0
             )
             self.assertTrue(proof.solves)
-            for model in (promela.NATURAL, promela.MERGED):
+            for model in (promela.NATURAL, promela.MERGED_MODEL):
                 with self.subTest(nodes=nodes, model=model.name):
-                    found = promela.search(model, nodes)
-                    self.assertEqual(0, found.errors)
+                    result = promela.search(model, nodes)
+                    self.assertEqual(0, result.errors)
                     self.assertEqual(
-                        max(row["moves"] for row in proof.rows), found.moves
+                        max(row["moves"] for row in proof.rows), result.moves
                     )
 
     def test_several_processes_find_the_same_most_moves(self) -> None:
-        for model in (promela.NATURAL, promela.MERGED):
+        for model in (promela.NATURAL, promela.MERGED_MODEL):
             with self.subTest(model.name):
-                one = promela.search(model, 8)
-                more = promela.search(model, 8, processors=3)
-                self.assertEqual((one.moves, 0), (more.moves, more.errors))
-                self.assertGreaterEqual(more.states, one.states)
+                first = promela.search(model, 8)
+                extra = promela.search(model, 8, processors=3)
+                self.assertEqual((first.moves, 0), (extra.moves, extra.errors))
+                self.assertGreaterEqual(extra.states, first.states)
 
     def test_spin_finds_a_mistake(self) -> None:
-        """An agent that does not look again before it writes overwrites what the other
-        one has told."""
+        """Without reading again before its write, an agent overwrites the other's
+        message."""
         source = (promela.MODELS / "ring_merged.pml").read_text(encoding="utf-8")
-        unchanged = "#define IS_UNCHANGED (right_seen == right_mark[node] && left_seen == left_mark[node])"
-        self.assertIn(unchanged, source)
-        blind = source.replace(unchanged, "#define IS_UNCHANGED true")
+        unchanged_value = "#define IS_UNCHANGED (right_seen == right_mark[node] && left_seen == left_mark[node])"
+        self.assertIn(unchanged_value, source)
+        blind = source.replace(unchanged_value, "#define IS_UNCHANGED true")
         for processors in (1, 3):
-            found = promela.search(promela.MERGED, 6, blind, processors)
-            self.assertNotEqual(0, found.errors)
+            result = promela.search(promela.MERGED_MODEL, 6, blind, processors)
+            self.assertNotEqual(0, result.errors)
 
     def test_the_benchmark_compares_them(self) -> None:
         with mock.patch.object(explore, "PROGRAM", program()):
@@ -62,5 +62,5 @@ class TestSpin(unittest.TestCase):
             "arena explore --module",
             "arena explore --module, 2 at a time",
         ]
-        self.assertEqual(names, [it.name for it in rows])
-        self.assertEqual(1, len({it.moves for it in rows}))
+        self.assertEqual(names, [row.name for row in rows])
+        self.assertEqual(1, len({row.moves for row in rows}))

@@ -8,7 +8,14 @@ from arena_lab.play import schedulers
 from arena_lab.play.teams import OUTSIDE, AgentWords
 from tests.integration.search.exploring import InExplore
 from tests.support.drawing import by_chance
-from tests.support.matches import AGENTS, RING, RING_STEP, played, program, ring_fixture
+from tests.support.matches import (
+    AGENTS,
+    RING,
+    RING_STEP,
+    play_fixture,
+    program,
+    ring_fixture,
+)
 
 SOLVED = "every schedule that the lab tried solves, by memories of Python steps"
 # steps on the ring of 3, whose black hole is node 1
@@ -80,7 +87,7 @@ class Steps(InExplore):
     def step(self, name: str) -> str:
         return f"{self.folder}/steps.py:{name}"
 
-    def explored(self, *names: str, hole: int = 1) -> int:
+    def explore(self, *names: str, hole: int = 1) -> int:
         agents = [word for name in names for word in ("--agent", self.step(name))]
         return self.command(
             "--network", "ring:3", "--hole", hole, "--agents", len(names), *agents
@@ -88,16 +95,16 @@ class Steps(InExplore):
 
     @by_chance(20)
     def test_the_ring_search_does_command_for_command_what_the_program_does(
-        self, chance: random.Random
+        self, rng: random.Random
     ) -> None:
-        nodes = chance.randrange(3, 10)
-        fixture = ring_fixture(nodes, chance.randrange(1, nodes), chance)
-        maker = chance.choice(list(schedulers.NAMED.values()))
-        seed = chance.randrange(20)
-        one, other = (
-            played(fixture, agent, seed, maker) for agent in (RING_STEP, RING)
+        nodes = rng.randrange(3, 10)
+        fixture = ring_fixture(nodes, rng.randrange(1, nodes), rng)
+        maker = rng.choice(list(schedulers.SCHEDULER_MAKERS.values()))
+        seed = rng.randrange(20)
+        first, second = (
+            play_fixture(fixture, agent, seed, maker) for agent in (RING_STEP, RING)
         )
-        self.assertEqual(one.replay, other.replay)
+        self.assertEqual(first.replay, second.replay)
 
     def test_it_plays_outside(self) -> None:
         fixture = ring_fixture(5, 2, random.Random(0))
@@ -106,7 +113,8 @@ class Steps(InExplore):
             f"/usr/bin/python3 {AGENTS / 'ring_step.py'} {{host}} {{port}} {{key}} {{nodes}}",
         )
         self.assertEqual(
-            played(fixture, outside, 3).replay, played(fixture, RING_STEP, 3).replay
+            play_fixture(fixture, outside, 3).replay,
+            play_fixture(fixture, RING_STEP, 3).replay,
         )
 
     def test_every_schedule_of_rings(self) -> None:
@@ -117,13 +125,13 @@ class Steps(InExplore):
                         "--network", f"ring:{nodes}", "--agent", RING_STEP.words
                     ),
                     0,
-                    self.said,
+                    self.output,
                 )
-                self.assertIn(SOLVED, self.said)
+                self.assertIn(SOLVED, self.output)
                 self.assertIn(
-                    f"most moves {moves}, most agents lost 1, most turns ", self.said
+                    f"most moves {moves}, most agents lost 1, most turns ", self.output
                 )
-                self.assertIn(f"\n{states} states in ", self.said)
+                self.assertIn(f"\n{states} states in ", self.output)
 
     def test_steps_that_solve(self) -> None:
         for names in (
@@ -134,8 +142,8 @@ class Steps(InExplore):
             ["counts 3"],
         ):
             with self.subTest(names):
-                self.assertEqual(self.explored(*names), 0, self.said)
-                self.assertIn(SOLVED, self.said)
+                self.assertEqual(self.explore(*names), 0, self.output)
+                self.assertIn(SOLVED, self.output)
 
     def test_steps_that_fail(self) -> None:
         for name, why in (
@@ -144,12 +152,12 @@ class Steps(InExplore):
             ("waits", "sleeps, and nothing changes any more"),
             (
                 "holds_a_set",
-                "raises NotPlain: its memory holds {''}, of type set: hold None,",
+                "raises NotPlainError: its memory holds {''}, of type set: hold None,",
             ),
         ):
             with self.subTest(name):
-                self.assertEqual(self.explored(name), 1, self.said)
-                self.assertIn(f"agent 0: {why}", self.said)
+                self.assertEqual(self.explore(name), 1, self.output)
+                self.assertIn(f"agent 0: {why}", self.output)
 
     def test_a_step_that_computes_without_end(self) -> None:
         words = [
@@ -164,8 +172,8 @@ class Steps(InExplore):
             "--timeout",
             0.2,
         ]
-        self.assertEqual(self.command(*words), 1, self.said)
-        self.assertIn("agent 0: has computed for 0.2 s", self.said)
+        self.assertEqual(self.command(*words), 1, self.output)
+        self.assertIn("agent 0: has computed for 0.2 s", self.output)
 
     def test_beside_a_program(self) -> None:
         status = self.command(
@@ -178,20 +186,20 @@ class Steps(InExplore):
             "--check",
             5,
         )
-        self.assertEqual(status, 0, self.said)
+        self.assertEqual(status, 0, self.output)
         self.assertIn(
-            "by memories of Python steps and histories of Python programs", self.said
+            "by memories of Python steps and histories of Python programs", self.output
         )
 
     def test_by_workers_and_drawn(self) -> None:
         words = ["--agent", RING_STEP.words, "--network"]
-        self.assertEqual(self.command(*words, "ring:4", "--workers", 2), 0, self.said)
-        self.assertIn("\n143 states in ", self.said)
+        self.assertEqual(self.command(*words, "ring:4", "--workers", 2), 0, self.output)
+        self.assertIn("\n143 states in ", self.output)
         status = self.command(
             *words, "ring:6", "--hole", 3, "--draws", 50, "--check", 2
         )
-        self.assertEqual(status, 0, self.said)
-        self.assertIn("50 drawn schedules", self.said)
+        self.assertEqual(status, 0, self.output)
+        self.assertIn("50 drawn schedules", self.output)
 
     def test_who_has_too_many_states_hears_of_steps(self) -> None:
         for words, is_told in ((RING.words, True), (RING_STEP.words, False)):
@@ -202,13 +210,13 @@ class Steps(InExplore):
                 130,
             )
             self.assertEqual(
-                "an agent that is written as a step has fewer states" in self.said,
+                "an agent that is written as a step has fewer states" in self.output,
                 is_told,
             )
 
     def test_a_function_of_this_process(self) -> None:
-        found = lab.explore("ring:3", walker, holes=[1], engine=program())
-        self.assertTrue(found.solves, found)
+        result = lab.explore("ring:3", walker, holes=[1], engine=program())
+        self.assertTrue(result.solves, result)
         self.assertTrue(
             lab.explore("ring:4", walker, holes=[1], engine=program()).fails
         )

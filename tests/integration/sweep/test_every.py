@@ -6,13 +6,13 @@ from unittest import mock
 
 from arena_lab.__main__ import main
 from arena_lab.play import parallel
-from arena_lab.rules.engines import Differs
-from arena_lab.search.history_tree import NoFunction
+from arena_lab.rules.engines import EnginesDifferError
+from arena_lab.search.history_tree import NoFunctionError
 from arena_lab.sweep import every, sweeping, tables
 from arena_lab.sweep.grid import grid_of
 from tests.integration.search.test_cluster import OnCluster
 from tests.support.matches import InFolder, program
-from tests.support.output import ran
+from tests.support.output import run_call
 
 TEXT = """title = "Every schedule"
 networks = ["ring:3", "ring:4"]
@@ -42,7 +42,7 @@ class Every(InFolder):
         self.out = self.folder / "out"
         self.file.write_text(TEXT)
 
-    def swept(self, *more: str) -> Tuple[int, str]:
+    def swept(self, *extra: str) -> Tuple[int, str]:
         """The exit status, and what was said."""
         words = [
             "sweep",
@@ -53,20 +53,20 @@ class Every(InFolder):
             program(),
             "--workers",
             "2",
-            *more,
+            *extra,
         ]
-        status, said, errors = ran(main, words)
-        return status, said + errors
+        status, output, errors = run_call(main, words)
+        return status, output + errors
 
-    def comes_to(self, status: int, *more: str) -> None:
+    def comes_to(self, status: int, *extra: str) -> None:
         """The sweep ends with this status."""
-        found, said = self.swept(*more)
-        self.assertEqual(found, status, said)
+        result, output = self.swept(*extra)
+        self.assertEqual(result, status, output)
 
     def rows(self) -> List[List[str]]:
         return tables.cells_in(self.out / every.EVERY, every.COLUMNS)
 
-    def found(self) -> Dict[Tuple[str, str], List[str]]:
+    def summaries(self) -> Dict[Tuple[str, str], List[str]]:
         """What the summary says of every schedule."""
         with (self.out / sweeping.SUMMARY).open(newline="") as file:
             return {
@@ -78,13 +78,13 @@ class Every(InFolder):
             }
 
     def test_what_is_found_stands_in_a_table_the_summary_and_the_report(self) -> None:
-        status, said = self.swept("--explore", "100000")
-        self.assertEqual(status, 1, said)
+        status, output = self.swept("--explore", "100000")
+        self.assertEqual(status, 1, output)
         self.assertRegex(
-            said,
+            output,
             r"every schedule of 10 matches on .*: solved 9; failed 1; not tried as a whole 0; the",
         )
-        self.assertEqual(self.found(), FOUND)
+        self.assertEqual(self.summaries(), FOUND)
         page = (self.out / sweeping.REPORT).read_text()
         self.assertIn('<a href="every.csv">', page)
         self.assertEqual(page.count('<tr class="failed">'), 3, page)
@@ -94,7 +94,7 @@ class Every(InFolder):
             [["ring:4", "4", "4", "0", hole, "right", "2", "2"] for hole in "12"],
         )
         self.assertEqual([row[9] for row in rows].count("solves"), 9)
-        # by one process, and again, it is the same, and what is there is tried no more
+        # a single process gives the same rows, and a second run explores nothing
         text = (self.out / every.EVERY).read_text()
         self.out = self.folder / "alone"
         self.comes_to(1, "--explore", "100000", "--workers", "1")
@@ -103,9 +103,9 @@ class Every(InFolder):
             every.SweepExploreJob, "play", side_effect=AssertionError
         ):
             self.comes_to(1, "--explore", "100000")
-        # the command without it says what was found, too
+        # a run without --explore still reports the findings
         self.assertIn("every schedule of 10 matches", self.swept()[1])
-        self.assertEqual(self.found(), FOUND)
+        self.assertEqual(self.summaries(), FOUND)
         self.assertIn(
             "24 of 24 rows were played again: 0 differ", self.swept("--verify")[1]
         )
@@ -116,21 +116,23 @@ class Every(InFolder):
 
     def test_a_match_of_too_many_states_is_tried_again_with_more(self) -> None:
         self.comes_to(0, "--explore", "60")
-        limited = [
+        limited_value = [
             number for number, row in enumerate(self.rows()) if row[9] == every.LIMIT
         ]
-        self.assertTrue(limited and len(limited) < 10)
+        self.assertTrue(limited_value and len(limited_value) < 10)
         self.assertEqual(
             {row[10] for row in self.rows() if row[9] == every.LIMIT}, {"60"}
         )
-        self.assertEqual(self.found()["ring:4", "right"], ["too many states", "", ""])
+        self.assertEqual(
+            self.summaries()["ring:4", "right"], ["too many states", "", ""]
+        )
         with mock.patch.object(
             parallel, "over_processes", side_effect=parallel.over_processes
         ) as over:
             self.comes_to(1, "--explore", "100000")
-        tried = [match.number for match in over.call_args.args[1]]
-        self.assertEqual(tried, limited)
-        self.assertEqual(self.found(), FOUND)
+        trial = [match.number for match in over.call_args.args[1]]
+        self.assertEqual(trial, limited_value)
+        self.assertEqual(self.summaries(), FOUND)
 
     def test_it_goes_on_behind_the_last_row(self) -> None:
         self.swept("--explore", "100000")
@@ -138,14 +140,14 @@ class Every(InFolder):
         text = path.read_text()
         path.write_text("".join(text.splitlines(keepends=True)[:5]))
         self.comes_to(0)
-        self.assertEqual(self.found()["ring:4", "right"], ["not tried", "", ""])
+        self.assertEqual(self.summaries()["ring:4", "right"], ["not tried", "", ""])
         self.comes_to(1, "--explore", "100000")
         self.assertEqual(path.read_text(), text)
         path.write_text(text.replace("solves", "limit", 1))
         self.assertIn("line 2 is not as it was written", self.swept()[1])
         path.write_text(text)
         rows = self.rows()
-        rows[1] = tables.checked([*rows[1][:5], "1", *rows[1][6:-1]], every.COLUMNS)
+        rows[1] = tables.with_check([*rows[1][:5], "1", *rows[1][6:-1]], every.COLUMNS)
         path.write_text("".join(map(tables.line_of, [every.COLUMNS, *rows])))
         self.assertIn(
             "line 3 is of another match than the sweep has there", self.swept()[1]
@@ -157,7 +159,7 @@ class Every(InFolder):
             text + TEXT[TEXT.index("[[team]]") :].replace('"right"', '"odd"')
         )
         with mock.patch.object(
-            every.driver, "here", side_effect=NoFunction("it is none")
+            every.driver, "here", side_effect=NoFunctionError("it is none")
         ), mock.patch.object(
             parallel,
             "over_processes",
@@ -165,11 +167,11 @@ class Every(InFolder):
                 parallel.result_of(work, match) for match in matches
             ),
         ):
-            status, said = self.swept("--explore", "100")
-        self.assertEqual(status, 2, said)
+            status, output = self.swept("--explore", "100")
+        self.assertEqual(status, 2, output)
         self.assertIn(
             "odd on ring:3 with black hole 1: it is none; the report is written without --explore",
-            said,
+            output,
         )
 
     def test_words_that_do_not_belong_together(self) -> None:
@@ -177,9 +179,9 @@ class Every(InFolder):
             (["--engine", "model"], "leave --engine model out"),
             (["--verify"], "leave --explore out"),
         ):
-            status, said = self.swept("--explore", "100", *words)
-            self.assertEqual(status, 2, said)
-            self.assertIn(why, said)
+            status, output = self.swept("--explore", "100", *words)
+            self.assertEqual(status, 2, output)
+            self.assertIn(why, output)
 
     def test_a_run_that_does_what_no_schedule_does_is_told(self) -> None:
         run = {
@@ -204,39 +206,39 @@ class Every(InFolder):
         every.check_runs(
             [{**row, "found": every.LIMIT, "moves": ""}], [{**run, "moves": "9"}]
         )
-        for more in (
+        for extra in (
             {"moves": "5"},
             {"lost": "2"},
             {"outcome": "silent"},
             {"fault": "agent 0: raises"},
         ):
-            with self.subTest(more), self.assertRaisesRegex(
-                Differs, "^run 7: .* at most 4 and 1: "
+            with self.subTest(extra), self.assertRaisesRegex(
+                EnginesDifferError, "^run 7: .* at most 4 and 1: "
             ):
-                every.check_runs([row], [{**run, **more}])
+                every.check_runs([row], [{**run, **extra}])
 
     def test_matches_of_one_team_on_one_network_stand_behind_each_other(self) -> None:
-        found = [
+        results = [
             (
                 match.number,
                 match.case.network,
                 match.case.team.name,
                 match.case.hole,
-                match.place,
+                match.position,
             )
             for match in every.matches_of(grid_of(TEXT))
         ]
         teams = [
             (network, team, hole, hole - 1)
-            for network, most in (("ring:3", 2), ("ring:4", 3))
+            for network, limit in (("ring:3", 2), ("ring:4", 3))
             for team in ("right", "wrong")
-            for hole in range(1, most + 1)
+            for hole in range(1, limit + 1)
         ]
         self.assertEqual(
-            found,
+            results,
             [
-                (number, network, team, str(hole), place)
-                for number, (network, team, hole, place) in enumerate(teams)
+                (number, network, team, str(hole), index)
+                for number, (network, team, hole, index) in enumerate(teams)
             ],
         )
 
@@ -247,10 +249,10 @@ class Clusters(OnCluster):
             TEXT.partition('[[team]]\nname = "wrong"')[0].replace(', "ring:4"', "")
         )
         address = self.scheduler()
-        found = []
+        results = []
         self.worker(address)
-        for out, more in (("here", []), ("there", ["--cluster", address])):
-            self.swept(out, "--program", program(), "--explore", "1000", *more)
-            found.append((self.folder / out / every.EVERY).read_bytes())
-        self.assertEqual(found[0], found[1])
-        self.assertEqual(found[0].count(b"solves"), 2)
+        for out, extra in (("here", []), ("there", ["--cluster", address])):
+            self.swept(out, "--program", program(), "--explore", "1000", *extra)
+            results.append((self.folder / out / every.EVERY).read_bytes())
+        self.assertEqual(results[0], results[1])
+        self.assertEqual(results[0].count(b"solves"), 2)

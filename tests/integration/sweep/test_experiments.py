@@ -60,11 +60,11 @@ def rows_by_network(name: str) -> Dict[str, List[str]]:
 class Experiments(InFolder):
     def setUp(self) -> None:
         super().setUp()
-        self.asked = table_rows.Asked(self.folder, ["--engine", "model"])
+        self.asked = table_rows.TableRequest(self.folder, ["--engine", "model"])
 
     def test_small_parts_of_the_sweeps(self) -> None:
         for name, (file, names) in SMALL.items():
-            spec = grid.read(table_rows.EXPERIMENTS / f"{file}.toml")._replace(
+            spec = grid.read_grid(table_rows.EXPERIMENTS / f"{file}.toml")._replace(
                 names=names
             )
             work = SweepJob("", None)
@@ -75,24 +75,26 @@ class Experiments(InFolder):
             groups = report.groups_of(
                 [dict(zip(tables.COLUMNS, row)) for row in rows], spec
             )
-            given = rows_by_network(name)
-            hunted = hunted_in(given) if name == "rings" else {}
+            conditions = rows_by_network(name)
+            hunt_result = hunted_in(conditions) if name == "rings" else {}
             made = (
                 table_rows.charts_rows(groups)
                 if name == "charts"
-                else table_rows.rows_of(groups, hunted)
+                else table_rows.rows_of(groups, hunt_result)
             )
             for row in made[1:]:
                 with self.subTest(name, network=row[0]):
-                    self.assertEqual(given[row[0]], list(row))
+                    self.assertEqual(conditions[row[0]], list(row))
 
     def test_each_mean_is_of_all_black_holes(self) -> None:
         """Otherwise its interval says nothing of them."""
         for name in SWEEPS:
-            spec = grid.read(table_rows.EXPERIMENTS / f"{name.replace('-', '_')}.toml")
-            most = max(network.nodes for network in spec.networks.values()) - 1
+            spec = grid.read_grid(
+                table_rows.EXPERIMENTS / f"{name.replace('-', '_')}.toml"
+            )
+            maximum = max(network.nodes for network in spec.networks.values()) - 1
             self.assertTrue(
-                spec.holes == grid.DRAWN or spec.seeds >= most,
+                spec.holes == grid.DRAWN or spec.seeds >= maximum,
                 f"{name}: draw its black holes",
             )
             with self.subTest(name):
@@ -111,14 +113,14 @@ class Experiments(InFolder):
                     )
 
     def test_small_networks_that_were_explored(self) -> None:
-        found = {tuple(row[:2]): row for row in table("explored")}
-        self.assertEqual(len(found), len(table_rows.EXPLORED))
+        results = {tuple(row[:2]): row for row in table("explored")}
+        self.assertEqual(len(results), len(table_rows.EXPLORED))
         for exploration in table_rows.EXPLORED:
             if exploration.network in SMALL_EXPLORED:
-                asked = self.asked._replace(engine=["--program", program()])
-                row = list(table_rows.explored_row(exploration, asked))
+                request = self.asked._replace(engine=["--program", program()])
+                row = list(table_rows.explored_row(exploration, request))
                 with self.subTest(row[0], agents=row[1]):
-                    self.assertEqual(found[tuple(row[:2])][2:-1], row[2:-1])
+                    self.assertEqual(results[tuple(row[:2])][2:-1], row[2:-1])
 
     def test_a_small_ring_that_was_explored_by_a_module(self) -> None:
         rows = table("modules")
@@ -141,21 +143,23 @@ class Experiments(InFolder):
             )
 
     def test_the_count_agrees_with_what_was_explored_hunted_and_drawn(self) -> None:
-        explored = {
+        exploration = {
             int(row[0].partition(":")[2]): int(row[3])
             for row in table("explored")
             if "`ring_step.py`" in row[1]
         }
         self.assertEqual(
-            explored, {nodes: most_moves(nodes) for nodes in table_rows.RINGS_EXPLORED}
+            exploration,
+            {nodes: most_moves(nodes) for nodes in table_rows.RINGS_EXPLORED},
         )
         for row in table("rings"):
             nodes = int(row[0].partition(":")[2])
             with self.subTest(nodes=nodes):
                 self.assertEqual([int(row[5]), int(row[7])], [most_moves(nodes)] * 2)
-        hunted = hunted_in(rows_by_network("rings"))
+        hunt_result = hunted_in(rows_by_network("rings"))
         self.assertEqual(
-            hunted, {f"ring:{nodes}": most_moves(nodes) for nodes in (4, 8, 16, 32, 64)}
+            hunt_result,
+            {f"ring:{nodes}": most_moves(nodes) for nodes in (4, 8, 16, 32, 64)},
         )
 
     def test_the_search_by_thirds_stays_within_its_count(self) -> None:
@@ -171,8 +175,8 @@ class Experiments(InFolder):
                 self.assertEqual((row[3], row[6]), (str(halves), str(thirds)))
                 shares = [f"{thirds / bound(nodes):.2f}", f"{thirds / halves:.2f}"]
                 self.assertEqual(row[8:], [f"{bound(nodes):.0f}", *shares])
-                played = [int(cell) for cell in (row[4], row[5]) if cell != "–"]
-                self.assertTrue(all(moves <= thirds for moves in played))
+                match = [int(cell) for cell in (row[4], row[5]) if cell != "–"]
+                self.assertTrue(all(moves <= thirds for moves in match))
                 self.assertTrue(
                     all(int(cell) <= halves for cell in (row[1], row[2]) if cell != "–")
                 )
@@ -193,14 +197,14 @@ class Experiments(InFolder):
     def test_the_picture_has_each_network_of_its_tables(self) -> None:
         document = DOCUMENT.read_text(encoding="utf-8")
         for series in growth.ALL_SERIES:
-            found = growth.points(document, series)
+            result = growth.points(document, series)
             self.assertEqual(
-                len(found), sum(len(table(name)) for name in series.tables)
+                len(result), sum(len(table(name)) for name in series.tables)
             )
             for row in (
                 row for name in series.tables for row in growth.rows_in(document, name)
             ):
-                nodes = networks.named(row["network"]).nodes
+                nodes = networks.network_named(row["network"]).nodes
                 with self.subTest(series.name, network=row["network"]):
                     self.assertEqual(
                         f"{grid.BOUNDS[series.bound](nodes):.0f}", row[series.bound]
@@ -213,30 +217,30 @@ class Experiments(InFolder):
                                 for it in ("fair", "slow-agents")
                             ),
                         ),
-                        found,
+                        result,
                     )
-        self.assertTrue(growth.svg_of(growth.drawn(document)).startswith("<svg"))
+        self.assertTrue(growth.svg_of(growth.draw_figure(document)).startswith("<svg"))
 
     def test_a_table_says_which_program_played(self) -> None:
-        said = io.StringIO()
+        stream = io.StringIO()
         with mock.patch.dict(
             table_rows.TABLES,
-            one=lambda asked: table_rows.Made(
+            one=lambda request: table_rows.MadeTable(
                 [("network",), ("ring:3",)], ["a command"]
             ),
         ), mock.patch(
             "sys.argv", ["make", "one", "--program", program()]
         ), contextlib.redirect_stdout(
-            said
+            stream
         ):
             self.assertEqual(make.main(), 0)
-        self.assertRegex(said.getvalue(), r"\| ring:3 \|\n\nEngine: .*\. \d+ s on ")
+        self.assertRegex(stream.getvalue(), r"\| ring:3 \|\n\nEngine: .*\. \d+ s on ")
 
     def test_a_table_is_put_into_the_document(self) -> None:
         text = "a\n<!-- table one -->\nold\n<!-- end of one -->\nb\n"
         self.assertEqual(
-            make.written(text, "one", "new\n"),
+            make.insert_table(text, "one", "new\n"),
             "a\n<!-- table one -->\nnew\n<!-- end of one -->\nb\n",
         )
         with self.assertRaises(SystemExit):
-            make.written(text, "two", "new\n")
+            make.insert_table(text, "two", "new\n")

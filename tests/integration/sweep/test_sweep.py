@@ -15,7 +15,7 @@ from arena_lab.play import kept_matches
 from arena_lab.rules.engines import BY_MODEL, TOP, name_of
 from arena_lab.sweep import sweeping, tables
 from tests.support.matches import InFolder, program
-from tests.support.output import ran
+from tests.support.output import run_call
 
 TEXT = """title = "A <small> trial"
 networks = ["ring:5", "ring:8"]
@@ -38,14 +38,14 @@ class Sweeps(InFolder):
         self.file = self.folder / "sweep.toml"
         self.file.write_text(TEXT)
 
-    def words(self, out: str, *more: str) -> List[str]:
-        return ["sweep", str(self.file), "--out", str(self.folder / out), *more]
+    def words(self, out: str, *extra: str) -> List[str]:
+        return ["sweep", str(self.file), "--out", str(self.folder / out), *extra]
 
-    def swept(self, out: str, *more: str) -> bytes:
+    def swept(self, out: str, *extra: str) -> bytes:
         """The rows of a sweep in which a team is wrong."""
-        status, said, _ = ran(main, self.words(out, *more))
+        status, output, _ = run_call(main, self.words(out, *extra))
         self.assertEqual(status, 1)
-        self.assertRegex(said, r"48 runs on .*: solved \d+; failed [1-9]")
+        self.assertRegex(output, r"48 runs on .*: solved \d+; failed [1-9]")
         return (self.folder / out / tables.RUNS).read_bytes()
 
     def test_the_rows_are_the_same_by_either_engine_and_by_more_workers(self) -> None:
@@ -68,9 +68,9 @@ class Sweeps(InFolder):
         }
         for link in links:
             self.assertTrue(link.endswith(".html") and (folder / link).is_file(), link)
-            place = folder / pathlib.Path(link).parent
-            replay = (place / kept_matches.REPLAY).read_bytes()
-            self.assertEqual(hashlib.sha256(replay).hexdigest(), digests[place.name])
+            path = folder / pathlib.Path(link).parent
+            replay = (path / kept_matches.REPLAY).read_bytes()
+            self.assertEqual(hashlib.sha256(replay).hexdigest(), digests[path.name])
         self.assertFalse(re.findall('(?:src|href)="(?:https?:)?//', page))
 
     def test_it_goes_on_behind_the_last_whole_row(self) -> None:
@@ -99,18 +99,18 @@ class Sweeps(InFolder):
             text=True,
             start_new_session=True,
             preexec_fn=heeds,
-        ) as ran:
+        ) as process:
             path = self.folder / "stopped" / tables.RUNS
             until = time.monotonic() + 120
             while time.monotonic() < until and not (
                 path.exists() and path.read_bytes().count(b"\n") > 5
             ):
                 time.sleep(0.02)
-            ran.send_signal(signal.SIGINT)
-            said, _ = ran.communicate(timeout=120)
-        self.assertEqual(ran.returncode, 130)
+            process.send_signal(signal.SIGINT)
+            output, _ = process.communicate(timeout=120)
+        self.assertEqual(process.returncode, 130)
         self.assertRegex(
-            said,
+            output,
             r"interrupted; \d+ of 4000 runs are done: the same command goes on there",
         )
 
@@ -119,12 +119,12 @@ class Sweeps(InFolder):
         self.file.write_text(TEXT.replace("seeds = 6", "seeds = 7"))
         self.assertIn(
             "has rows that were made otherwise: sweep differ;",
-            self.refused("out", *MODEL),
+            self.refusal("out", *MODEL),
         )
 
-    def refused(self, out: str, *more: str) -> str:
-        """What is said of a sweep that is refused."""
-        status, _, errors = ran(main, self.words(out, *more))
+    def refusal(self, out: str, *extra: str) -> str:
+        """Returns the message of a rejected sweep."""
+        status, _, errors = run_call(main, self.words(out, *extra))
         self.assertEqual(status, 2)
         return errors
 
@@ -145,9 +145,9 @@ class Sweeps(InFolder):
         )
         helper.write_text((agents / "ring.py").read_text())
         self.small(self.folder / "own.py")
-        self.assertEqual(ran(main, self.words("out", *MODEL)).status, 0)
+        self.assertEqual(run_call(main, self.words("out", *MODEL)).status, 0)
         self.assertEqual(
-            ran(
+            run_call(
                 main,
                 [
                     "run",
@@ -161,8 +161,8 @@ class Sweeps(InFolder):
             0,
         )
         helper.write_text((TOP / "arena_lab" / "mutants" / "reads_once.py").read_text())
-        self.assertIn(f"made otherwise: {helper}", self.refused("out", *MODEL))
-        errors = ran(main, ["replay", str(self.folder / "find"), *MODEL]).errors
+        self.assertIn(f"made otherwise: {helper}", self.refusal("out", *MODEL))
+        errors = run_call(main, ["replay", str(self.folder / "find"), *MODEL]).errors
         self.assertIn(
             f"arena-lab: {helper} is another file than when the schedule was made",
             errors,
@@ -170,21 +170,21 @@ class Sweeps(InFolder):
 
     def test_another_program_does_not_go_on(self) -> None:
         self.small(TOP / "examples" / "agents" / "ring.py")
-        self.assertEqual(ran(main, self.words("out", *MODEL)).status, 0)
+        self.assertEqual(run_call(main, self.words("out", *MODEL)).status, 0)
         self.assertIn(
             "made otherwise: program differ;",
-            self.refused("out", "--program", program()),
+            self.refusal("out", "--program", program()),
         )
 
     def test_rows_are_verified_by_either_engine(self) -> None:
         self.small(TOP / "examples" / "agents" / "ring.py")
-        self.assertEqual(ran(main, self.words("out", *MODEL)).status, 0)
+        self.assertEqual(run_call(main, self.words("out", *MODEL)).status, 0)
         self.assertEqual(
-            self.verified(*MODEL), (0, "24 of 24 rows were played again: 0 differ", "")
+            self.verify(*MODEL), (0, "24 of 24 rows were played again: 0 differ", "")
         )
-        status, said, errors = self.verified("3", "--program", program())
+        status, output, errors = self.verify("3", "--program", program())
         self.assertEqual(
-            (status, said), (0, "3 of 24 rows were played again: 0 differ")
+            (status, output), (0, "3 of 24 rows were played again: 0 differ")
         )
         self.assertIn(
             "arena-lab: program is other than when the rows were made", errors
@@ -195,9 +195,9 @@ class Sweeps(InFolder):
         rows[5][tables.COLUMNS.index("moves")] = "1"
         rows[5][tables.CHECK] = tables.check_of(rows[5])
         path.write_text("".join(map(tables.line_of, [tables.COLUMNS, *rows])))
-        status, said, errors = self.verified(*MODEL)
+        status, output, errors = self.verify(*MODEL)
         self.assertEqual(
-            (status, said), (1, "24 of 24 rows were played again: 1 differ")
+            (status, output), (1, "24 of 24 rows were played again: 1 differ")
         )
         self.assertIn("run 5 comes out otherwise: moves\n", errors)
         self.assertIn("summary.csv is not what is made of the rows", errors)
@@ -205,44 +205,44 @@ class Sweeps(InFolder):
     def test_what_is_made_of_the_rows_is_verified(self) -> None:
         self.small(TOP / "examples" / "agents" / "ring.py")
         self.file.write_text(self.file.read_text().replace("seeds = 6", "seeds = 2"))
-        self.assertEqual(ran(main, self.words("out", *MODEL)).status, 0)
+        self.assertEqual(run_call(main, self.words("out", *MODEL)).status, 0)
         for name, text in ((sweeping.SUMMARY, ",2,2,"), (sweeping.REPORT, "solved")):
             with self.subTest(name):
                 path = self.folder / "out" / name
                 before = path.read_text()
                 self.assertIn(text, before)
                 path.write_text(before.replace(text, text[::-1] + "1", 1))
-                status, said, errors = self.verified(*MODEL)
+                status, output, errors = self.verify(*MODEL)
                 self.assertEqual(
-                    (status, said), (1, "8 of 8 rows were played again: 0 differ")
+                    (status, output), (1, "8 of 8 rows were played again: 0 differ")
                 )
                 self.assertEqual(errors, f"{name} is not what is made of the rows\n")
                 path.write_text(before)
-        self.assertEqual(self.verified(*MODEL)[0], 0)
+        self.assertEqual(self.verify(*MODEL)[0], 0)
 
     def test_rows_of_another_grid_are_refused(self) -> None:
-        """Rows that were written as they are, but are not those of the sweep: swapped,
-        or one too many."""
+        """Valid rows that do not belong to the sweep (swapped or extra) are
+        rejected."""
         self.small(TOP / "examples" / "agents" / "ring.py")
-        self.assertEqual(ran(main, self.words("out", *MODEL)).status, 0)
+        self.assertEqual(run_call(main, self.words("out", *MODEL)).status, 0)
         path = self.folder / "out" / tables.RUNS
         rows = tables.cells_in(path)
 
-        def written(changed: List[List[str]]) -> str:
-            for number, row in enumerate(changed):
+        def write_grid(changes: List[List[str]]) -> str:
+            for number, row in enumerate(changes):
                 row[0] = str(number)
                 row[tables.CHECK] = tables.check_of(row)
-            path.write_text("".join(map(tables.line_of, [tables.COLUMNS, *changed])))
-            return self.refused("out", *MODEL)
+            path.write_text("".join(map(tables.line_of, [tables.COLUMNS, *changes])))
+            return self.refusal("out", *MODEL)
 
         copies = [list(row) for row in rows]
         self.assertIn(
             "line 7 is of another run than the sweep has there",
-            written([*copies[:5], copies[6], copies[5], *copies[7:]]),
+            write_grid([*copies[:5], copies[6], copies[5], *copies[7:]]),
         )
         self.assertIn(
             "it has 25 rows, and the sweep has 24 runs",
-            written([list(row) for row in [*rows, rows[-1]]]),
+            write_grid([list(row) for row in [*rows, rows[-1]]]),
         )
 
     def test_what_an_agent_reads_without_importing_it_by_its_name_is_noted(
@@ -260,7 +260,7 @@ class Sweeps(InFolder):
         self.small(self.folder / "own.py")
         for workers in ("1", "2"):
             self.assertEqual(
-                ran(
+                run_call(
                     main, self.words(f"out{workers}", "--workers", workers, *MODEL)
                 ).status,
                 0,
@@ -273,18 +273,20 @@ class Sweeps(InFolder):
                     before = file.read_text()
                     file.write_text(text)
                     self.assertIn(
-                        f"made otherwise: {file}", self.refused(f"out{workers}", *MODEL)
+                        f"made otherwise: {file}", self.refusal(f"out{workers}", *MODEL)
                     )
                     file.write_text(before)
-            self.assertEqual(ran(main, self.words(f"out{workers}", *MODEL)).status, 0)
+            self.assertEqual(
+                run_call(main, self.words(f"out{workers}", *MODEL)).status, 0
+            )
 
-    def verified(self, *more: str) -> Tuple[int, str, str]:
+    def verify(self, *extra: str) -> Tuple[int, str, str]:
         """The exit status of --verify, the end of its line, and what it says on
         standard error."""
-        status, said, errors = ran(main, self.words("out", "--verify", *more))
+        status, output, errors = run_call(main, self.words("out", "--verify", *extra))
         return (
             status,
-            said.strip()
+            output.strip()
             .rpartition("proved: ")[2]
             .rpartition("proof: ")[2]
             .rpartition("program: ")[2],
@@ -297,9 +299,9 @@ class Sweeps(InFolder):
         script.chmod(0o755)
         self.small(TOP / "examples" / "agents" / "ring.py")
         self.file.write_text(self.file.read_text().replace("seeds = 6", "seeds = 1"))
-        status, said, _ = ran(main, self.words("out", "--program", str(script)))
+        status, output, _ = run_call(main, self.words("out", "--program", str(script)))
         self.assertEqual(status, 0)
         self.assertIn(
             "4 runs on a program of which no record says that it is proved: solved 4",
-            said,
+            output,
         )

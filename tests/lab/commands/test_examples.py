@@ -7,7 +7,7 @@ import sys
 from arena_lab.__main__ import main
 from arena_lab.rules.engines import TOP
 from tests.support.needing import needs
-from tests.support.output import InTemporary, ran
+from tests.support.output import InTemporary, run_call
 
 
 @needs("greenlet", "jinja2", "networkx", "numpy", "scipy", "tqdm")
@@ -15,14 +15,14 @@ class Copies(InTemporary):
     def setUp(self) -> None:
         super().setUp()
         self.folder /= "mine"
-        self.assertEqual(ran(main, ["examples", str(self.folder)]).status, 0)
+        self.assertEqual(run_call(main, ["examples", str(self.folder)]).status, 0)
 
-    def said(self, *words: str) -> str:
+    def output(self, *words: str) -> str:
         """What a Python prints that knows no lab but the one of the copies."""
         variables = {
             name: value for name, value in os.environ.items() if name != "PYTHONPATH"
         }
-        ran = subprocess.run(
+        result = subprocess.run(
             [sys.executable, *words],
             cwd=self.folder / "examples",
             env=variables,
@@ -31,22 +31,22 @@ class Copies(InTemporary):
             stderr=subprocess.STDOUT,
             timeout=120,
         )
-        self.assertEqual(ran.returncode, 0, ran.stdout)
-        return ran.stdout
+        self.assertEqual(result.returncode, 0, result.stdout)
+        return result.stdout
 
     def test_the_first_command_and_the_first_cell_of_the_notebook(self) -> None:
-        self.assertIn("--watch", self.said("contest.py", "--help"))
+        self.assertIn("--watch", self.output("contest.py", "--help"))
         cells = json.loads(
             (TOP / "examples" / "notebook.ipynb").read_text(encoding="utf-8")
         )["cells"]
         code = next(
             "".join(cell["source"]) for cell in cells if cell["cell_type"] == "code"
         )
-        self.assertIn(" solved ", self.said("-c", code))
+        self.assertIn(" solved ", self.output("-c", code))
 
     def test_the_search_of_the_kit_is_what_the_lab_calls(self) -> None:
         agent = str(self.folder / "examples" / "agents" / "python" / "careful.py")
-        said = ran(
+        output = run_call(
             main,
             [
                 "run",
@@ -59,5 +59,5 @@ class Copies(InTemporary):
                 "--runs",
                 "5",
             ],
-        ).said
-        self.assertIn("5 schedules: solved 5; failed 0", said)
+        ).output
+        self.assertIn("5 schedules: solved 5; failed 0", output)

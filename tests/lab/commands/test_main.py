@@ -4,20 +4,20 @@ from unittest import mock
 
 from arena_lab.__main__ import COMMANDS, main
 from arena_lab.rules.engines import TOP
-from tests.support.output import InTemporary, ran
+from tests.support.output import InTemporary, run_call
 
 
 class CommandLine(InTemporary):
-    def told(self, *words: str) -> str:
+    def refusal(self, *words: str) -> str:
         """What a command line that is refused says."""
-        status, _, errors = ran(main, list(words))
+        status, _, errors = run_call(main, list(words))
         self.assertEqual(status, 2)
         return str(errors)
 
     def test_a_program_that_is_missing_is_told_with_what_to_do(self) -> None:
-        said = self.told("page", "match0.jsonl", "--program", "/nowhere")
+        output = self.refusal("page", "match0.jsonl", "--program", "/nowhere")
         self.assertEqual(
-            said,
+            output,
             "arena-lab: /nowhere: there is no such program: name another by --program; by default the "
             "lab takes the one that `./arena` runs; or add `--engine model`: the Python model needs none, "
             "and nothing of it is proved\n",
@@ -25,7 +25,7 @@ class CommandLine(InTemporary):
 
     def test_words_that_name_nothing(self) -> None:
         agent = ["--engine", "model", "--agent", "examples/agents/ring.py {nodes}"]
-        for words, said in (
+        for words, message in (
             (["run", "--engine", "model"], "name a team"),
             (["run", *agent, "--network", "star:3"], "a network is ring:N"),
             (
@@ -55,9 +55,9 @@ class CommandLine(InTemporary):
         ):
             with self.subTest(words), contextlib.chdir(TOP):
                 with mock.patch("arena_lab.support.progress.bar", mock.MagicMock()):
-                    self.assertIn(said, self.told(*words))
+                    self.assertIn(message, self.refusal(*words))
 
     def test_each_command_has_a_help(self) -> None:
         for name in COMMANDS:
-            status, said, _ = ran(main, [name, "--help"])
-            self.assertEqual((status, "exit status" in said), (0, True), name)
+            status, output, _ = run_call(main, [name, "--help"])
+            self.assertEqual((status, "exit status" in output), (0, True), name)

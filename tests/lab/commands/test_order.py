@@ -16,7 +16,7 @@ ORDER = (
 
 class Order(unittest.TestCase):
     def test_texts_have_one_order(self) -> None:
-        said = {
+        output = {
             subprocess.run(
                 [sys.executable, "-c", ORDER],
                 cwd=TOP,
@@ -27,8 +27,8 @@ class Order(unittest.TestCase):
             ).stdout
             for seed in ("1", "2", "random", "0")
         }
-        self.assertEqual(len(said), 1, said)
-        self.assertTrue(said.pop().startswith("0 ["))
+        self.assertEqual(len(output), 1, output)
+        self.assertTrue(output.pop().startswith("0 ["))
 
     def test_workers_of_a_cluster_have_it_too(self) -> None:
         self.assertIn(

@@ -7,25 +7,25 @@ import unittest
 from typing import Optional, Tuple
 from unittest import mock
 
-from arena_lab import called
+from arena_lab import command_name
 from arena_lab.__main__ import COMMANDS, main, parser
 from arena_lab.commands.spellings import MODULES, SPELLINGS
-from tests.support.output import ran
+from tests.support.output import run_call
 
 
 PARSER = parser()
 
 
-def read(*words: str) -> Tuple[argparse.Namespace, str]:
+def read_words(*words: str) -> Tuple[argparse.Namespace, str]:
     """The words as they are read, and what is said on standard error."""
-    found, _, said = ran(PARSER.parse_args, words)
-    return found, said
+    result, _, output = run_call(PARSER.parse_args, words)
+    return result, output
 
 
 class Commands(unittest.TestCase):
-    def refused(self, *words: str) -> str:
+    def refusal(self, *words: str) -> str:
         """What a command line that ends here says."""
-        status, _, errors = ran(main, list(words))
+        status, _, errors = run_call(main, list(words))
         self.assertEqual(status, 2)
         return str(errors)
 
@@ -39,25 +39,25 @@ class Commands(unittest.TestCase):
                 "--workers: 0 is not a whole",
             ),
         ):
-            first, *others = self.refused(*old.split()).splitlines()
+            first, *rest = self.refusal(*old.split()).splitlines()
             self.assertEqual(
                 first, f"./arena-lab: {old.split()[0]} is called {new} now"
             )
-            self.assertIn(f"arena-lab {new.split()[0]}: error: ", others[-1])
-            self.assertIn(needs, others[-1])
+            self.assertIn(f"arena-lab {new.split()[0]}: error: ", rest[-1])
+            self.assertIn(needs, rest[-1])
 
     def test_what_tests_and_measures_the_lab_is_a_module(self) -> None:
         for old, module in MODULES.items():
             self.assertNotIn(old, COMMANDS)
             self.assertIsNotNone(importlib.util.find_spec(module))
             self.assertEqual(
-                self.refused(old),
+                self.refusal(old),
                 f"./arena-lab: in a clone, {old} is called /usr/bin/python3 -m "
                 f"{module} now\n",
             )
 
     def test_what_does_not_belong_together_is_refused(self) -> None:
-        for words, said in (
+        for words, message in (
             ("page m0.jsonl --again again3", "name its TOURNAMENT"),
             ("page t.toml cup --out pages --twin 3", "have no --twin"),
             ("tournament --out cup", "or a match by --again"),
@@ -67,11 +67,11 @@ class Commands(unittest.TestCase):
             ),
             ("grade course.toml", "by --out FOLDER"),
         ):
-            self.assertIn(said, self.refused(*words.split()))
+            self.assertIn(message, self.refusal(*words.split()))
 
 
 def is_told(action: Optional[argparse.Action]) -> bool:
-    """Whether the help tells of an option."""
+    """Returns whether the help tells of an option."""
     return action is not None and action.help != argparse.SUPPRESS
 
 
@@ -82,7 +82,7 @@ class Spellings(unittest.TestCase):
             ("/clone/arena_lab/__main__.py", "./arena-lab"),
         ):
             with mock.patch.object(sys, "argv", [word]):
-                self.assertEqual(called(), name)
+                self.assertEqual(command_name(), name)
 
     def test_an_old_spelling_does_what_the_new_one_does(self) -> None:
         for command, old, value in (
@@ -95,21 +95,27 @@ class Spellings(unittest.TestCase):
             ("invariant", "--states", "5"),
         ):
             words = [command] if command != "invariant" else [command, "candidate.py"]
-            new, silent = read(*words, SPELLINGS[old], value)
-            found, said = read(*words, old, value)
-            self.assertEqual((found, silent), (new, ""))
+            new, silent = read_words(*words, SPELLINGS[old], value)
+            result, output = read_words(*words, old, value)
+            self.assertEqual((result, silent), (new, ""))
             self.assertEqual(
-                said, f"./arena-lab {command}: {old} is called {SPELLINGS[old]} now\n"
+                output, f"./arena-lab {command}: {old} is called {SPELLINGS[old]} now\n"
             )
 
     def test_a_value_is_refused_as_by_the_new_one(self) -> None:
-        self.assertIn("invalid choice: 'nobody'", read("explore", "--by", "nobody")[1])
+        self.assertIn(
+            "invalid choice: 'nobody'", read_words("explore", "--by", "nobody")[1]
+        )
 
     def test_the_help_has_the_new_ones_alone(self) -> None:
-        commands = next(it for it in PARSER._actions if it.dest == "command").choices
+        commands = next(
+            action for action in PARSER._actions if action.dest == "command"
+        ).choices
         assert isinstance(commands, dict)
         for name, command in commands.items():
-            # a command may have an option of its own that is spelled so
+            # a command's own option may equal an old spelling
             own = command._option_string_actions
-            for old in (it for it in SPELLINGS if not is_told(own.get(it))):
+            for old in (
+                spelling for spelling in SPELLINGS if not is_told(own.get(spelling))
+            ):
                 self.assertNotRegex(command.format_help(), rf"{old}(?![\w-])", name)

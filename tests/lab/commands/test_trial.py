@@ -13,33 +13,34 @@ class Worker:
     """A worker that asks for two trials and ends."""
 
     def __init__(self) -> None:
-        given = json.dumps({"folder": "/nowhere", "temporary": "/nowhere"})
-        self.messages: List[bytes] = [given.encode(), given.encode(), b""]
+        conditions = json.dumps({"folder": "/nowhere", "temporary": "/nowhere"})
+        self.messages: List[bytes] = [conditions.encode(), conditions.encode(), b""]
 
     def recv(self, _: int) -> bytes:
         return self.messages.pop(0)
 
 
 class Trials(unittest.TestCase):
-    def forgot(self, known: float) -> int:
-        """How often it forgets where the system has pipes, if that is known so long."""
+    def forgot(self, facts: float) -> int:
+        """Returns how often it forgets where the system has pipes, if that is known so
+        long."""
         self.addCleanup(signal.signal, signal.SIGCHLD, signal.SIG_DFL)
         worker: Any = Worker()
         with mock.patch.multiple(
             trial,
-            KNOWN=known,
+            SURVEY_SECONDS=facts,
             share=mock.DEFAULT,
-            asked_in=mock.DEFAULT,
+            read_request=mock.DEFAULT,
             gc=mock.DEFAULT,
         ), mock.patch.object(
             trial.os, "fork", return_value=os.getpid()
         ), mock.patch.object(
             trial.socket, "send_fds"
-        ) as sent, mock.patch.object(
+        ) as payload, mock.patch.object(
             trial.isolation, "meeting_places"
         ) as places:
             trial.TrialServer(worker).serve()
-        self.assertEqual(sent.call_count, 2)
+        self.assertEqual(payload.call_count, 2)
         self.assertEqual(worker.messages, [])
         return int(places.cache_clear.call_count)
 
@@ -48,9 +49,9 @@ class Trials(unittest.TestCase):
         self.assertEqual(self.forgot(-1), 2)
 
     def test_what_cannot_be_shared_is_left_to_the_trial(self) -> None:
-        fault = trial.isolation.NoCell("no filter")
+        fault = trial.isolation.CellError("no filter")
         with mock.patch.object(trial.isolation, "system_filter", side_effect=fault):
-            trial.share(trial.USUAL)
+            trial.share(trial.DEFAULT_COMMAND)
 
 
 if __name__ == "__main__":

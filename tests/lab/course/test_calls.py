@@ -13,9 +13,9 @@ from typing import Any, Dict, List
 from arena_lab.course.course import calls_of
 from arena_lab.course.hand_in import HandInEntry, HandIn
 from arena_lab.sandbox import calls, isolation
-from arena_lab.support.fields import WrongFile
+from arena_lab.support.fields import FileFormatError
 from arena_lab.support.missing import DEBIANS_PYTHON
-from tests.support.output import ran
+from tests.support.output import run_call
 
 # what programs have used to talk past the network and the whiteboards, to leave notes,
 # or to see what others do
@@ -31,7 +31,7 @@ sys.path.insert(0, sys.argv[1])
 import filter, seccomp
 libc = ctypes.CDLL(None, use_errno=True)
 table = tomllib.load(open(sys.argv[2], "rb"))
-filter.made(table, sys.argv[3], sys.argv[4].split()).load()
+filter.make_filter(table, sys.argv[3], sys.argv[4].split()).load()
 found = []
 for call, *given in json.loads(sys.argv[5]):
     number = call if isinstance(call, int) else seccomp.resolve_syscall(seccomp.Arch(), call)
@@ -51,9 +51,9 @@ WITH_SECCOMP = unittest.skipUnless(
 )
 
 
-def errors(language: str, made: List[List[Any]], more: str = "") -> List[int]:
+def errors(language: str, made: List[List[Any]], extra: str = "") -> List[int]:
     """The errors of calls under the filter of a language."""
-    ran = subprocess.run(
+    result = subprocess.run(
         [
             DEBIANS_PYTHON,
             "-c",
@@ -61,14 +61,14 @@ def errors(language: str, made: List[List[Any]], more: str = "") -> List[int]:
             str(isolation.FILTER.parent),
             str(calls.TABLE),
             language,
-            more,
+            extra,
             json.dumps(made),
         ],
         capture_output=True,
         text=True,
     )
-    found: List[int] = json.loads(ran.stdout or f'"{ran.stderr}"')
-    return found
+    report: List[int] = json.loads(result.stdout or f'"{result.stderr}"')
+    return report
 
 
 class TestTable(unittest.TestCase):
@@ -77,25 +77,25 @@ class TestTable(unittest.TestCase):
             self.assertNotEqual(calls.never(call), "", call)
         for language in (*calls.languages(), calls.EVERY):
             self.assertEqual(
-                calls.allowed(language)
-                & {it for row in calls.table()["never"] for it in row["calls"]},
+                calls.allowed_calls(language)
+                & {call for row in calls.table()["never"] for call in row["calls"]},
                 set(),
                 language,
             )
 
     def test_each_language_has_what_every_one_has_and_no_call_twice(self) -> None:
-        every = calls.allowed(calls.EVERY)
+        every = calls.allowed_calls(calls.EVERY)
         for language in calls.languages():
-            self.assertLess(every, calls.allowed(language))
+            self.assertLess(every, calls.allowed_calls(language))
         for name, it in {
             "every": calls.table()["every"],
             **calls.table()["languages"],
         }.items():
-            listed: List[str] = it["calls"]
-            self.assertEqual(len(listed), len(set(listed)), name)
-            self.assertFalse(name != "every" and set(listed) & every, name)
+            listing: List[str] = it["calls"]
+            self.assertEqual(len(listing), len(set(listing)), name)
+            self.assertFalse(name != "every" and set(listing) & every, name)
         by_arguments = {row["call"] for row in calls.table()["arguments"]}
-        self.assertFalse(by_arguments & calls.allowed(calls.ANY))
+        self.assertFalse(by_arguments & calls.allowed_calls(calls.ANY))
 
     def test_a_course_may_allow_more_but_no_attack(self) -> None:
         self.assertEqual(calls_of(["setpriority"]), ("setpriority",))
@@ -106,12 +106,12 @@ class TestTable(unittest.TestCase):
                 "calls has socket, which no course may allow: it is allowed by its arguments",
             ),
         ):
-            with self.assertRaisesRegex(WrongFile, why):
+            with self.assertRaisesRegex(FileFormatError, why):
                 calls_of([name])
 
     @WITH_SECCOMP
     def test_a_course_may_allow_no_call_that_is_none(self) -> None:
-        with self.assertRaisesRegex(isolation.NoCell, "nosuch is no call of Linux"):
+        with self.assertRaisesRegex(isolation.CellError, "nosuch is no call of Linux"):
             isolation.system_filter("python", ("nosuch",))
 
     def test_the_language_of_a_command(self) -> None:
@@ -148,30 +148,33 @@ class TestTable(unittest.TestCase):
 @WITH_SECCOMP
 class TestFilter(unittest.TestCase):
     def test_attacks_are_refused_in_each_language(self) -> None:
-        wanted = [
+        expectation = [
             (call, row.get("error", "EPERM"))
             for row in calls.table()["never"]
             for call in row["calls"]
         ]
-        self.assertLessEqual(set(ATTACKS), {call for call, _ in wanted})
+        self.assertLessEqual(set(ATTACKS), {call for call, _ in expectation})
         for language in calls.languages():
-            found = errors(language, [[call, 0, 0, 0, 0] for call, _ in wanted])
+            result = errors(language, [[call, 0, 0, 0, 0] for call, _ in expectation])
             self.assertEqual(
-                [(call, errno.errorcode[it]) for (call, _), it in zip(wanted, found)],
-                wanted,
+                [
+                    (call, errno.errorcode[it])
+                    for (call, _), it in zip(expectation, result)
+                ],
+                expectation,
                 language,
             )
 
     def test_calls_of_no_list_are_as_if_the_system_had_none(self) -> None:
         later = [[number, 0, 0, 0, 0] for number in range(449, 480)]
-        others = [
+        rest = [
             ["setpriority", 0, 0, 0],
             ["sched_setaffinity", 0, 0, 0],
             ["landlock_create_ruleset", 0, 0, 0],
         ]
         for language in calls.languages():
             self.assertEqual(
-                set(errors(language, later + others)), {errno.ENOSYS}, language
+                set(errors(language, later + rest)), {errno.ENOSYS}, language
             )
         self.assertEqual(
             errors("python", [["sched_setaffinity", 0, 0, 0]], "sched_setaffinity"),
@@ -180,43 +183,45 @@ class TestFilter(unittest.TestCase):
 
     def test_calls_are_allowed_by_their_arguments(self) -> None:
         past = 1 << 32
-        refused = errno.ENOSYS
-        wanted = [
+        refusal = errno.ENOSYS
+        expectation = [
             (["socket", 1, 1, 0], 0),
             (["socket", past + 1, 1, past], 0),
             (["socket", 2, 1, 6], 0),
             (["socket", 10, 2, 17], 0),
             (["socket", past + 16, 3, past], errno.EAFNOSUPPORT),
-            (["socket", 2, 1, 99], refused),
+            (["socket", 2, 1, 99], refusal),
             (["socket", 2, 1, 262], errno.EPROTONOSUPPORT),
             *(
                 (["socket", family, 1, 0], errno.EAFNOSUPPORT)
                 for family in range(3, 47)
                 if family != 10
             ),
-            (["socket", 99, 1, 0], refused),
-            (["socketpair", 16, 1, 0, 0], refused),
+            (["socket", 99, 1, 0], refusal),
+            (["socketpair", 16, 1, 0, 0], refusal),
             (["fcntl", 0, 1], 0),
             (["fcntl", 0, 6, 0], errno.EPERM),
             (["fcntl", 0, past + 6, 0], errno.EPERM),
-            (["fcntl", 0, 1031, 0], refused),
+            (["fcntl", 0, 1031, 0], refusal),
             (["ioctl", 0, 0x80086601, 0], errno.ENOTTY),
-            (["ioctl", 0, 0x40045431, 0], refused),
-            (["prctl", 4, 0, 0, 0, 0], refused),
+            (["ioctl", 0, 0x40045431, 0], refusal),
+            (["prctl", 4, 0, 0, 0, 0], refusal),
             (["getsockopt", 0, 1, 57, 0, 0], errno.ENOPROTOOPT),
             (["getsockopt", 0, 1, 77, 0, 0], errno.ENOPROTOOPT),
-            (["setsockopt", 0, 1, 76, 0, 0], refused),
-            (["setsockopt", 0, 1, 50, 0, 0], refused),
+            (["setsockopt", 0, 1, 76, 0, 0], refusal),
+            (["setsockopt", 0, 1, 50, 0, 0], refusal),
             # a process as a file; new namespaces
             *(
-                (["clone", flag | 17, 0, 0, 0, 0], refused)
+                (["clone", flag | 17, 0, 0, 0, 0], refusal)
                 for flag in (0x1000, 0x20000, 0x10000000, 0x40000000)
             ),
         ]
         for language in calls.languages():
-            found = errors(language, [call for call, _ in wanted])
+            result = errors(language, [call for call, _ in expectation])
             self.assertEqual(
-                [(call, it) for (call, _), it in zip(wanted, found)], wanted, language
+                [(call, it) for (call, _), it in zip(expectation, result)],
+                expectation,
+                language,
             )
 
 
@@ -233,9 +238,9 @@ clone(child_stack=NULL, flags=0x1000|17) = 3
 """
 
     def test_what_a_program_needs_besides_is_told(self) -> None:
-        said = calls.report_trace("python", self.TRACE.splitlines())
+        lines = calls.report_trace("python", self.TRACE.splitlines())
         self.assertEqual(
-            said.splitlines(),
+            lines.splitlines(),
             [
                 "python: of 4 calls that were traced 4 are refused",
                 "      1  clone 0x1011: by its arguments",
@@ -250,7 +255,7 @@ clone(child_stack=NULL, flags=0x1000|17) = 3
         with tempfile.TemporaryDirectory() as folder:
             trace = pathlib.Path(folder) / "trace"
             trace.write_text("read(0, 0x1, 1) = 0\n")
-            for given, status, said in (
+            for arguments, status, message in (
                 (
                     [],
                     2,
@@ -261,6 +266,6 @@ clone(child_stack=NULL, flags=0x1000|17) = 3
                 (["every", str(trace)], 0, "of 1 calls that were traced 0 are refused"),
                 (["every", os.path.join(folder, "no")], 1, "No such file"),
             ):
-                found, out, errors = ran(calls.main, given)
-                self.assertEqual(found, status)
-                self.assertIn(said, out + errors)
+                result, out, errors = run_call(calls.main, arguments)
+                self.assertEqual(result, status)
+                self.assertIn(message, out + errors)

@@ -9,7 +9,7 @@ from arena_lab.course import course
 from arena_lab.course.course import course_of
 from arena_lab.rules import draws, networks
 from arena_lab.sandbox.sandboxes import Isolation
-from arena_lab.support.fields import WrongFile
+from arena_lab.support.fields import FileFormatError
 from arena_lab.sweep import tables
 from tests.support.course_files import HEAD, SECRET, TEAM, Folder
 
@@ -27,28 +27,28 @@ class Files(Folder):
                     + TEAM
                     + TEAM.replace('"a"', '"b"')
                 )
-                found = course_of(text, self.folder, f"{SECRET}{number}").cases()
-                self.assertEqual([case.number for case in found], list(range(16)))
-                played: Dict[str, List[tuple]] = {"a": [], "b": []}
-                for case in found:
-                    played[case.team.name].append((*case[1:3], *case[4:]))
-                self.assertEqual(sorted(played["a"]), sorted(played["b"]))
-                orders.add("".join(case.team.name for case in found))
+                result = course_of(text, self.folder, f"{SECRET}{number}").cases()
+                self.assertEqual([case.number for case in result], list(range(16)))
+                matches_of: Dict[str, List[tuple]] = {"a": [], "b": []}
+                for case in result:
+                    matches_of[case.team.name].append((*case[1:3], *case[4:]))
+                self.assertEqual(sorted(matches_of["a"]), sorted(matches_of["b"]))
+                orders.add("".join(case.team.name for case in result))
         self.assertEqual(orders, {"a" * 8 + "b" * 8, "b" * 8 + "a" * 8})
 
     def test_keys_are_those_of_this_course_and_no_two_are_the_same(self) -> None:
-        one = self.course()
-        other = self.course("seeds = 2\n")
+        first = self.course()
+        second = self.course("seeds = 2\n")
         keys = [
-            key for case in one.cases() for key in one.conditions.fixture(case).keys
+            key for case in first.cases() for key in first.conditions.fixture(case).keys
         ]
         self.assertEqual(len(set(keys)), 4)
         self.assertFalse(
             set(keys)
             & {
                 key
-                for case in other.cases()
-                for key in other.conditions.fixture(case).keys
+                for case in second.cases()
+                for key in second.conditions.fixture(case).keys
             }
         )
 
@@ -56,23 +56,23 @@ class Files(Folder):
         (self.folder / "net.toml").write_text(
             "nodes = 3\nlinks = [[0, 0, 1, 0], [1, 1, 2, 0], [2, 1, 0, 1]]\n"
         )
-        found = course_of(
+        course = course_of(
             HEAD.replace('"ring:4"', '"net.toml"') + TEAM, self.folder, SECRET
         )
-        self.assertEqual(found.grid.networks["net.toml"].nodes, 3)
+        self.assertEqual(course.grid.networks["net.toml"].nodes, 3)
         self.assertEqual(
-            {pathlib.Path(name).name for name in found.digests()},
+            {pathlib.Path(name).name for name in course.digests()},
             {"net.toml", "secret.txt"},
         )
 
     def test_a_module_is_told_where_to_connect_by_its_player(self) -> None:
-        found = self.course(
+        result = self.course(
             "", TEAM.replace("python3 agent.py {port} {key}", "agent.wasm:{nodes}")
         )
-        self.assertEqual(found.grid.teams[0].words.words, "agent.wasm:{nodes}")
+        self.assertEqual(result.grid.teams[0].words.words, "agent.wasm:{nodes}")
 
     def test_what_is_refused(self) -> None:
-        for middle, team, said in (
+        for middle, team, message in (
             ("", "", "team must be given"),
             ("size = 1\n", TEAM, "a course has no key size; its keys are agents,"),
             ("bound = 'n^2'\n", TEAM, "a course has no key bound"),
@@ -124,23 +124,25 @@ class Files(Folder):
             ("", TEAM.replace("{port}", "{"), "the command of team a cannot be read"),
             ("", TEAM + "agents = 65\n", "agents must be 1 to 64"),
         ):
-            with self.subTest(said), self.assertRaises(WrongFile) as fault:
+            with self.subTest(message), self.assertRaises(FileFormatError) as fault:
                 self.course(middle, team)
-            self.assertIn(said, str(fault.exception))
+            self.assertIn(message, str(fault.exception))
 
     def test_files_that_cannot_be_read(self) -> None:
         path = self.folder / "course.toml"
-        with self.assertRaisesRegex(WrongFile, "course.toml: there is no such file"):
-            course.read(path, SECRET)
+        with self.assertRaisesRegex(
+            FileFormatError, "course.toml: there is no such file"
+        ):
+            course.read_course(path, SECRET)
         path.write_bytes(b"\xff")
-        with self.assertRaisesRegex(WrongFile, "it is no text in UTF-8"):
-            course.read(path, SECRET)
+        with self.assertRaisesRegex(FileFormatError, "it is no text in UTF-8"):
+            course.read_course(path, SECRET)
         (self.folder / "net.toml").write_text("nodes = 3\n")
         path.write_text(HEAD.replace("ring:4", "net.toml") + TEAM)
         with self.assertRaisesRegex(
-            WrongFile, "networks has net.toml, which is no network file"
+            FileFormatError, "networks has net.toml, which is no network file"
         ):
-            course.read(path, SECRET)
+            course.read_course(path, SECRET)
 
     def test_results_and_a_course_where_programs_look(self) -> None:
         """Results that programs can read show them the black holes and other teams'
@@ -148,7 +150,7 @@ class Files(Folder):
         tools = [str(self.folder)]
         for path in ("/usr/share/course", "/lib/course", self.folder / "out"):
             with self.subTest(path), self.assertRaisesRegex(
-                WrongFile, "teams' programs see .*: name a folder else"
+                FileFormatError, "teams' programs see .*: name a folder else"
             ):
                 course.check_walls(
                     Isolation.ALL, [pathlib.Path("/srv"), pathlib.Path(path)], tools
@@ -161,8 +163,10 @@ class Files(Folder):
         self.assertEqual(
             self.course("seeds = 100\n").terms.limits, (20, 60, 1000, 8, 400)
         )
-        given = self.course("seeds = 100\nlimit = 1\nmatch_limit = 2\nteam_limit = 3\n")
-        self.assertEqual(given.terms.limits[:3], (1, 2, 3))
+        conditions = self.course(
+            "seeds = 100\nlimit = 1\nmatch_limit = 2\nteam_limit = 3\n"
+        )
+        self.assertEqual(conditions.terms.limits[:3], (1, 2, 3))
 
 
 class Places(Folder):
@@ -173,9 +177,9 @@ class Places(Folder):
         """The black hole, the home base and the links of each match, by the numbers of
         their seeds."""
         text = 'title = "T"\nnetworks = ["ring:64"]\nseeds = 12\n' + middle + TEAM
-        found = course_of(text, self.folder, SECRET)
-        cases = sorted(found.cases(), key=lambda case: case.seed)
-        setups = [found.conditions.fixture(case).setup for case in cases]
+        course = course_of(text, self.folder, SECRET)
+        cases = sorted(course.cases(), key=lambda case: case.seed)
+        setups = [course.conditions.fixture(case).setup for case in cases]
         return [(setup.holes[0], setup.home, tuple(setup.links)) for setup in setups]
 
     def test_they_are_drawn_for_each_match(self) -> None:
@@ -186,18 +190,25 @@ class Places(Folder):
             self.assertEqual(len(links), 12)
 
     def test_what_the_file_names_is_not_drawn(self) -> None:
-        given = networks.named("ring:64").links
-        for middle, expected in (
-            ("holes = [3]\n", {(3, 0, tuple(given))}),
-            ("holes = 1\nhome = 5\nports = 'given'\n", {(5, tuple(given))}),
+        conditions = networks.network_named("ring:64").links
+        for middle, expectation in (
+            ("holes = [3]\n", {(3, 0, tuple(conditions))}),
+            ("holes = 1\nhome = 5\nports = 'given'\n", {(5, tuple(conditions))}),
             (
                 "holes = 1\nhome = 5\nports = 'shuffled:3'\n",
-                {(5, tuple(draws.numbered(networks.named("ring:64"), 3).links))},
+                {
+                    (
+                        5,
+                        tuple(
+                            draws.renumber(networks.network_named("ring:64"), 3).links
+                        ),
+                    )
+                },
             ),
         ):
-            found = self.places(middle)
+            result = self.places(middle)
             self.assertEqual(
-                {place[-len(min(expected)) :] for place in found}, expected
+                {result[-len(min(expectation)) :] for result in result}, expectation
             )
 
 
@@ -205,7 +216,7 @@ class Secrets(Folder):
     """What a team that knows the course's file could work out, if it were not drawn
     from a secret."""
 
-    def drawn(self, secret: str, holes: str) -> List[int]:
+    def draw(self, secret: str, holes: str) -> List[int]:
         text = (
             HEAD.replace("ring:5", "ring:64") + f"holes = {holes}\nseeds = 4\n" + TEAM
         )
@@ -217,37 +228,37 @@ class Secrets(Folder):
 
     def test_black_holes(self) -> None:
         for holes in ("8", '"by seed"', '"drawn"'):
-            found = {
-                tuple(self.drawn(f"{SECRET}{number}", holes)) for number in range(5)
+            results = {
+                tuple(self.draw(f"{SECRET}{number}", holes)) for number in range(5)
             }
-            self.assertEqual(len(found), 5, holes)
-            self.assertEqual(self.drawn(SECRET, holes), self.drawn(SECRET, holes))
-        self.assertEqual(set(self.drawn(SECRET, "[3]")), {3})
+            self.assertEqual(len(results), 5, holes)
+            self.assertEqual(self.draw(SECRET, holes), self.draw(SECRET, holes))
+        self.assertEqual(set(self.draw(SECRET, "[3]")), {3})
 
     def test_keys_and_what_schedulers_draw(self) -> None:
-        one, other = (
+        first, second = (
             course_of(HEAD + "seeds = 2\n" + TEAM, self.folder, f"{SECRET}{number}")
             for number in range(2)
         )
         keys = [
             {key for case in each.cases() for key in each.conditions.fixture(case).keys}
-            for each in (one, other)
+            for each in (first, second)
         ]
         self.assertFalse(keys[0] & keys[1])
         seeds = [
             [each.conditions.seed(case) for case in each.cases()]
-            for each in (one, other)
+            for each in (first, second)
         ]
         self.assertFalse(set(seeds[0]) & set(seeds[1]))
         self.assertEqual(len(set(seeds[0])), 4)
         self.assertNotIn(0, seeds[0])
 
     def test_teams_get_the_same_draws(self) -> None:
-        found = self.course("seeds = 2\n", TEAM + TEAM.replace('"a"', '"b"'))
+        result = self.course("seeds = 2\n", TEAM + TEAM.replace('"a"', '"b"'))
         seeds = [
             [
-                found.conditions.seed(case)
-                for case in found.cases()
+                result.conditions.seed(case)
+                for case in result.cases()
                 if case.team.name == name
             ]
             for name in "ab"
@@ -256,18 +267,18 @@ class Secrets(Folder):
 
     def test_it_is_kept_where_the_teacher_alone_reads_it(self) -> None:
         out = self.folder / "out"
-        other = self.folder / "other"
+        second = self.folder / "other"
         secret = course.secret_in(out, None)
         self.assertEqual(stat.S_IMODE((out / course.SECRET).stat().st_mode), 0o600)
         self.assertEqual(course.secret_in(out, None), secret)
-        self.assertNotEqual(course.secret_in(other, None), secret)
+        self.assertNotEqual(course.secret_in(second, None), secret)
         self.assertEqual(
             course.secret_in(self.folder / "again", out / course.SECRET), secret
         )
-        with self.assertRaisesRegex(WrongFile, "is another secret than"):
-            course.secret_in(other, out / course.SECRET)
+        with self.assertRaisesRegex(FileFormatError, "is another secret than"):
+            course.secret_in(second, out / course.SECRET)
         (self.folder / "short").write_text("guess me\n")
-        with self.assertRaisesRegex(WrongFile, "at least 16 characters"):
+        with self.assertRaisesRegex(FileFormatError, "at least 16 characters"):
             course.secret_in(self.folder / "new", self.folder / "short")
 
     def test_it_is_another_once_a_team_has_handed_in_something_else(self) -> None:
@@ -283,13 +294,13 @@ class Secrets(Folder):
             ("fewer", {"team a": "1"}, True),
             ("other", {**digests, "team b": "5"}, False),
         ):
-            with contextlib.redirect_stderr(io.StringIO()) as said:
-                found = course.secret_in(
+            with contextlib.redirect_stderr(io.StringIO()) as stream:
+                result = course.secret_in(
                     self.folder / name, first / course.SECRET, handed_in
                 )
-            self.assertEqual(found == secret, is_same, name)
+            self.assertEqual(result == secret, is_same, name)
             self.assertEqual(
-                "team b has handed in something else than when" in said.getvalue(),
+                "team b has handed in something else than when" in stream.getvalue(),
                 not is_same,
             )
 
@@ -300,9 +311,9 @@ class Secrets(Folder):
             ).cases()
             for teams in (TEAM, TEAM + TEAM.replace('"a"', '"b"'))
         )
-        played = [
+        match = [
             [case[1:3] + case[4:] for case in cases if case.team.name == "a"]
             for cases in (alone, both)
         ]
-        self.assertEqual(*played)
-        self.assertNotEqual(played[0], sorted(played[0]))
+        self.assertEqual(*match)
+        self.assertNotEqual(match[0], sorted(match[0]))

@@ -9,15 +9,15 @@ from unittest import mock
 from arena_lab import api
 from arena_lab.__main__ import main
 from arena_lab.commands import answers
-from arena_lab.commands.answers import answered
+from arena_lab.commands.answers import check_answer
 from arena_lab.course import exercises
 from arena_lab.course.exercises import CLIENT, Exercise
 from arena_lab.play.agent_files import AGENTS
 from arena_lab.play.teams import INSIDE, OUTSIDE, AgentWords
-from arena_lab.search.history_tree import NoFunction
-from tests.support.output import InTemporary, ran
+from arena_lab.search.history_tree import NoFunctionError
+from tests.support.output import InTemporary, run_call
 
-# of each exercise changes to its solution, and what is said of it then
+# exercise -> (old text, new text, message): changes of its solution
 WRONG: Dict[str, List[Tuple[str, str, str]]] = {
     "1-enter-and-look": [
         ("agent.enter(key)\n", "", "your agent never entered"),
@@ -103,75 +103,88 @@ class Exercises(InTemporary):
         text = (AGENTS / CLIENT).read_text(encoding="utf-8")
         (self.folder / CLIENT).write_text(text, encoding="utf-8")
 
-    def said(self, exercise: Exercise, agent: str) -> List[str]:
-        """What is to be mended in an answer."""
+    def findings(self, exercise: Exercise, agent: str) -> List[str]:
+        """Returns the findings of a check."""
         (self.folder / exercises.AGENT).write_text(agent, encoding="utf-8")
         words = exercise.command.replace("python3", sys.executable)
         inside = AgentWords(INSIDE, f"{exercises.AGENT} {{nodes}}")
-        return answered(exercise, AgentWords(OUTSIDE, words), inside=inside).said
+        return check_answer(exercise, AgentWords(OUTSIDE, words), inside=inside).lines
 
     def test_they_are_in_order_and_whole(self) -> None:
-        found = exercises.exercises()
-        self.assertEqual(list(found), list(WRONG))
-        for name, one in found.items():
+        result = exercises.exercises()
+        self.assertEqual(list(result), list(WRONG))
+        for name, first in result.items():
             with self.subTest(name):
-                self.assertEqual(list(one.files()), [exercises.AGENT, CLIENT])
-                for text in (one.title, one.text, one.hint):
+                self.assertEqual(list(first.files()), [exercises.AGENT, CLIENT])
+                for text in (first.title, first.text, first.hint):
                     self.assertTrue(text.isprintable())
 
     def test_solutions_are_right_and_what_one_begins_with_is_not(self) -> None:
-        for name, one in exercises.exercises().items():
+        for name, first in exercises.exercises().items():
             with self.subTest(name):
-                self.assertEqual(self.said(one, one.solution()), [])
-                self.assertNotEqual(self.said(one, one.files()[exercises.AGENT]), [])
+                self.assertEqual(self.findings(first, first.solution()), [])
+                self.assertNotEqual(
+                    self.findings(first, first.files()[exercises.AGENT]), []
+                )
 
     def test_wrong_answers_get_a_sentence_that_names_the_cause(self) -> None:
-        for name, one in exercises.exercises().items():
+        for name, first in exercises.exercises().items():
             for right, wrong, sentence in WRONG[name]:
                 with self.subTest(name, sentence=sentence):
-                    solution = one.solution()
+                    solution = first.solution()
                     self.assertEqual(solution.count(right), 1)
-                    said = self.said(one, solution.replace(right, wrong))
-                    self.assertTrue(said)
-                    self.assertIn(sentence, said[0])
+                    output = self.findings(first, solution.replace(right, wrong))
+                    self.assertTrue(output)
+                    self.assertIn(sentence, output[0])
 
     def test_a_search_that_does_not_end_well_is_no_praise(self) -> None:
-        one = exercises.read("9-every-schedule")
-        (self.folder / exercises.AGENT).write_text(one.solution(), encoding="utf-8")
+        exercise = exercises.read_exercise("9-every-schedule")
+        (self.folder / exercises.AGENT).write_text(
+            exercise.solution(), encoding="utf-8"
+        )
         agent = AgentWords(INSIDE, f"{exercises.AGENT} {{nodes}}")
         every = "every schedule of ring:4"
-        with mock.patch.object(answers, "MOST", 9):
-            said = answered(one, agent).said
-        self.assertIn(f"{every} cannot be tried: there are more than 9 states", said[0])
+        with mock.patch.object(answers, "MAX_STATES", 9):
+            output = check_answer(exercise, agent).lines
+        self.assertIn(
+            f"{every} cannot be tried: there are more than 9 states", output[0]
+        )
         for wrong, sentence in (
             (lambda *_: time.sleep(30), "could not be tried in the time"),
-            (NoFunction("it says another line"), "cannot be tried: it says another"),
+            (
+                NoFunctionError("it says another line"),
+                "cannot be tried: it says another",
+            ),
         ):
             with mock.patch.object(api, "explore_games", side_effect=wrong):
-                said = answered(one, agent, seconds=0).said
-            self.assertIn(f"{every} {sentence}", said[0])
-        self.assertIn("and under every schedule of ring:4", one.praise())
+                output = check_answer(exercise, agent, seconds=0).lines
+            self.assertIn(f"{every} {sentence}", output[0])
+        self.assertIn("and under every schedule of ring:4", exercise.praise())
 
     def test_the_command_tries_every_schedule(self) -> None:
         words = ["exercise", "9-every-schedule", "--folder", "a folder"]
-        ran(main, words)
-        status, told, _ = ran(main, words)
+        run_call(main, words)
+        status, output, _ = run_call(main, words)
         self.assertEqual(status, 1)
-        self.assertIn("has noted is gone; change your own number alone", told)
-        self.assertIn("(under a schedule of ring:4)", told)
+        self.assertIn("has noted is gone; change your own number alone", output)
+        self.assertIn("(under a schedule of ring:4)", output)
 
     def test_the_command_writes_checks_and_says_what_is_wrong(self) -> None:
         name = next(iter(WRONG))
-        self.assertIn("Enter and look", ran(main, ["exercise"]).said)
-        self.assertIn(f"Complete {name}/agent.py", ran(main, ["exercise", name]).said)
-        status, told, _ = ran(main, ["exercise", name])
+        self.assertIn("Enter and look", run_call(main, ["exercise"]).output)
+        self.assertIn(
+            f"Complete {name}/agent.py", run_call(main, ["exercise", name]).output
+        )
+        status, output, _ = run_call(main, ["exercise", name])
         self.assertEqual(status, 1)
-        self.assertIn("To mend first: your agent never entered", told)
+        self.assertIn("To mend first: your agent never entered", output)
         agent = self.folder / name / exercises.AGENT
-        agent.write_text(exercises.read(name).solution(), encoding="utf-8")
-        status, told, _ = ran(main, ["exercise", name])
-        self.assertEqual((status, told), (0, "Right in its match.\n"))
-        self.assertIn("Three lines", ran(main, ["exercise", name, "--hint"]).said)
-        status, _, errors = ran(main, ["exercise", "no"])
+        agent.write_text(exercises.read_exercise(name).solution(), encoding="utf-8")
+        status, output, _ = run_call(main, ["exercise", name])
+        self.assertEqual((status, output), (0, "Right in its match.\n"))
+        self.assertIn(
+            "Three lines", run_call(main, ["exercise", name, "--hint"]).output
+        )
+        status, _, errors = run_call(main, ["exercise", "no"])
         self.assertEqual(status, 2)
         self.assertIn("there are 1-enter-and-look, ", errors)

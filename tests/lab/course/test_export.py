@@ -13,7 +13,7 @@ from arena_lab.course import export, league
 from arena_lab.course.course import course_of
 from arena_lab.course.export import Export, Marks, Student, export_of, students_in
 from arena_lab.course.points import Points, marks, text
-from arena_lab.support.fields import WrongFile
+from arena_lab.support.fields import FileFormatError
 from tests.support.course_files import HEAD, SECRET, TEAM, Folder, row
 
 HOSTILE = "=cmd|' /C calc'!A0\x1b[2J\x00<b>\"&]]>\ufffe\ud800é"
@@ -119,17 +119,17 @@ def rows() -> List[Dict[str, Any]]:
 
 class Given(Folder):
     def points(self, table: str = "") -> Points:
-        found = course_of(
+        result = course_of(
             HEAD + TEAM.replace("[[team]]", f"{table}\n[[team]]"), self.folder, SECRET
         ).points
-        assert found is not None
-        return found
+        assert result is not None
+        return result
 
     def marks(self, table: str = "") -> Marks:
         points = self.points(table)
         teams = {}
         for team in ("b", "a"):
-            teams[team] = marks(points, [it for it in rows() if it["team"] == team])
+            teams[team] = marks(points, [row for row in rows() if row["team"] == team])
         return Marks(
             f"Rings {HOSTILE[:5]}",
             points,
@@ -139,14 +139,16 @@ class Given(Folder):
 
 
 class GivenPoints(Given):
-    def scores(self, table: str, *played: Dict[str, Any]) -> List[int]:
-        return [it.score for it in marks(self.points(table), list(played))]
+    def scores(self, table: str, *args: Dict[str, Any]) -> List[int]:
+        return [mark.score for mark in marks(self.points(table), list(args))]
 
     def test_the_points_of_a_network_are_divided_to_the_last_hundredth(self) -> None:
         for count in range(1, 30):
-            solved = [row(2 * number, "a", 9) for number in range(count)]
-            self.assertEqual(sum(self.scores("[points]\nnetwork = 10", *solved)), 1000)
-            self.assertEqual(sum(self.scores("", *solved)), 1000)
+            solved_count = [row(2 * number, "a", 9) for number in range(count)]
+            self.assertEqual(
+                sum(self.scores("[points]\nnetwork = 10", *solved_count)), 1000
+            )
+            self.assertEqual(sum(self.scores("", *solved_count)), 1000)
 
     def test_a_network_has_points_of_its_own(self) -> None:
         table = '[points]\nnetwork = {"ring:4" = 2.5}'
@@ -177,14 +179,14 @@ class GivenPoints(Given):
         self.assertEqual(self.scores("[points]\nlost = 4", two), [1000])
 
     def test_what_failed_has_no_points(self) -> None:
-        given = [
+        conditions = [
             row(0, "a", 4, "wrong"),
             row(2, "a", 4, "solved", "agent 1: has connected twice"),
         ]
-        self.assertEqual(self.scores("", *given), [0, 0])
+        self.assertEqual(self.scores("", *conditions), [0, 0])
 
     def test_what_is_refused(self) -> None:
-        for table, said in (
+        for table, message in (
             ("network = -1", "network must be a number"),
             ("network = {'ring:9' = 1}", "points for ring:9"),
             ("network = true", "network must be"),
@@ -196,10 +198,10 @@ class GivenPoints(Given):
             ("visibility = 'x'", "visibility must be one of visible, hidden,"),
             ("solved = 1", "[points] has no key solved; its keys are bound,"),
         ):
-            with self.subTest(table), self.assertRaises(WrongFile) as fault:
+            with self.subTest(table), self.assertRaises(FileFormatError) as fault:
                 self.points(f"[points]\n{table}")
-            self.assertIn(said, str(fault.exception))
-        with self.assertRaisesRegex(WrongFile, "points must be a table"):
+            self.assertIn(message, str(fault.exception))
+        with self.assertRaisesRegex(FileFormatError, "points must be a table"):
             course_of(f"points = 1\n{HEAD}{TEAM}", self.folder, SECRET)
 
     def test_points_as_a_text(self) -> None:
@@ -215,13 +217,14 @@ class Written(Given):
             '[points]\nnetwork = {"ring:5" = 5.01}\nvisibility = "after_due_date"'
         )
         for team in ("a", "b"):
-            # what is no character of Unicode is none in a file either
-            found = json.loads(export.gradescope(marks, team).encode("utf-8"))
-            self.assertLessEqual(set(found), RESULTS)
+            # characters outside of Unicode are replaced in the file
+            report = json.loads(export.gradescope(marks, team).encode("utf-8"))
+            self.assertLessEqual(set(report), RESULTS)
             self.assertTrue(
-                found["output_format"] in FORMATS and found["stdout_visibility"] in SEEN
+                report["output_format"] in FORMATS
+                and report["stdout_visibility"] in SEEN
             )
-            for test in found["tests"]:
+            for test in report["tests"]:
                 self.assertLessEqual(set(test), TEST)
                 self.assertTrue(
                     test["output_format"] in FORMATS
@@ -238,20 +241,21 @@ class Written(Given):
                     )
                 )
             self.assertEqual(
-                found["score"], round(sum(test["score"] for test in found["tests"]), 2)
+                report["score"],
+                round(sum(test["score"] for test in report["tests"]), 2),
             )
-            for entry in found["leaderboard"]:
+            for entry in report["leaderboard"]:
                 self.assertLessEqual(set(entry), {"name", "value", "order"})
                 self.assertIn(entry.get("order", "desc"), ("asc", "desc"))
             self.assertEqual(
-                [it["name"] for it in found["leaderboard"]],
+                [it["name"] for it in report["leaderboard"]],
                 ["points", "solved", "moves", "lost"],
             )
-        self.assertEqual(found["leaderboard"][0]["value"], 3.34 if team == "a" else 5)
+        self.assertEqual(report["leaderboard"][0]["value"], 3.34 if team == "a" else 5)
 
     def test_junit(self) -> None:
-        written = export.junit(self.marks())
-        root = ElementTree.fromstring(written.encode("utf-8"))
+        writing = export.junit(self.marks())
+        root = ElementTree.fromstring(writing.encode("utf-8"))
         for node in root.iter():
             attributes, children = JUNIT[node.tag]
             self.assertLessEqual(set(node.attrib), attributes)
@@ -277,8 +281,8 @@ class Written(Given):
             Student("email", "x@example.org", "a"),
             Student("email", "y@example.org", "b"),
         ]
-        written = export.moodle(self.marks(), students).encode("utf-8")
-        table = list(csv.reader(io.StringIO(written.decode())))
+        writing = export.moodle(self.marks(), students).encode("utf-8")
+        table = list(csv.reader(io.StringIO(writing.decode())))
         self.assertEqual(
             table[0], ["Email address", "Rings =cmd| (Real)", "Rings =cmd| (Feedback)"]
         )
@@ -307,7 +311,7 @@ class Written(Given):
 
 
 class Students(unittest.TestCase):
-    def read(self, text: str) -> List[Student]:
+    def read_students(self, text: str) -> List[Student]:
         with tempfile.TemporaryDirectory() as folder:
             path = pathlib.Path(folder) / "students.csv"
             path.write_text(text, encoding="utf-8")
@@ -315,27 +319,29 @@ class Students(unittest.TestCase):
 
     def test_who_is_in_which_team(self) -> None:
         self.assertEqual(
-            self.read("name,idnumber,team\nA,007,amber\nB,8,birch\n"),
+            self.read_students("name,idnumber,team\nA,007,amber\nB,8,birch\n"),
             [Student("idnumber", "007", "amber"), Student("idnumber", "8", "birch")],
         )
         # as a spreadsheet writes it
         self.assertEqual(
-            self.read("\ufeffteam,email\r\namber,a@b.c\r\n"),
+            self.read_students("\ufeffteam,email\r\namber,a@b.c\r\n"),
             [Student("email", "a@b.c", "amber")],
         )
 
     def test_what_is_refused(self) -> None:
-        for given, said in (
+        for arguments, message in (
             ("", "its first line must have"),
             ("team,name\namber,a\n", "its first line must have"),
             ("team,email\nash,a\n", "line 2 has team ash, which"),
             ("team,email\namber\n", "line 2 has no email"),
             ("team,email\namber,a\nbirch,a\n", "line 2 has no email of its own"),
         ):
-            with self.subTest(given), self.assertRaisesRegex(WrongFile, said):
-                self.read(given)
+            with self.subTest(arguments), self.assertRaisesRegex(
+                FileFormatError, message
+            ):
+                self.read_students(arguments)
         with self.assertRaisesRegex(
-            WrongFile, "students.csv: there is no such file; write a table"
+            FileFormatError, "students.csv: there is no such file; write a table"
         ):
             export_of(["moodle"], None, pathlib.Path("/nosuch"), ["amber"])
         self.assertEqual(

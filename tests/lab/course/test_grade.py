@@ -15,21 +15,28 @@ from arena_lab.sandbox import processes, users
 
 class Users(unittest.TestCase):
     def test_they_have_no_names(self) -> None:
-        self.assertGreater(len(users.unnamed()), 1000)
-        self.assertNotIn(0, users.unnamed())
+        self.assertGreater(len(users.unnamed_users()), 1000)
+        self.assertNotIn(0, users.unnamed_users())
 
     @unittest.skipUnless(os.geteuid() == 0, "only root can let programs be other users")
     def test_nobody_gets_one_that_another_has(self) -> None:
-        with mock.patch.object(users, "unnamed", lambda: users.USERS[:2]):
-            with users.claimed() as one, users.claimed() as other:
-                self.assertEqual({one, other}, set(users.USERS[:2]))
-                with self.assertRaisesRegex(users.NoUser, "are taken"), users.claimed():
+        with mock.patch.object(users, "unnamed_users", lambda: users.USERS[:2]):
+            with users.claim_user() as first, users.claim_user() as second:
+                self.assertEqual({first, second}, set(users.USERS[:2]))
+                with self.assertRaisesRegex(
+                    users.UserError, "are taken"
+                ), users.claim_user():
                     pass
 
     def test_a_process_that_ends_meanwhile_is_passed_over(self) -> None:
-        gone = mock.Mock(side_effect=ProcessLookupError(errno.ESRCH, "No such process"))
+        lost_folder = mock.Mock(
+            side_effect=ProcessLookupError(errno.ESRCH, "No such process")
+        )
         with mock.patch.multiple(
-            pathlib.Path, exists=gone, read_bytes=gone, read_text=gone
+            pathlib.Path,
+            exists=lost_folder,
+            read_bytes=lost_folder,
+            read_text=lost_folder,
         ):
             self.assertEqual(users.processes_of(os.geteuid()), [])
             self.assertEqual(processes.below(os.getpid()), [os.getpid()])
@@ -60,42 +67,44 @@ class Budgets(unittest.TestCase):
     def test_the_seconds_of_a_team_add_up_over_its_matches(self) -> None:
         """Four matches of six seconds each, and ten seconds in all: the third and
         fourth come too late."""
-        limited = pool.Limited(
+        limited_job = pool.LimitedJob(
             pool.Budget(10, {"red": 0.0}), lambda _: "red", lambda _: "late"
         )
-        self.assertEqual(self.played(range(4), 1, limited), [0, 1, "late", "late"])
+        self.assertEqual(self.play(range(4), 1, limited_job), [0, 1, "late", "late"])
 
     def test_megabytes_do_too(self) -> None:
-        limited = pool.Limited(
+        limited_job = pool.LimitedJob(
             pool.Budget(99, {"red": 0.0}, 5, {"red": 1.0}),
             lambda _: "red",
             lambda _: "late",
         )
-        self.assertEqual(self.played(range(4), 1, limited), [0, 1, 2, "late"])
-        self.assertIn("have taken the 5 MB of disk", limited.budget.says("red"))
+        self.assertEqual(self.play(range(4), 1, limited_job), [0, 1, 2, "late"])
+        self.assertIn("have taken the 5 MB of disk", limited_job.budget.says("red"))
 
     def test_a_team_whose_time_is_up_stops_no_other(self) -> None:
         """The matches of all teams are played by the same processes, and come in their
         order."""
         teams = "red", "blue"
-        limited = pool.Limited(
+        limited_job = pool.LimitedJob(
             pool.Budget(10, dict.fromkeys(teams, 0.0)),
             lambda it: teams[it % 2 and it > 5],
             lambda it: f"late {it}",
         )
         self.assertEqual(
-            self.played(range(10), 3, limited),
+            self.play(range(10), 3, limited_job),
             [0, 1, 2, "late 3", "late 4", "late 5", "late 6", 7, "late 8", 9],
         )
 
-    def played(self, matches: Any, workers: int, limited: pool.Limited) -> List[Any]:
+    def play(
+        self, matches: Any, workers: int, limited_job: pool.LimitedJob
+    ) -> List[Any]:
         """The results of matches, each of which takes six seconds and two megabytes, by
         threads."""
         job: Any = mock.Mock(play=lambda match: pool.TimedResult(match, 6.0, 2 << 20))
         with concurrent.futures.ThreadPoolExecutor(workers) as executor:
             return [
-                it.found
-                for it in pool.MatchQueue(job, matches, limited).results(
+                result.result
+                for result in pool.MatchQueue(job, matches, limited_job).results(
                     executor, workers
                 )
             ]

@@ -24,14 +24,14 @@ class HandIns(unittest.TestCase):
         self.team.mkdir()
         (self.team / "agent.py").write_text("pass")
 
-    def read(self, *names: str) -> HandIn:
-        return hand_in.read(
+    def read_files(self, *names: str) -> HandIn:
+        return hand_in.read_files(
             [self.folder / name for name in names or ("team",)], self.folder
         )
 
-    def unpacked(self, given: HandIn, **more: bytes) -> Dict[str, str]:
+    def unpack(self, hand_in: HandIn, **extra: bytes) -> Dict[str, str]:
         """What an archive has: texts of files, and where links lead."""
-        with tarfile.open(fileobj=io.BytesIO(given.archive(**more))) as tar:
+        with tarfile.open(fileobj=io.BytesIO(hand_in.archive(**extra))) as tar:
             return {
                 it.name: tar.extractfile(it).read().decode()
                 if it.isfile()
@@ -47,7 +47,7 @@ class HandIns(unittest.TestCase):
         (self.team / "more" / "run").chmod(0o755)
         (self.team / "link").symlink_to("agent.py")
         self.assertEqual(
-            self.unpacked(self.read(), **{"network.toml": b"map"}),
+            self.unpack(self.read_files(), **{"network.toml": b"map"}),
             {
                 "agent.py": "pass",
                 "link": "-> agent.py",
@@ -58,7 +58,7 @@ class HandIns(unittest.TestCase):
         )
         modes = {
             it.name: it.mode
-            for it in tarfile.open(fileobj=io.BytesIO(self.read().archive()))
+            for it in tarfile.open(fileobj=io.BytesIO(self.read_files().archive()))
         }
         self.assertEqual(
             (modes["agent.py"], modes["more/run"], modes["more"]), (0o600, 0o700, 0o700)
@@ -67,10 +67,10 @@ class HandIns(unittest.TestCase):
     def test_the_same_files_give_the_same_archive_and_others_another_digest(
         self,
     ) -> None:
-        first = self.read()
-        self.assertEqual(self.read().archive(), first.archive())
+        first = self.read_files()
+        self.assertEqual(self.read_files().archive(), first.archive())
         (self.team / "agent.py").write_text("Pass")
-        self.assertNotEqual(self.read().digest(), first.digest())
+        self.assertNotEqual(self.read_files().digest(), first.digest())
 
     def test_no_link_is_followed(self) -> None:
         """What it leads to may be another team's, or a file of the system that never
@@ -84,9 +84,9 @@ class HandIns(unittest.TestCase):
             ("e", "."),
         ):
             (self.team / name).symlink_to(leads)
-        found = self.unpacked(self.read())
+        result = self.unpack(self.read_files())
         self.assertEqual(
-            found,
+            result,
             {
                 "agent.py": "pass",
                 "a": "-> ../secret",
@@ -102,10 +102,10 @@ class HandIns(unittest.TestCase):
         (self.team / "it").symlink_to(self.folder / "secret")
         (self.team / "inside").symlink_to(self.folder)
         self.assertEqual(
-            self.read("team/it").refusal, "it is a link: name what it leads to"
+            self.read_files("team/it").refusal, "it is a link: name what it leads to"
         )
         self.assertEqual(
-            self.read("team/inside/secret").refusal,
+            self.read_files("team/inside/secret").refusal,
             "inside is a link: name what it leads to",
         )
 
@@ -121,9 +121,9 @@ class HandIns(unittest.TestCase):
         (self.folder / "more" / "inside").mkdir()
         (self.folder / "more" / "inside" / "it.txt").write_text("it")
         (self.folder / "more" / "full").write_text("file")
-        found = self.unpacked(self.read("bad", "team", "more"))
+        result = self.unpack(self.read_files("bad", "team", "more"))
         self.assertEqual(
-            found,
+            result,
             {
                 "agent.py": "pass",
                 "inside": "folder",
@@ -139,20 +139,23 @@ class HandIns(unittest.TestCase):
         (self.team / "x\n\x1b[31m<b>").write_text("x")
         pathlib.Path(os.fsdecode(os.fsencode(self.team) + b"/\xff")).write_text("y")
         self.assertEqual(
-            sorted(self.unpacked(self.read())), ["agent.py", "x\n\x1b[31m<b>", "\udcff"]
+            sorted(self.unpack(self.read_files())),
+            ["agent.py", "x\n\x1b[31m<b>", "\udcff"],
         )
 
     def test_bounds(self) -> None:
         with open(self.team / "big", "wb") as file:
             file.truncate(200 << 30)
-        self.assertEqual(self.read(), HandIn({}, "its files have more than 32 MB"))
+        self.assertEqual(
+            self.read_files(), HandIn({}, "its files have more than 32 MB")
+        )
         (self.team / "big").unlink()
-        self.assertEqual(self.read().refusal, "")
-        with mock.patch.object(hand_in, "MOST_FILES", 3):
+        self.assertEqual(self.read_files().refusal, "")
+        with mock.patch.object(hand_in, "MAX_FILES", 3):
             for name in "abc":
                 (self.team / name).touch()
             self.assertEqual(
-                self.read().refusal, "it has more than 3 files and folders"
+                self.read_files().refusal, "it has more than 3 files and folders"
             )
         at = os.open(self.team, os.O_RDONLY)
         for _ in range(1200):
@@ -160,4 +163,4 @@ class HandIns(unittest.TestCase):
             at, old = os.open("d", os.O_RDONLY, dir_fd=at), at
             os.close(old)
         os.close(at)
-        self.assertEqual(self.read().refusal, "its folders are more than 32 deep")
+        self.assertEqual(self.read_files().refusal, "its folders are more than 32 deep")

@@ -18,9 +18,9 @@ class Leagues(Folder):
             row(6, "d", 8),
             row(7, "d", 9),
         ]
-        found = [standing[:5] for standing in league.standings_of(rows, list("abcd"))]
+        results = [standing[:5] for standing in league.standings_of(rows, list("abcd"))]
         self.assertEqual(
-            found,
+            results,
             [
                 (1, "d", 2, 2, 17),
                 (2, "a", 2, 2, 18),
@@ -38,17 +38,17 @@ class Leagues(Folder):
             {**row(0, "c", 9), "lost": "1"},
             {**row(0, "d", 9), "lost": "0"},
         ]
-        found = [
-            (it.place, it.team, it.lost)
-            for it in league.standings_of(rows, list("abcd"))
+        results = [
+            (standing.place, standing.team, standing.lost)
+            for standing in league.standings_of(rows, list("abcd"))
         ]
-        self.assertEqual(found, [(1, "b", 5), (2, "a", 0), (2, "d", 0), (4, "c", 1)])
+        self.assertEqual(results, [(1, "b", 5), (2, "a", 0), (2, "d", 0), (4, "c", 1)])
 
     def test_a_fault_is_no_solution(self) -> None:
-        found = league.standings_of(
+        league_rows = league.standings_of(
             [row(0, "a", 9, "solved", "agent 1: has connected twice")], ["a"]
         )
-        self.assertEqual(found[0].solved, 0)
+        self.assertEqual(league_rows[0].solved, 0)
 
     def test_each_failure_is_called_by_its_kind(self) -> None:
         for kind, outcome, *faults in (
@@ -134,10 +134,8 @@ class Leagues(Folder):
         ]
         path = self.folder / "runs.csv"
         rows = [
-            tables.checked([*["0"] * 17, *faults]),
-            tables.checked([*["1"] * 17, ""]),
+            tables.with_check([*["0"] * 17, *faults]),
+            tables.with_check([*["1"] * 17, ""]),
         ]
         path.write_text("".join(map(tables.line_of, [tables.COLUMNS, *rows])))
-        self.assertEqual(
-            [found["faults"] for found in tables.rows_in(path)], [faults, []]
-        )
+        self.assertEqual([row["faults"] for row in tables.rows_in(path)], [faults, []])

@@ -20,7 +20,7 @@ client.NoSuchPort: port
 
 
 def of(**texts: str) -> HandIn:
-    """A program of these files, whose names have `_` for `.`."""
+    """Builds a hand-in from texts; `_` in a keyword stands for `.`."""
     return HandIn(
         {
             name.replace("_", "."): HandInEntry(tarfile.REGTYPE, text.encode())
@@ -32,13 +32,13 @@ def of(**texts: str) -> HandIn:
 class SentLines(unittest.TestCase):
     def test_marks_are_parted_from_what_the_program_wrote(self) -> None:
         text = "\x1e1 a.py:3\nmine\n\\x1e2 b.py:4\n\x1e3 ../x:1\n\x1e4 a.py\n\x1ex"
-        written, places = sent_lines.parted({1: text, 0: ""})
+        writing, places = sent_lines.split_errors({1: text, 0: ""})
         rest = "mine\n\x1e3 ../x:1\n\x1e4 a.py\n\x1ex"
-        self.assertEqual(written, {0: "", 1: rest})
+        self.assertEqual(writing, {0: "", 1: rest})
         self.assertEqual(places, {0: [], 1: [SentBy("a.py", 3), SentBy("b.py", 4)]})
 
     def test_events_keep_their_lines_if_the_first_marks_were_cut(self) -> None:
-        _, places = sent_lines.parted({0: "\x1e2 a.py:5\n"})
+        _, places = sent_lines.split_errors({0: "\x1e2 a.py:5\n"})
         log = [
             {"do": "enter", "agent": 0},
             {"do": "depart", "agent": 0},
@@ -47,31 +47,33 @@ class SentLines(unittest.TestCase):
             {"do": "look", "agent": 0},
             {"do": "close"},
         ]
-        found = sent_lines.along(log, places)
+        result = sent_lines.along(log, places)
         rest = [NOWHERE] * 4
-        self.assertEqual(found, [NOWHERE, SentBy("a.py", 5), *rest])
+        self.assertEqual(result, [NOWHERE, SentBy("a.py", 5), *rest])
 
     def test_forged_numbers_take_no_memory(self) -> None:
-        _, places = sent_lines.parted({0: "\x1e99999 a.py:1\n"})
+        _, places = sent_lines.split_errors({0: "\x1e99999 a.py:1\n"})
         self.assertEqual(len(places[0]), 99_999)
-        _, places = sent_lines.parted({0: "\x1e9999999999 a.py:1\n"})
+        _, places = sent_lines.split_errors({0: "\x1e9999999999 a.py:1\n"})
         self.assertEqual(places[0], [])
 
     def test_a_client_that_is_not_the_kits_is_left_as_it_is(self) -> None:
         for name in ("client_py", "client_js", "client_h", "client_c", "client_hpp"):
-            given = of(**{name: "mine", "agent_py": "x"})
-            self.assertEqual(sent_lines.marked(given, 4), given)
+            conditions = of(**{name: "mine", "agent_py": "x"})
+            self.assertEqual(sent_lines.mark_program(conditions, 4), conditions)
         client = (AGENTS / "client.py").read_text()
         kit = of(client_py=client, agent_py="SILENT")
-        found = sent_lines.marked(kit, 4)
-        self.assertIn(b"dump_traceback_later(4)", found.content_of("client.py") or b"")
-        self.assertEqual(found.content_of("agent.py"), b"SILENT")
+        hand_in = sent_lines.mark_program(kit, 4)
+        self.assertIn(
+            b"dump_traceback_later(4)", hand_in.content_of("client.py") or b""
+        )
+        self.assertEqual(hand_in.content_of("agent.py"), b"SILENT")
 
     def test_the_place_of_an_error_is_the_agents_own(self) -> None:
-        given = of(agent_py="", client_py="")
-        self.assertEqual(place_in(TRACEBACK, given), ("agent.py", 4))
+        conditions = of(agent_py="", client_py="")
+        self.assertEqual(place_in(TRACEBACK, conditions), ("agent.py", 4))
         gcc = "agent.c:7:3: error: x\nagent.c:9:1: error: y\n"
         self.assertEqual(place_in(gcc, of(agent_c="")), ("agent.c", 7))
-        self.assertIsNone(place_in(gcc, given))
+        self.assertIsNone(place_in(gcc, conditions))
         own = 'File "/usr/lib/python3.11/json/decoder.py", line 7'
-        self.assertIsNone(place_in(own, given))
+        self.assertIsNone(place_in(own, conditions))

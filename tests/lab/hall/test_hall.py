@@ -16,15 +16,15 @@ from unittest import mock
 from arena_lab.commands import hall
 from arena_lab.course.checked import conditions_of
 from arena_lab.hall import backup, conditions, serving
-from arena_lab.hall.attempts.draws import TOURNAMENT, drawn, write
-from arena_lab.hall.attempts.seen import Part, ended
-from arena_lab.hall.course import DRAWN, FIXED, Net, NoHall, hall_of, read
+from arena_lab.hall.attempts.draws import TOURNAMENT, draw_match, write
+from arena_lab.hall.attempts.seen import Part, match_end
+from arena_lab.hall.course import DRAWN, FIXED, Net, HallError, hall_of, read_hall
 from arena_lab.hall.place import HallFolder
 from arena_lab.hall.standings.rules import GradedTeam, league
 from arena_lab.play.teams import AgentWords
-from arena_lab.rules.model import Match, Setup, spelled
-from arena_lab.rules.networks import NoNetwork, ring, text_of
-from arena_lab.support.fields import WrongFile, table_of
+from arena_lab.rules.model import Match, Setup, spell
+from arena_lab.rules.networks import NetworkError, ring, text_of
+from arena_lab.support.fields import FileFormatError, table_of
 from tests.support.drawing import by_chance
 from tests.support.needing import needs
 from tests.support.output import InTemporary
@@ -36,109 +36,120 @@ HAND_INS = '[hand_ins]\ncommand = "python3 agent.py {host} {port} {key}"\nnetwor
 class Courses(unittest.TestCase):
     """The file of a course."""
 
-    def read(self, text: str) -> Any:
+    def read_hall(self, text: str) -> Any:
         return hall_of(text, pathlib.Path("/course.toml"))
 
     def test_rated_series_of_an_earlier_file_are_passed_over_and_told(self) -> None:
-        self.assertEqual(self.read(COURSE).notes, [])
-        notes = self.read(COURSE + "[rated]\nseries = 3\ntraps = 1\n").notes
+        self.assertEqual(self.read_hall(COURSE).notes, [])
+        notes = self.read_hall(COURSE + "[rated]\nseries = 3\ntraps = 1\n").notes
         self.assertEqual(len(notes), 1)
         self.assertIn("[rated] is passed over", notes[0])
 
     def test_tables_that_are_none_are_refused(self) -> None:
         for name in ("team", "network"):
             with self.assertRaisesRegex(
-                WrongFile,
+                FileFormatError,
                 rf"{name} must be given: write \[\[{name}\]\] and its keys below",
             ):
-                self.read(f'title = "x"\n{name} = [1]\n')
+                self.read_hall(f'title = "x"\n{name} = [1]\n')
 
     def test_a_name_that_begins_with_a_hyphen_is_refused(self) -> None:
         """A program for tables would take such a team's token for a formula."""
         self.assertEqual(
-            [it.name for it in self.read(COURSE + '[[team]]\nname = "a-b"\n').teams],
+            [
+                team.name
+                for team in self.read_hall(COURSE + '[[team]]\nname = "a-b"\n').teams
+            ],
             ["a-b"],
         )
-        with self.assertRaisesRegex(WrongFile, "which does not come first"):
-            self.read(COURSE + '[[team]]\nname = "-a"\n')
+        with self.assertRaisesRegex(FileFormatError, "which does not come first"):
+            self.read_hall(COURSE + '[[team]]\nname = "-a"\n')
 
     def test_hand_ins_without_a_deadline_are_told(self) -> None:
-        self.assertIn("has no deadline", self.read(COURSE + HAND_INS).notes[0])
-        given = self.read(COURSE + HAND_INS + 'deadline = "2099-01-01 12:00"\n')
+        self.assertIn("has no deadline", self.read_hall(COURSE + HAND_INS).notes[0])
+        conditions_used = self.read_hall(
+            COURSE + HAND_INS + 'deadline = "2099-01-01 12:00"\n'
+        )
         # by the secret draw programs play on the same networks, unless others are named
         self.assertEqual(
-            (given.notes, given.hand_ins.secret), ([], {"ring:5": "ring:5"})
+            (conditions_used.notes, conditions_used.hand_ins.secret),
+            ([], {"ring:5": "ring:5"}),
         )
 
     def test_hand_ins_are_graded_as_practice_is_played(self) -> None:
         """And by what a team's check plays."""
         own = '[[network]]\nname = "big"\nnetwork = "hypercube:3"\n'
         text = COURSE + HAND_INS.replace('["ring:5"]', '["ring:6", "hypercube:3"]')
-        hall = self.read(text + 'deadline = "2099-01-01 12:00"\n' + own)
+        hall = self.read_hall(text + 'deadline = "2099-01-01 12:00"\n' + own)
         names = hall.hand_ins.networks if hall.hand_ins else {}
         plain = conditions.text_of(hall, names)
         self.assertNotIn("[conditions", plain)
         own += 'agents = "degree"\nquota = 200\nboard = 64\nlabels = "fixed"\n'
-        hall = self.read(text + 'deadline = "2099-01-01 12:00"\n' + own)
-        found = conditions.for_teams(hall, {**names, "/net.toml": "net"})
-        self.assertIn("# net is a file: ask your teacher for it\n", found)
-        given = conditions_of(
-            table_of(found), pathlib.Path(), AgentWords("agent", "agent.py")
+        hall = self.read_hall(text + 'deadline = "2099-01-01 12:00"\n' + own)
+        result = conditions.for_teams(hall, {**names, "/net.toml": "net"})
+        self.assertIn("# net is a file: ask your teacher for it\n", result)
+        conditions_used = conditions_of(
+            table_of(result), pathlib.Path(), AgentWords("agent", "agent.py")
         )
-        cases = list(given.cases())
-        setups = {it.network: given.fixture(it).setup for it in cases}
-        terms = {name: (it.agents, it.quota, it.board) for name, it in setups.items()}
+        cases = list(conditions_used.cases())
+        setups = {case.network: conditions_used.fixture(case).setup for case in cases}
+        terms = {
+            name: (setup.agents, setup.quota, setup.board)
+            for name, setup in setups.items()
+        }
         self.assertEqual(
             terms, {"ring:6": (2, 1000, 4096), "hypercube:3": (4, 200, 64)}
         )
-        ports = {it.network: it.ports is None for it in cases}
+        ports = {case.network: case.ports is None for case in cases}
         self.assertEqual(ports, {"ring:6": False, "hypercube:3": True})
-        homes = {it.home for it in cases if it.network == "hypercube:3"}
+        homes = {case.home for case in cases if case.network == "hypercube:3"}
         self.assertGreater(len(homes), 1)
         # what [hand_ins] says of agents and of packages is for all networks
-        said = text + "agents = 3\n" + 'deadline = "2099-01-01 12:00"\n' + own
-        self.assertIn("agents = 3\n", conditions.text_of(self.read(said), names))
+        output = text + "agents = 3\n" + 'deadline = "2099-01-01 12:00"\n' + own
+        self.assertIn("agents = 3\n", conditions.text_of(self.read_hall(output), names))
         self.assertEqual(
-            conditions.text_of(self.read(said), names).count("agents ="), 1
+            conditions.text_of(self.read_hall(output), names).count("agents ="), 1
         )
-        packed = self.read(text + 'packages = ["gcc"]\n' + own)
-        self.assertIn('packages = ["gcc"]\n', conditions.text_of(packed, names))
+        packed_value = self.read_hall(text + 'packages = ["gcc"]\n' + own)
+        self.assertIn('packages = ["gcc"]\n', conditions.text_of(packed_value, names))
 
     def test_kits_that_nobody_writes_in_the_browser_are_refused(self) -> None:
-        self.assertIsNone(self.read(COURSE).editor)
-        rules = self.read(COURSE + "[editor]\n").editor
+        self.assertIsNone(self.read_hall(COURSE).editor)
+        rules = self.read_hall(COURSE + "[editor]\n").editor
         assert rules is not None
         self.assertEqual((rules.languages, rules.trials), (["python"], 2))
-        with self.assertRaisesRegex(WrongFile, "languages must be a list of python, "):
-            self.read(COURSE + '[editor]\nlanguages = ["cobol"]\n')
+        with self.assertRaisesRegex(
+            FileFormatError, "languages must be a list of python, "
+        ):
+            self.read_hall(COURSE + '[editor]\nlanguages = ["cobol"]\n')
 
     def test_networks_of_hand_ins_may_be_files_beside_the_course(self) -> None:
         with tempfile.TemporaryDirectory() as name:
             course = pathlib.Path(name) / "course.toml"
             text = COURSE + HAND_INS.replace("ring:5", "n.toml")
             with self.assertRaisesRegex(
-                NoNetwork, "n.toml: there is no such file; a network is"
+                NetworkError, "n.toml: there is no such file; a network is"
             ):
                 hall_of(text, course)
             course.with_name("n.toml").write_text(text_of(ring(5)))
-            given = hall_of(text, course).hand_ins
-            self.assertEqual(given.networks, {f"{name}/n.toml": "n.toml"})
-            self.assertEqual(given.secret, given.networks)
+            conditions_used = hall_of(text, course).hand_ins
+            self.assertEqual(conditions_used.networks, {f"{name}/n.toml": "n.toml"})
+            self.assertEqual(conditions_used.secret, conditions_used.networks)
 
     def test_hand_ins_may_be_modules(self) -> None:
         words = "agent.wasm:{nodes}"
-        given = self.read(
+        conditions_used = self.read_hall(
             COURSE + HAND_INS.replace("python3 agent.py {host} {port} {key}", words)
         )
-        self.assertEqual(given.hand_ins[:2], (words, "agent.wasm"))
-        for other, why in (
+        self.assertEqual(conditions_used.hand_ins[:2], (words, "agent.wasm"))
+        for second, why in (
             ("agent.wasm:{ports}", "has 'ports'; it may"),
             ("/agent.wasm", "file must be the name"),
         ):
-            with self.assertRaisesRegex(WrongFile, why):
-                self.read(
+            with self.assertRaisesRegex(FileFormatError, why):
+                self.read_hall(
                     COURSE
-                    + HAND_INS.replace("python3 agent.py {host} {port} {key}", other)
+                    + HAND_INS.replace("python3 agent.py {host} {port} {key}", second)
                 )
 
 
@@ -149,23 +160,28 @@ class Draws(InTemporary):
         """Of many draws each node is the black hole, each is the home base, and no key,
         no labels and no seed come twice."""
         net = Net("ring", "ring:6", ring(6), 2, 1, 100, 40, DRAWN, True)
-        found = [drawn(net, "amber") for _ in range(200)]
-        setups = [it.fixture.setup for it in found]
-        self.assertEqual({it.home for it in setups}, set(range(6)))
-        self.assertEqual({hole for it in setups for hole in it.holes}, set(range(6)))
-        self.assertTrue(
-            all(it.home not in it.holes and len(it.holes) == 1 for it in setups)
+        results = [draw_match(net, "amber") for _ in range(200)]
+        setups = [result.fixture.setup for result in results]
+        self.assertEqual({setup.home for setup in setups}, set(range(6)))
+        self.assertEqual(
+            {hole for setup in setups for hole in setup.holes}, set(range(6))
         )
-        self.assertGreater(len({str(it.links) for it in setups}), 30)
-        keys = [key for it in found for key in it.fixture.keys]
+        self.assertTrue(
+            all(
+                setup.home not in setup.holes and len(setup.holes) == 1
+                for setup in setups
+            )
+        )
+        self.assertGreater(len({str(setup.links) for setup in setups}), 30)
+        keys = [key for result in results for key in result.fixture.keys]
         self.assertEqual(len(set(keys)), len(keys))
-        for it in found:
+        for result in results:
             self.assertEqual(
-                it.map,
+                result.map,
                 {
                     "nodes": 6,
-                    "links": [list(link) for link in it.fixture.setup.links],
-                    "home": it.fixture.setup.home,
+                    "links": [list(link) for link in result.fixture.setup.links],
+                    "home": result.fixture.setup.home,
                 },
             )
 
@@ -174,7 +190,7 @@ class Draws(InTemporary):
         self.assertEqual(
             [
                 (it.fixture.setup.links, it.map)
-                for it in (drawn(net, "a"), drawn(net, "a"))
+                for it in (draw_match(net, "a"), draw_match(net, "a"))
             ],
             [(ring(6).links, None)] * 2,
         )
@@ -183,11 +199,11 @@ class Draws(InTemporary):
         net = Net("ring", "ring:6", ring(6), 2, 1, 100, 40, DRAWN, False)
         seeds = set()
         for number in range(3):
-            place = self.folder / "match0" / str(number)
-            write(drawn(net, "amber"), place)
-            seeds.add((place / TOURNAMENT).read_text().split('"')[1])
-            self.assertEqual((place / TOURNAMENT).stat().st_mode & 0o077, 0)
-            self.assertEqual(place.stat().st_mode & 0o077, 0)
+            folder = self.folder / "match0" / str(number)
+            write(draw_match(net, "amber"), folder)
+            seeds.add((folder / TOURNAMENT).read_text().split('"')[1])
+            self.assertEqual((folder / TOURNAMENT).stat().st_mode & 0o077, 0)
+            self.assertEqual(folder.stat().st_mode & 0o077, 0)
         self.assertEqual(len(seeds), 3)
 
 
@@ -195,7 +211,7 @@ class Rules(unittest.TestCase):
     """Who stands before whom."""
 
     def test_programs_are_ranked_as_in_a_league(self) -> None:
-        found = [
+        results = [
             GradedTeam("a", 1, 2, 5, 1, {}),
             GradedTeam("b", 2, 2, 9, 1, {}),
             GradedTeam("c", 1, 2, 5, 1, {}),
@@ -203,7 +219,7 @@ class Rules(unittest.TestCase):
             GradedTeam("e", 1, 2, 4, 9, {}),
         ]
         self.assertEqual(
-            [(place, it.team) for place, it in league(found)],
+            [(position, it.team) for position, it in league(results)],
             [(1, "b"), (2, "e"), (3, "d"), (4, "a"), (4, "c")],
         )
 
@@ -220,90 +236,90 @@ class Seen(InTemporary):
 
     def write(self, match: Match) -> None:
         self.path.write_text(
-            "".join(spelled(line) + "\n" for line in [match.head(), *match.log])
+            "".join(spell(line) + "\n" for line in [match.head(), *match.log])
         )
 
-    def shown(self, match: Match) -> str:
+    def html_of(self, match: Match) -> str:
         self.write(match)
-        return json.dumps(Part(self.path, 2).shown())
+        return json.dumps(Part(self.path, 2).as_list())
 
     @by_chance(60)
     def test_two_matches_that_no_agent_can_tell_apart_look_alike(
-        self, chance: random.Random
+        self, rng: random.Random
     ) -> None:
-        """Agent 0 is destroyed in the one, and still on its link in the other; the
-        black hole of the other is a node that nobody reaches."""
+        """In one match agent 0 is destroyed; in the other it is still on its link, and
+        the black hole is a node that nobody reaches."""
         dead = self.match(1)
         alive = self.match(4)
         for match in (dead, alive):
-            match.tell(0, {"do": "enter"})
-            match.tell(1, {"do": "enter"})
-            match.tell(0, {"do": "depart", "port": 0})
+            match.reply_to(0, {"do": "enter"})
+            match.reply_to(1, {"do": "enter"})
+            match.reply_to(0, {"do": "depart", "port": 0})
         dead.deliver(0)
-        for _ in range(chance.randrange(40)):
-            command: Dict[str, Any] = chance.choice(
+        for _ in range(rng.randrange(40)):
+            command: Dict[str, Any] = rng.choice(
                 (
                     {"do": "look"},
                     {
                         "do": "write",
                         "expect": "",
-                        "put": "x" * chance.randint(0, 60),
+                        "put": "x" * rng.randint(0, 60),
                     },
                     {"do": "depart", "port": 9},
                     {"do": "bad"},
                 )
             )
             for match in (dead, alive):
-                match.tell(1, dict(command))
-        self.assertEqual(self.shown(dead), self.shown(alive))
+                match.reply_to(1, dict(command))
+        self.assertEqual(self.html_of(dead), self.html_of(alive))
         self.assertNotEqual(dead.log, alive.log)
 
     def test_nothing_of_the_head_is_shown(self) -> None:
         match = self.match(3)
-        match.tell(0, {"do": "enter"})
-        text = self.shown(match)
+        match.reply_to(0, {"do": "enter"})
+        text = self.html_of(match)
         for word in ("holes", "home", "links", "nodes", "dark"):
             self.assertNotIn(word, text)
 
     def test_a_part_that_grows_is_read_on(self) -> None:
         match = self.match(3)
         part = Part(self.path, 2)
-        self.assertEqual([it["entered"] for it in part.shown()], [False, False])
-        match.tell(0, {"do": "enter"})
+        self.assertEqual([it["entered"] for it in part.as_list()], [False, False])
+        match.reply_to(0, {"do": "enter"})
         self.write(match)
         text = self.path.read_text()
         self.path.write_text(text[:-3])
-        self.assertEqual([it["entered"] for it in part.shown()], [False, False])
+        self.assertEqual([it["entered"] for it in part.as_list()], [False, False])
         self.path.write_text(text)
-        self.assertEqual([it["commands"] for it in part.shown()], [1, 0])
+        self.assertEqual([it["commands"] for it in part.as_list()], [1, 0])
         for _ in range(30):
-            match.tell(0, {"do": "look"})
+            match.reply_to(0, {"do": "look"})
         self.write(match)
         self.assertEqual(
-            (part.shown()[0]["commands"], len(part.shown()[0]["lines"])), (31, 12)
+            (part.as_list()[0]["commands"], len(part.as_list()[0]["lines"])), (31, 12)
         )
 
     def test_after_the_close_losses_and_refused_lines_are_told(self) -> None:
         match = self.match(1)
-        match.tell(0, {"do": "enter"})
-        match.tell(0, {"do": "depart", "port": 7})
-        match.tell(0, {"do": "depart", "port": 0})
+        match.reply_to(0, {"do": "enter"})
+        match.reply_to(0, {"do": "depart", "port": 7})
+        match.reply_to(0, {"do": "depart", "port": 0})
         match.deliver(0)
         match.close()
         self.path.write_text(match.replay())
-        told = ended(self.path)
-        assert told is not None
-        self.assertEqual(told.holes, [1])
-        self.assertEqual(told.lost, [{"agent": 0, "port": 0, "event": 4}])
+        message = match_end(self.path)
+        assert message is not None
+        self.assertEqual(message.holes, [1])
+        self.assertEqual(message.lost, [{"agent": 0, "port": 0, "event": 4}])
         self.assertEqual(
-            [(it["do"], it["reply"]) for it in told.refused],
+            [(it["do"], it["reply"]) for it in message.refused],
             [("depart", {"no": "port"})],
         )
         self.assertEqual(
-            told.refused[0]["meaning"],
+            message.refused[0]["meaning"],
             "the node has no such port: ports are 0 to `ports` - 1",
         )
-        self.assertIsNone(ended(self.path.with_name("none")))
+        self.assertIsNone(match_end(self.path.with_name("none")))
 
 
 class Commands(InTemporary):
@@ -314,17 +330,17 @@ class Commands(InTemporary):
         berlin = self.folder / "zoneinfo/Europe/Berlin"
         clock = self.folder / "localtime"
         berlin.parent.mkdir(parents=True)
-        for place in (berlin, self.folder / "a-copy"):
-            place.touch()
-            clock.symlink_to(place)
-            course = self.folder / f"{place.name}.toml"
+        for folder in (berlin, self.folder / "a-copy"):
+            folder.touch()
+            clock.symlink_to(folder)
+            course = self.folder / f"{folder.name}.toml"
             with mock.patch.object(
                 hall, "LOCAL_TIME", str(clock)
             ), contextlib.redirect_stdout(io.StringIO()):
                 hall.write_new(course)
             clock.unlink()
             self.assertEqual(
-                read(course).zone, "Europe/Berlin" if place == berlin else "UTC"
+                read_hall(course).zone, "Europe/Berlin" if folder == berlin else "UTC"
             )
 
     @needs("networkx")
@@ -333,22 +349,26 @@ class Commands(InTemporary):
         self.addCleanup(os.umask, os.umask(0o077))
         course = self.folder / "it.toml"
         course.write_text(COURSE)
-        other = self.folder / "other.toml"
-        other.write_text(COURSE.replace('"x"', '"y"'))
-        place = HallFolder(self.folder / "it.hall", course, None)
-        place.write(read(course))
+        second = self.folder / "other.toml"
+        second.write_text(COURSE.replace('"x"', '"y"'))
+        hall_folder = HallFolder(self.folder / "it.hall", course, None)
+        hall_folder.write(read_hall(course))
         words = argparse.Namespace(weak_walls=False)
-        with serving.alone(place):
-            before = {it.name: it.read_bytes() for it in place.folder.iterdir()}
-            with self.assertRaisesRegex(NoHall, "is served already"):
-                hall.serve(words, HallFolder(place.folder, other, "/bin/false"))
-        new = HallFolder(self.folder / "new.hall", other, None)
-        refuses = mock.patch.object(hall, "check_walls", side_effect=NoHall("no walls"))
-        for of in (place._replace(course=other), new):
-            with refuses, self.assertRaisesRegex(NoHall, "no walls"):
+        with serving.alone(hall_folder):
+            before = {
+                path.name: path.read_bytes() for path in hall_folder.folder.iterdir()
+            }
+            with self.assertRaisesRegex(HallError, "is served already"):
+                hall.serve(words, HallFolder(hall_folder.folder, second, "/bin/false"))
+        new = HallFolder(self.folder / "new.hall", second, None)
+        refuses = mock.patch.object(
+            hall, "check_walls", side_effect=HallError("no walls")
+        )
+        for of in (hall_folder._replace(course=second), new):
+            with refuses, self.assertRaisesRegex(HallError, "no walls"):
                 hall.serve(words, of)
         self.assertFalse(new.folder.exists())
-        after = {it.name: it.read_bytes() for it in place.folder.iterdir()}
+        after = {path.name: path.read_bytes() for path in hall_folder.folder.iterdir()}
         self.assertEqual(after, before)
         self.assertEqual(sorted(before), ["course.toml", "hall.json", "lock"])
 
@@ -362,40 +382,42 @@ class Commands(InTemporary):
         why = mock.patch.object(hall.sandboxes, "weakness", return_value="none here")
         with weak, why:
             hall.check_walls(words, plain)
-            with self.assertRaisesRegex(NoHall, r"none here: .*\[editor\]"):
+            with self.assertRaisesRegex(HallError, r"none here: .*\[editor\]"):
                 hall.check_walls(words, writes)
         with mock.patch.object(hall, "CODEMIRROR", pathlib.Path("/no/such")):
             hall.check_editor(plain)
-            with self.assertRaisesRegex(NoHall, "apt-get install libjs-codemirror"):
+            with self.assertRaisesRegex(HallError, "apt-get install libjs-codemirror"):
                 hall.check_editor(writes)
 
     def test_a_backup_goes_on_behind_files_that_are_gone_meanwhile(self) -> None:
         """A part of a replay has become the replay, and the folder of a grading has its
         results' name."""
-        place = HallFolder(self.folder / "it.hall", self.folder / "it.toml", None)
-        place.write()
-        place.course.write_text(COURSE)
+        hall_folder = HallFolder(self.folder / "it.hall", self.folder / "it.toml", None)
+        hall_folder.write()
+        hall_folder.course.write_text(COURSE)
         (self.folder / "hall.sqlite3").touch()
-        (place.folder / "attempts").mkdir()
+        (hall_folder.folder / "attempts").mkdir()
         for file in ("log.txt", "m0.jsonl.part"):
-            (place.folder / "attempts" / file).touch()
-        kept = backup.kept
+            (hall_folder.folder / "attempts" / file).touch()
+        record = backup.filter_entry
 
-        def gone(entry: Any) -> Any:
-            for path in (place.folder / "attempts").iterdir():
+        def lose_file(entry: Any) -> Any:
+            for path in (hall_folder.folder / "attempts").iterdir():
                 if entry.name.startswith(
                     "it.hall/attempts/"
                 ) and not entry.name.endswith(path.name):
                     path.unlink()
-            return kept(entry)
+            return record(entry)
 
         with mock.patch.object(
-            backup, "dumped", return_value=self.folder / "hall.sqlite3"
-        ), mock.patch.object(backup, "kept", gone):
-            archive = backup.write(place, self.folder / "it.tar.gz")
+            backup, "dump_database", return_value=self.folder / "hall.sqlite3"
+        ), mock.patch.object(backup, "filter_entry", lose_file):
+            archive = backup.write(hall_folder, self.folder / "it.tar.gz")
         with tarfile.open(archive) as tar:
-            found = tar.getnames()
-        self.assertEqual(sum(it.startswith("it.hall/attempts/") for it in found), 1)
+            result = tar.getnames()
+        self.assertEqual(
+            sum(result.startswith("it.hall/attempts/") for result in result), 1
+        )
         self.assertLessEqual(
-            {"it.toml", "it.hall/hall.sqlite3", "it.hall/hall.json"}, set(found)
+            {"it.toml", "it.hall/hall.sqlite3", "it.hall/hall.json"}, set(result)
         )

@@ -3,7 +3,7 @@ says of it."""
 
 from arena_lab.pages import judging
 from arena_lab.play.agent_files import TOP
-from arena_lab.rules.engines import EngineRefused
+from arena_lab.rules.engines import EngineRefusedError
 from arena_lab.rules.model import Verdict
 from tests.support.output import InTemporary
 
@@ -43,6 +43,7 @@ class Judging(InTemporary):
         ):
             path.write_text(bent, encoding="utf-8")
             with self.assertRaisesRegex(
-                EngineRefused, "it.jsonl: this is no replay of a match by the rules"
+                EngineRefusedError,
+                "it.jsonl: this is no replay of a match by the rules",
             ):
                 judging.verdict_of(None, path)

@@ -4,23 +4,27 @@ import random
 import unittest
 
 from arena_lab.pages.page import SCALE, laid_out, ring_of
-from arena_lab.rules.networks import named
+from arena_lab.rules.networks import network_named
 
 
 class Layout(unittest.TestCase):
     def test_a_ring_is_a_circle_whatever_its_nodes_are_called(self) -> None:
-        chance = random.Random(1)
+        rng = random.Random(1)
         for nodes in (3, 4, 17):
-            names = chance.sample(range(nodes), nodes)
-            links = [(names[it], names[(it + 1) % nodes]) for it in range(nodes)]
-            chance.shuffle(links)
-            found = ring_of(nodes, links)
-            self.assertEqual(sorted(found), list(range(nodes)))
-            pairs = {frozenset(it) for it in zip(found, found[1:] + found[:1])}
+            names = rng.sample(range(nodes), nodes)
+            links = [
+                (names[number], names[(number + 1) % nodes]) for number in range(nodes)
+            ]
+            rng.shuffle(links)
+            ring = ring_of(nodes, links)
+            self.assertEqual(sorted(ring), list(range(nodes)))
+            pairs = {frozenset(it) for it in zip(ring, ring[1:] + ring[:1])}
             self.assertEqual(pairs, set(map(frozenset, links)))
             spots = laid_out(nodes, tuple(links))
-            longest = max(math.dist(spots[one], spots[other]) for one, other in links)
-            # in a picture that is stretched no side is longer than a chord that is
+            longest = max(
+                math.dist(spots[first], spots[second]) for first, second in links
+            )
+            # stretching makes no side longer than the chord
             self.assertLess(longest, 2 * SCALE * math.sin(math.pi / nodes))
             self.assertEqual(len(set(map(tuple, spots))), nodes)
 
@@ -29,6 +33,6 @@ class Layout(unittest.TestCase):
         twice = [(0, 1), (0, 1), (2, 3), (2, 3)]
         for nodes, links in ((6, triangles), (4, twice), (3, [(0, 1), (1, 2)])):
             self.assertEqual(ring_of(nodes, links), [])
-        torus = named("torus:3x3")
+        torus = network_named("torus:3x3")
         links = [(v, w) for v, _, w, _ in torus.links]
         self.assertEqual(ring_of(torus.nodes, links), [])

@@ -9,7 +9,7 @@ from arena_lab.pages.screen import (
     RUNS,
     WAITS,
     WatchedMatch,
-    shown,
+    match_row,
     standings,
     teams,
 )
@@ -20,12 +20,12 @@ from tests.support.matches import flipped_ring
 Event = Dict[str, Any]
 
 
-def drawn_events(chance: random.Random, match: Match) -> List[Event]:
+def drawn_events(rng: random.Random, match: Match) -> List[Event]:
     """Plays events by chance; gives them."""
     events: List[Event] = []
     for _ in range(60):
-        agent = chance.randrange(match.setup.agents)
-        do = chance.choice(
+        agent = rng.randrange(match.setup.agents)
+        do = rng.choice(
             [
                 "enter",
                 "look",
@@ -40,7 +40,7 @@ def drawn_events(chance: random.Random, match: Match) -> List[Event]:
         event = {
             "do": do,
             "agent": agent,
-            **({"port": chance.randrange(2)} if do in ("depart", "accuse") else {}),
+            **({"port": rng.randrange(2)} if do in ("depart", "accuse") else {}),
         }
         events.append(event)
         match.play(event)
@@ -48,30 +48,30 @@ def drawn_events(chance: random.Random, match: Match) -> List[Event]:
 
 
 def lost_by(setup: Setup, events: List[Event]) -> List[bool]:
-    """Of each event whether it is a delivery into what destroys."""
+    """Returns for each event whether it delivers an agent to its destruction."""
     match = Match(setup)
-    found = []
+    results = []
     for event in events:
         agent = match.agents[event["agent"]]
         goes = (
             event["do"] == "deliver"
             and agent.standing == "away"
-            and match.doomed(agent.node, agent.port)
+            and match.destroys(agent.node, agent.port)
         )
-        found.append(goes)
+        results.append(goes)
         match.play(event)
-    return found
+    return results
 
 
 class Twins(unittest.TestCase):
     def test_two_matches_that_nobody_can_tell_apart_show_the_same(self) -> None:
-        compared = 0
+        compared_value = 0
         for seed in range(300):
-            chance = random.Random(seed)
-            network = flipped_ring(6, chance)
+            rng = random.Random(seed)
+            network = flipped_ring(6, rng)
             setup = Setup(6, network.links, 0, [3], 3, 1000, 8)
             match = Match(setup)
-            events = drawn_events(chance, match)
+            events = drawn_events(rng, match)
             free = [
                 node for node in range(1, 6) if node != 3 and node not in match.reached
             ]
@@ -84,18 +84,18 @@ class Twins(unittest.TestCase):
                 here.play(event)
                 if not is_lost:
                     there.play(event)
-                one, two = (
+                first, two = (
                     standings(
                         [WatchedMatch("red", it, 7), WatchedMatch("blue", None, None)]
                     )
                     for it in (here, there)
                 )
-                self.assertEqual(one, two)
+                self.assertEqual(first, two)
                 self.assertEqual(
-                    teams(one, ["ring", "ring"]), teams(two, ["ring", "ring"])
+                    teams(first, ["ring", "ring"]), teams(two, ["ring", "ring"])
                 )
-                compared += 1
-        self.assertGreater(compared, 5_000)
+                compared_value += 1
+        self.assertGreater(compared_value, 5_000)
 
 
 class Rows(unittest.TestCase):
@@ -106,18 +106,18 @@ class Rows(unittest.TestCase):
 
     def test_a_running_match_shows_who_has_entered(self) -> None:
         self.assertEqual(
-            shown(WatchedMatch("red", None, None), False),
+            match_row(WatchedMatch("red", None, None), False),
             {"team": "red", "state": NOT_BEGUN},
         )
-        self.match.tell(0, {"do": "enter"})
-        self.match.tell(0, {"do": "depart", "port": 1})
+        self.match.reply_to(0, {"do": "enter"})
+        self.match.reply_to(0, {"do": "depart", "port": 1})
         self.match.deliver(0)
         self.assertEqual(
-            shown(WatchedMatch("red", self.match, 7), False),
+            match_row(WatchedMatch("red", self.match, 7), False),
             {"team": "red", "state": RUNS, "entered": 1, "agents": 2, "since": 7},
         )
         self.assertEqual(
-            shown(WatchedMatch("red", self.match, None), False),
+            match_row(WatchedMatch("red", self.match, None), False),
             {"team": "red", "state": WAITS, "entered": 1, "agents": 2},
         )
 
@@ -136,27 +136,27 @@ class Rows(unittest.TestCase):
         )
 
     def test_a_node_is_named_once_all_are_closed(self) -> None:
-        self.match.tell(0, {"do": "enter"})
-        self.match.tell(0, {"do": "accuse", "port": 1})
+        self.match.reply_to(0, {"do": "enter"})
+        self.match.reply_to(0, {"do": "accuse", "port": 1})
         self.match.close()
         row = {"team": "red", "state": OVER, "moves": 0, "lost": 0, "came": True}
         self.assertEqual(
-            shown(WatchedMatch("red", self.match, 7), False),
+            match_row(WatchedMatch("red", self.match, 7), False),
             {**row, "outcome": "guess"},
         )
         self.assertEqual(
-            shown(WatchedMatch("red", self.match, 7), True),
+            match_row(WatchedMatch("red", self.match, 7), True),
             {**row, "outcome": "guess 1"},
         )
 
     def test_pages_come_when_all_are_closed_and_the_best_stand_first(self) -> None:
-        solved = Match(self.match.setup)
+        match = Match(self.match.setup)
         for event in ({"do": "enter"}, {"do": "depart", "port": 0}):
-            solved.tell(0, event)
-        solved.deliver(0)
-        solved.tell(0, {"do": "accuse", "port": 1})
-        solved.close()
-        running = [WatchedMatch("red", self.match, 7), WatchedMatch("blue", solved, 7)]
+            match.reply_to(0, event)
+        match.deliver(0)
+        match.reply_to(0, {"do": "accuse", "port": 1})
+        match.close()
+        running = [WatchedMatch("red", self.match, 7), WatchedMatch("blue", match, 7)]
         self.assertEqual(
             [(row["team"], row["page"]) for row in standings(running)],
             [("blue", False), ("red", False)],
@@ -178,9 +178,9 @@ class TwoRows(unittest.TestCase):
         """Whatever happens in them: the number of events is nothing that is shown."""
         for busy in range(2):
             for match in self.matches:
-                match.tell(0, {"do": "enter"})
+                match.reply_to(0, {"do": "enter"})
             for _ in range(5):
-                self.matches[busy].tell(0, {"do": "look"})
+                self.matches[busy].reply_to(0, {"do": "look"})
             rows = standings(
                 [
                     WatchedMatch(team, match, 7)
@@ -190,8 +190,8 @@ class TwoRows(unittest.TestCase):
             self.assertEqual([row["match"] for row in rows], [0, 1])
 
     def test_who_has_ended_has_entered(self) -> None:
-        self.matches[0].tell(0, {"do": "enter"})
-        self.matches[0].tell(0, {"do": "leave"})
+        self.matches[0].reply_to(0, {"do": "enter"})
+        self.matches[0].reply_to(0, {"do": "leave"})
         self.assertEqual(
-            shown(WatchedMatch("a", self.matches[0], 7), False)["entered"], 1
+            match_row(WatchedMatch("a", self.matches[0], 7), False)["entered"], 1
         )

@@ -5,10 +5,10 @@ import random
 import unittest
 from typing import Any, Dict, List, Tuple
 
-from arena_lab.play.agent_files import AGENTS, loaded
+from arena_lab.play.agent_files import AGENTS, load_module
 from tests.support.drawing import by_chance
 
-chart = loaded(AGENTS / "chart.py")
+chart = load_module(AGENTS / "chart.py")
 Chart = chart.Chart
 Known = chart.Known
 Row = chart.Row
@@ -21,9 +21,9 @@ BEHIND = Row(0, 1, (FREE, DONE))
 TEXT = '     #""!' + '   ! " "'
 
 
-def drawn_row(chance: random.Random) -> "Row":
-    states = [chance.choice((FREE, CLAIMED, DONE)) for _ in range(chance.randrange(9))]
-    return Row(chance.randrange(4096), chance.randrange(4096), tuple(states))
+def drawn_row(rng: random.Random) -> "Row":
+    states = [rng.choice((FREE, CLAIMED, DONE)) for _ in range(rng.randrange(9))]
+    return Row(rng.randrange(4096), rng.randrange(4096), tuple(states))
 
 
 class Texts(unittest.TestCase):
@@ -35,8 +35,8 @@ class Texts(unittest.TestCase):
         self.assertEqual(Row(64, 4095, ()).text(), "! __  ")
 
     @by_chance(100)
-    def test_a_chart_is_read_as_it_was_written(self, chance: random.Random) -> None:
-        rows = tuple(drawn_row(chance) for _ in range(chance.randrange(1, 9)))
+    def test_a_chart_is_read_as_it_was_written(self, rng: random.Random) -> None:
+        rows = tuple(drawn_row(rng) for _ in range(rng.randrange(1, 9)))
         text = Chart(rows).text()
         self.assertEqual(Chart.read(text, 3).rows, rows)
         self.assertEqual(len(text), sum(6 + len(row.states) for row in rows))
@@ -48,8 +48,8 @@ class Texts(unittest.TestCase):
 
     def test_a_node_is_joined_once_and_the_home_base_never(self) -> None:
         for name, ports, count in (("    ", 1, 3), ("   !", 2, 2), ('   "', 2, 3)):
-            joined = Chart([HOME, BEHIND]).joined(chart.new_row(name, ports))
-            self.assertEqual(len(joined.rows), count)
+            joins = Chart([HOME, BEHIND]).joined(chart.new_row(name, ports))
+            self.assertEqual(len(joins.rows), count)
         self.assertEqual(len(Chart([HOME, BEHIND]).joined("").rows), 2)
 
 
@@ -68,13 +68,13 @@ class Deciding(unittest.TestCase):
             ((FREE, DONE, DONE), 3, 5, False),
         ):
             with self.subTest(states=states, nodes=nodes, links=links):
-                known = Chart([HOME, BEHIND._replace(states=states)])
-                self.assertEqual(Known(nodes, links).is_decided(known), is_decided)
+                facts = Chart([HOME, BEHIND._replace(states=states)])
+                self.assertEqual(Known(nodes, links).is_decided(facts), is_decided)
 
     def test_an_agent_explores_a_triangle_until_it_is_lost(self) -> None:
         """It claims port 0, names the node behind it, and then claims port 1."""
         first = '     "! '
-        said, memory = commands(
+        output, memory = commands(
             [
                 {"ok": "here", "ports": 2, "from": None, "board": ""},
                 {"ok": "written"},
@@ -87,16 +87,16 @@ class Deciding(unittest.TestCase):
             3,
             3,
         )
-        done = '     "" ' + '     "  '
+        finish = '     "" ' + '     "  '
         self.assertEqual(
-            said,
+            output,
             [
                 {"do": "write", "expect": "", "put": first},
                 {"do": "depart", "port": 0},
                 {"do": "write", "expect": "", "put": "    "},
                 {"do": "depart", "port": 1},
-                {"do": "write", "expect": first, "put": done},
-                {"do": "write", "expect": done, "put": '     ""!' + '     "  '},
+                {"do": "write", "expect": first, "put": finish},
+                {"do": "write", "expect": finish, "put": '     ""!' + '     "  '},
                 {"do": "depart", "port": 1},
             ],
         )
@@ -104,7 +104,7 @@ class Deciding(unittest.TestCase):
 
     def test_whoever_finds_no_port_free_sleeps_and_looks_when_it_wakes(self) -> None:
         board = '     "!!'
-        said, _ = commands(
+        output, _ = commands(
             [
                 {"ok": "here", "ports": 2, "from": None, "board": board},
                 {"ok": "woke"},
@@ -113,10 +113,10 @@ class Deciding(unittest.TestCase):
             3,
             3,
         )
-        self.assertEqual([it["do"] for it in said], ["sleep", "look", "sleep"])
+        self.assertEqual([it["do"] for it in output], ["sleep", "look", "sleep"])
 
     def test_whoever_finds_that_another_has_written_reads_again(self) -> None:
-        said, _ = commands(
+        output, _ = commands(
             [
                 {"ok": "here", "ports": 2, "from": None, "board": ""},
                 {"ok": "changed", "board": '     "! '},
@@ -125,25 +125,25 @@ class Deciding(unittest.TestCase):
             3,
         )
         self.assertEqual(
-            said[1], {"do": "write", "expect": '     "! ', "put": '     "!!'}
+            output[1], {"do": "write", "expect": '     "! ', "put": '     "!!'}
         )
 
     def test_a_refused_command_ends_it_with_a_line(self) -> None:
         here = {"ok": "here", "ports": 2, "from": None, "board": ""}
-        for why, told in (("long", "the whiteboard is too small"), ("spent", "")):
+        for why, message in (("long", "the whiteboard is too small"), ("spent", "")):
             with contextlib.redirect_stderr(io.StringIO()) as errors:
-                said, _ = commands([here, {"no": why}], 3, 3)
-            self.assertEqual(said[1], {"do": "leave"})
-            self.assertEqual(errors.getvalue()[: len(told) or None], told)
+                output, _ = commands([here, {"no": why}], 3, 3)
+            self.assertEqual(output[1], {"do": "leave"})
+            self.assertEqual(errors.getvalue()[: len(message) or None], message)
 
 
 def commands(
     replies: List[Dict[str, Any]], nodes: int, links: int
 ) -> Tuple[List[Dict[str, Any]], Any]:
     """What an agent says that gets these replies, and its memory then."""
-    said: List[Dict[str, Any]] = []
+    lines: List[Dict[str, Any]] = []
     memory = None
     for reply in replies:
         memory, command = chart.step(memory, reply, nodes, links)
-        said.append(command)
-    return said, memory
+        lines.append(command)
+    return lines, memory

@@ -13,7 +13,7 @@ from arena_lab.rules.fixtures import fixture_of
 from arena_lab.rules.model import Setup
 from arena_lab.rules.networks import ring
 from tests.support.needing import needs
-from tests.support.output import ran
+from tests.support.output import run_call
 
 RING = ring(4)
 # agent 0 departs over port 0, agent 1 over port 1 and back
@@ -35,33 +35,35 @@ STEPS = (
 )
 
 
-def made(holes: List[int], is_held: bool) -> HumanMatch:
-    held = [(0, 0), (2, 1)] if is_held else []
-    fixture = fixture_of(Setup(4, RING.links, 0, holes, 2, 100, 64))._replace(held=held)
+def make_match(holes: List[int], is_held: bool) -> HumanMatch:
+    held_links = [(0, 0), (2, 1)] if is_held else []
+    fixture = fixture_of(Setup(4, RING.links, 0, holes, 2, 100, 64))._replace(
+        held=held_links
+    )
     return HumanMatch(fixture, random.Random(5))
 
 
 class Twins(unittest.TestCase):
     def test_a_black_hole_and_a_slow_link_look_alike(self) -> None:
-        hole = made([1], False)
-        slow = made([], True)
-        for name, *given in STEPS:
+        hole = make_match([1], False)
+        slow = make_match([], True)
+        for name, *arguments in STEPS:
             for match in (hole, slow):
-                getattr(match, name)(*given)
-            self.assertEqual(hole.shown(), slow.shown())
+                getattr(match, name)(*arguments)
+            self.assertEqual(hole.as_dict(), slow.as_dict())
         self.assertEqual(ON_A_LINK, hole.seen[0].standing)
         self.assertEqual("at a node", hole.seen[1].standing)
         self.assertEqual((1, 0), (hole.end().lost, slow.end().lost))
 
     def test_what_is_on_a_link_says_nothing(self) -> None:
-        match = made([1], False)
-        for name, *given in STEPS[:3]:
-            getattr(match, name)(*given)
+        match = make_match([1], False)
+        for name, *arguments in STEPS[:3]:
+            getattr(match, name)(*arguments)
         self.assertFalse(match.may_say(0))
         self.assertTrue(match.may_say(1))
 
     def test_a_whiteboard_is_what_the_agent_saw_last(self) -> None:
-        match = made([1], False)
+        match = make_match([1], False)
         match.say(0, {"do": "enter"})
         match.say(1, {"do": "enter"})
         match.say(0, {"do": "write", "expect": "", "put": "one"})
@@ -72,38 +74,38 @@ class Twins(unittest.TestCase):
 
 @needs("networkx")
 class Terminal(unittest.TestCase):
-    def played(self, lines: str, *words: str) -> str:
+    def play(self, lines: str, *words: str) -> str:
         with mock.patch("sys.stdin", io.StringIO(lines)):
-            status, told, _ = ran(
+            status, output, _ = run_call(
                 main,
                 ["play", "--network", "ring:4", "--hole", "1", "--seed", "1", *words],
             )
         self.assertEqual(0, status)
-        return str(told)
+        return str(output)
 
     def test_a_search_from_its_beginning_to_its_end(self) -> None:
         wait = "wait\n" * 10
-        said = self.played(
+        output = self.play(
             f"enter\nwrite by 0\n0\n\nenter\n1\n{wait}1\n{wait}accuse 1\nend\n"
         )
-        self.assertIn("the whiteboard says: by 0", said)
+        self.assertIn("the whiteboard says: by 0", output)
         self.assertIn(
             "Agent 0 is on a link; nothing is heard of it.",
-            self.played("enter\n0\nwait\nwait\nwait\n"),
+            self.play("enter\n0\nwait\nwait\nwait\n"),
         )
-        self.assertIn("The match is over: solved moves 3 lost 1", said)
-        self.assertIn("agent 0 was at nodes 0, and was destroyed", said)
-        before, _, _ = said.partition("The match is over")
+        self.assertIn("The match is over: solved moves 3 lost 1", output)
+        self.assertIn("agent 0 was at nodes 0, and was destroyed", output)
+        before, _, _ = output.partition("The match is over")
         self.assertNotIn("destroyed", before)
 
     def test_a_second_person_says_who_arrives(self) -> None:
-        said = self.played("enter\n1\nwait\narrive 0\n", "--second-person")
-        self.assertIn("agent 0 was at nodes 0, 3", said)
+        output = self.play("enter\n1\nwait\narrive 0\n", "--second-person")
+        self.assertIn("agent 0 was at nodes 0, 3", output)
 
     def test_what_is_no_command_and_what_is_refused(self) -> None:
-        said = self.played("jump\nlook\n\nenter\n7\n")
-        self.assertEqual(2, said.count("let time pass"))
-        self.assertIn('Refused: {"no":"port"}', said)
+        output = self.play("jump\nlook\n\nenter\n7\n")
+        self.assertEqual(2, output.count("let time pass"))
+        self.assertIn('Refused: {"no":"port"}', output)
 
     def test_a_riddle_has_a_black_hole_or_a_node_at_which_nobody_arrives(self) -> None:
         kinds = set()
@@ -116,23 +118,23 @@ class Terminal(unittest.TestCase):
         self.assertEqual({((2,), ()), ((), ((1, 0), (3, 1)))}, kinds)
 
     def test_the_end_of_a_riddle_names_the_node(self) -> None:
-        found = set()
+        results = set()
         for seed in range(9):
-            said = self.played(
+            lines = self.play(
                 "end\n", "--riddle", "--seed", str(seed), "--hole", "2"
             ).splitlines()
-            found |= {
-                line for line in said if "black hole" in line and "behind" not in line
+            results |= {
+                line for line in lines if "black hole" in line and "behind" not in line
             }
         self.assertEqual(
             {
                 "There is no black hole: nobody arrives at node 2.",
                 "The black hole is node 2.",
             },
-            found,
+            results,
         )
 
     def test_a_second_person_has_no_page(self) -> None:
-        status, _, told = ran(main, ["play", "--page", "--second-person"])
+        status, _, output = run_call(main, ["play", "--page", "--second-person"])
         self.assertEqual(2, status)
-        self.assertIn("leave out --page or --second-person", told)
+        self.assertIn("leave out --page or --second-person", output)

@@ -42,9 +42,11 @@ class Imports(InTemporary):
         return files_behind(self.folder / name)
 
     def test_each_file_is_followed_once(self) -> None:
-        found = {os.path.relpath(name, self.folder) for name in self.behind("agent.py")}
+        results = {
+            os.path.relpath(name, self.folder) for name in self.behind("agent.py")
+        }
         self.assertEqual(
-            found,
+            results,
             {
                 "agent.py",
                 "one.py",
@@ -66,12 +68,12 @@ class Imports(InTemporary):
             )
         before = self.behind("agent.py")
         (self.folder / "two" / "inner.py").write_text("# changed\n")
-        changed = {
+        changes = {
             name
             for name, digest in self.behind("agent.py").items()
             if before[name] != digest
         }
-        self.assertEqual(changed, {str(self.folder / "two" / "inner.py")})
+        self.assertEqual(changes, {str(self.folder / "two" / "inner.py")})
 
     def test_names_are_paths_from_the_working_folder(self) -> None:
         os.chdir(self.folder)
@@ -82,18 +84,18 @@ class Imports(InTemporary):
 
     def test_what_is_not_in_python_is_not_looked_into(self) -> None:
         self.assertEqual(list(self.behind("data.txt")), [str(self.folder / "data.txt")])
-        self.assertEqual(names_in(b"import a\n" + b"#" * imports.MOST_BYTES), ())
+        self.assertEqual(names_in(b"import a\n" + b"#" * imports.MAX_BYTES), ())
         self.assertEqual(names_in(b"\0"), ())
 
     def test_an_installed_package_is_one_of_the_files(self) -> None:
         (self.folder / "one.py").write_text("import setuptools, os\n")
-        found = files_behind(self.folder / "one.py", [str(self.folder)])
+        result = files_behind(self.folder / "one.py", [str(self.folder)])
         name = "package setuptools"
         if imports.package_digest("setuptools"):
-            self.assertEqual(set(found), {str(self.folder / "one.py"), name})
-            self.assertEqual(digest_named(name), found[name])
-            self.assertEqual(other_files(found), [])
-            self.assertEqual(other_files({**found, name: "other"}), [name])
+            self.assertEqual(set(result), {str(self.folder / "one.py"), name})
+            self.assertEqual(digest_named(name), result[name])
+            self.assertEqual(other_files(result), [])
+            self.assertEqual(other_files({**result, name: "other"}), [name])
 
     def test_an_agent_inside_has_its_client(self) -> None:
         path = self.folder / "two" / "inner.py"

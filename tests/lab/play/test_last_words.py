@@ -143,7 +143,7 @@ PRINTED: Dict[str, Tuple[str, str]] = {
     ),
     "nothing": ("\n", ""),
 }
-# programs that crash, and by what they are run
+# crashing programs, and the commands that run them
 SOURCES: Dict[str, Tuple[str, List[str], str]] = {
     "c.py": (
         "import sys\nx={}\nx['links']\n",
@@ -165,16 +165,16 @@ SOURCES: Dict[str, Tuple[str, List[str], str]] = {
 
 class Errors(unittest.TestCase):
     def test_what_each_language_prints(self) -> None:
-        for name, (printed, wanted) in PRINTED.items():
+        for name, (output, expectation) in PRINTED.items():
             with self.subTest(name):
-                self.assertEqual(error_in(printed), wanted)
+                self.assertEqual(error_in(output), expectation)
 
     def test_a_program_that_was_called_otherwise_says_how(self) -> None:
-        called = "python3 careful.py HOST PORT KEY NODES"
-        for printed, wanted in (
+        caller = "python3 careful.py HOST PORT KEY NODES"
+        for output, expectation in (
             (
-                f"Searches a ring.\n\n    {called}\n\nNothing is decided by time.\n",
-                called,
+                f"Searches a ring.\n\n    {caller}\n\nNothing is decided by time.\n",
+                caller,
             ),
             ("usage: ./careful HOST PORT KEY NODES\n", "./careful HOST PORT KEY NODES"),
             (
@@ -184,26 +184,28 @@ class Errors(unittest.TestCase):
             ("starting\nat HOME SWEET\n", ""),
             ("  HOST PORT\n", ""),
         ):
-            self.assertEqual(usage_in(printed), wanted)
+            self.assertEqual(usage_in(output), expectation)
 
     def test_who_reads_one_answer_of_a_departure_is_asked_about_the_other(self) -> None:
-        said = asked_behind("KeyError: 'ports' (careful.py, line 44)")
+        output = asked_behind("KeyError: 'ports' (careful.py, line 44)")
         self.assertEqual(
-            said,
+            output,
             "; an answer had no `ports`: a departure is answered twice, are both answers read?",
         )
         self.assertEqual(asked_behind("KeyError: 'links'"), "")
 
     def test_what_programs_print_here(self) -> None:
-        for name, (source, command, wanted) in SOURCES.items():
+        for name, (source, command, expectation) in SOURCES.items():
             if shutil.which(command[0]) is None:
                 continue
             with self.subTest(name), tempfile.TemporaryDirectory() as folder:
                 (pathlib.Path(folder) / name).write_text(source)
-                ran = subprocess.run(
+                result = subprocess.run(
                     command, cwd=folder, capture_output=True, text=True
                 )
-                self.assertTrue(error_in(ran.stderr).startswith(wanted), ran.stderr)
+                self.assertTrue(
+                    error_in(result.stderr).startswith(expectation), result.stderr
+                )
 
     def test_whatever_is_printed_there_is_a_line_soon(self) -> None:
         for text in (

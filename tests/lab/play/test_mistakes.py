@@ -9,12 +9,12 @@ from arena_lab.play.mistakes import (
     LONG,
     MISTAKES,
     PORT,
-    SHOWN,
+    MAX_SHOWN,
     UNENDED,
     RefusedLine,
     Refusals,
     likely,
-    shown,
+    quote_line,
 )
 from arena_lab.rules.model import BAD, command_of, text_of
 
@@ -109,15 +109,15 @@ class Lines(unittest.TestCase):
         self.assertGreaterEqual(len(ROWS), 15)
 
     def test_each_mistake_gets_its_sentence(self) -> None:
-        for name, (wanted, lines) in ROWS.items():
+        for name, (row, lines) in ROWS.items():
             for line in lines:
                 with self.subTest(name, line=line[:80]):
-                    self.assertIn(wanted, likely(line))
+                    self.assertIn(row, likely(line))
                     self.assertEqual(
                         next(
-                            it
-                            for it, said in MISTAKES.items()
-                            if said(RefusedLine(line))
+                            mistake
+                            for mistake, message in MISTAKES.items()
+                            if message(RefusedLine(line))
                         ),
                         name,
                     )
@@ -135,14 +135,16 @@ class Lines(unittest.TestCase):
 
     def test_what_is_shown_is_escaped_and_cut(self) -> None:
         self.assertEqual(
-            shown(b"\x1b[2J\xff\xef\xbb\xbfa\x00"), "\\x1b[2J\\xff\\ufeffa\\x00"
+            quote_line(b"\x1b[2J\xff\xef\xbb\xbfa\x00"), "\\x1b[2J\\xff\\ufeffa\\x00"
         )
-        self.assertEqual(shown(b"x" * 70_000), f"{'x' * SHOWN}.. (70,000 bytes)")
-        self.assertEqual(shown("é".encode() * SHOWN), "é" * SHOWN)
+        self.assertEqual(
+            quote_line(b"x" * 70_000), f"{'x' * MAX_SHOWN}.. (70,000 bytes)"
+        )
+        self.assertEqual(quote_line("é".encode() * MAX_SHOWN), "é" * MAX_SHOWN)
         # a line is shown whatever bytes it has, and so is its mistake
         for first in range(256):
             raw = bytes([first]) * 400
-            self.assertTrue(shown(raw).isprintable() and likely(raw).isprintable())
+            self.assertTrue(quote_line(raw).isprintable() and likely(raw).isprintable())
 
     def test_deep_and_hostile_lines_have_a_sentence(self) -> None:
         for line in (
@@ -161,9 +163,9 @@ class Lines(unittest.TestCase):
 
 
 class Told(unittest.TestCase):
-    def said(self, *noted: Tuple[int, str, bytes]) -> List[str]:
+    def sentences(self, *args: Tuple[int, str, bytes]) -> List[str]:
         refusals = Refusals(["k0", "k1"])
-        for agent, why, line in noted:
+        for agent, why, line in args:
             refusals.note(
                 agent,
                 why,
@@ -171,11 +173,11 @@ class Told(unittest.TestCase):
                 lambda text: text.replace("/tmp/x/", ""),
                 "the node has the ports 0 to 1",
             )
-        return refusals.said()
+        return refusals.sentences()
 
     def test_the_first_line_and_their_number(self) -> None:
         self.assertEqual(
-            self.said(
+            self.sentences(
                 (0, LINE, b"debug: here"),
                 (0, LINE, b'{"do":"look",}'),
                 (0, LINE, b"look"),
@@ -187,34 +189,34 @@ class Told(unittest.TestCase):
         )
 
     def test_agents_and_kinds_apart(self) -> None:
-        said = self.said(
+        output = self.sentences(
             (1, PORT, b'{"do":"depart","port":7}'),
             (0, LINE, b"look"),
             (0, LONG, b"{}"),
             (1, "spent", b""),
         )
         self.assertEqual(
-            [it.partition(":")[0] for it in said], ["agent 0", "agent 0", "agent 1"]
+            [it.partition(":")[0] for it in output], ["agent 0", "agent 0", "agent 1"]
         )
         self.assertIn(
             'named a port that its node does not have: `{"do":"depart","port":7}`: the node has the '
             "ports 0 to 1",
-            said[2],
+            output[2],
         )
 
     def test_neither_keys_nor_folders_are_told(self) -> None:
-        said = self.said(
+        output = self.sentences(
             (0, ENTER, b"{'do': 'enter', 'key': 'k0'}"), (1, LINE, b"opened /tmp/x/log")
         )
         self.assertIn(
             '\'key\': \'KEY\'}`: the first line is {"do":"enter","key":KEY}; it has single quotes',
-            said[0],
+            output[0],
         )
-        self.assertIn("`opened log`", said[1])
+        self.assertIn("`opened log`", output[1])
 
     def test_a_line_without_a_line_feed(self) -> None:
         self.assertEqual(
-            self.said((0, UNENDED, b'{"do":"look"}')),
+            self.sentences((0, UNENDED, b'{"do":"look"}')),
             [
                 'agent 0: what it sent last was not taken, as no line feed stands behind it: `{"do":"look"}`: end each '
                 "line with a line feed, and flush"

@@ -13,7 +13,7 @@ from arena_lab.play.own_modules import OwnModules, random_from
 class Randoms(unittest.TestCase):
     def test_it_draws_as_a_generator_of_its_seed(self) -> None:
         made = random_from(3)
-        wanted = random.Random(3)
+        rng = random.Random(3)
         for _ in range(3):
             self.assertEqual(
                 [
@@ -23,30 +23,30 @@ class Randoms(unittest.TestCase):
                     made.sample(range(9), 4),
                 ],
                 [
-                    wanted.random(),
-                    wanted.randint(1, 6),
-                    wanted.gauss(0, 1),
-                    wanted.sample(range(9), 4),
+                    rng.random(),
+                    rng.randint(1, 6),
+                    rng.gauss(0, 1),
+                    rng.sample(range(9), 4),
                 ],
             )
-        self.assertEqual(made.getstate(), wanted.getstate())
+        self.assertEqual(made.getstate(), rng.getstate())
 
     def test_its_draws_and_seeds_change_no_other(self) -> None:
         before = random.getstate()
-        other = random_from(3)
-        state = other.getstate()
+        second = random_from(3)
+        state = second.getstate()
         made = random_from(3)
         made.seed(7)
         made.random()
-        self.assertEqual(other.getstate(), state)
+        self.assertEqual(second.getstate(), state)
         self.assertEqual(random.getstate(), before)
 
     def test_it_is_freed_once_nobody_has_it(self) -> None:
         made = random_from(3)
-        held = weakref.ref(made._inst)
+        held_links = weakref.ref(made._inst)
         del made
         gc.collect()
-        self.assertIsNone(held())
+        self.assertIsNone(held_links())
 
 
 class Paths(unittest.TestCase):
@@ -65,8 +65,8 @@ class Paths(unittest.TestCase):
             with modules:
                 self.assertEqual(sys.path, ["/agent", "/other", "/more"])
             # the folder of another agent
-            with OwnModules(1) as others:
-                others.begin(["/more"])
+            with OwnModules(1) as rest:
+                rest.begin(["/more"])
             with modules:
                 self.assertEqual(sys.path, ["/agent", "/other"])
             self.assertEqual(sys.path, ["/other", "/more"])

@@ -7,13 +7,13 @@ from arena_lab.rules.draws import seed_of
 from arena_lab.play.repeating import (
     Alone,
     Otherwise,
-    Said,
+    PastCommand,
     in_words,
     past_of,
     with_new_keys,
 )
 from arena_lab.rules.fixtures import fixture_of
-from arena_lab.rules.model import GONE, Setup, spelled
+from arena_lab.rules.model import GONE, Setup, spell
 from arena_lab.rules.networks import ring
 from arena_lab.support.built import TOP
 
@@ -30,12 +30,12 @@ class Speaks:
         self.state = WAITS
         self.fault = None
         self.told: List[str] = []
-        self._left = [spelled(line).encode() for line in lines]
+        self._left = [spell(line).encode() for line in lines]
         self.line: Optional[bytes] = self._left.pop(0) if self._left else None
 
     def hear(self, line: str) -> None:
         self.told.append(line)
-        self.state = TRAVELS if line == spelled(GONE) else WAITS
+        self.state = TRAVELS if line == spell(GONE) else WAITS
         if self.state == WAITS:
             self.line = self._left.pop(0) if self._left else None
 
@@ -74,13 +74,13 @@ class RepeatingTest(unittest.TestCase):
     def lines(self, agent: int) -> List[Any]:
         """What an agent sent."""
         return [
-            {**said.command, "key": KEYS[agent]}
-            if said.command["do"] == "enter"
-            else said.command
-            for said in past_of(self.replay, agent)
+            {**message.command, "key": KEYS[agent]}
+            if message.command["do"] == "enter"
+            else message.command
+            for message in past_of(self.replay, agent)
         ]
 
-    def repeated(
+    def repeat(
         self, agent: int, lines: List[Any], quota: int = QUOTA
     ) -> Optional[Otherwise]:
         """Repeats an agent that says these lines."""
@@ -93,50 +93,51 @@ class RepeatingTest(unittest.TestCase):
         for agent in (0, 1):
             past = past_of(self.replay, agent)
             self.assertGreater(len(past), 2)
-            self.assertIsNone(self.repeated(agent, self.lines(agent)))
+            self.assertIsNone(self.repeat(agent, self.lines(agent)))
             self.assertEqual(
-                self.player.told, [spelled(line) for said in past for line in said.told]
+                self.player.told,
+                [spell(line) for message in past for line in message.lines],
             )
 
     def test_the_first_difference_is_told(self) -> None:
         lines = self.lines(0)
         for number in range(1, len(lines)):
-            said = self.repeated(
+            output = self.repeat(
                 0, [*lines[:number], {"do": "depart", "port": 9}, *lines[number + 1 :]]
             )
-            self.assertIsNotNone(said)
-            if said:
+            self.assertIsNotNone(output)
+            if output:
                 self.assertEqual(
-                    (said.number, said.in_match, said.alone["port"]),
+                    (output.number, output.in_match, output.alone["port"]),
                     (number + 1, lines[number], 9),
                 )
 
     def test_who_ends_before_has_left(self) -> None:
-        said = self.repeated(0, self.lines(0)[:1])
-        self.assertEqual(said.alone if said else None, {"do": "leave"})
+        output = self.repeat(0, self.lines(0)[:1])
+        self.assertEqual(output.alone if output else None, {"do": "leave"})
 
     def test_another_key_is_a_difference(self) -> None:
-        said = self.repeated(0, [{"do": "enter", "key": "kb"}])
-        self.assertEqual(said.number if said else None, 1)
-        self.assertNotIn("kb", str(said))
+        output = self.repeat(0, [{"do": "enter", "key": "kb"}])
+        self.assertEqual(output.number if output else None, 1)
+        self.assertNotIn("kb", str(output))
 
     def test_entering_twice_is_answered(self) -> None:
         lines = self.lines(0)
-        self.assertIsNone(self.repeated(0, [lines[0], lines[0], *lines[1:]]))
-        self.assertIn(spelled({"no": "twice"}), self.player.told)
+        self.assertIsNone(self.repeat(0, [lines[0], lines[0], *lines[1:]]))
+        self.assertIn(spell({"no": "twice"}), self.player.told)
 
     def test_commands_beyond_the_quota_are_answered(self) -> None:
         past = [
-            Said({"do": "enter"}, [{}]),
-            Said(LOOK, [{}]),
-            Said({"do": "leave"}, [{}]),
+            PastCommand({"do": "enter"}, [{}]),
+            PastCommand(LOOK, [{}]),
+            PastCommand({"do": "leave"}, [{}]),
         ]
-        for quota, expected in ((1, None), (2, 3)):
+        for quota, expectation in ((1, None), (2, 3)):
             player: Any = Speaks(
                 0, [{"do": "enter", "key": "ka"}, LOOK, LOOK, {"do": "leave"}]
             )
-            said = Alone(player, "ka", quota).otherwise(past)
-            self.assertEqual(said.number if said else None, expected)
+            otherwise = Alone(player, "ka", quota).otherwise(past)
+            self.assertEqual(otherwise.number if otherwise else None, expectation)
 
     def test_who_sleeps_wakes_until_it_says_something(self) -> None:
         """How often an agent has slept stands in no replay."""
@@ -148,15 +149,15 @@ class RepeatingTest(unittest.TestCase):
 
     def test_keys_are_new_each_time(self) -> None:
         """So that no program finds by its key what an earlier one has left."""
-        found = fixture_of(Setup(4, ring(4).links, 0, [2], 2, QUOTA, 64))
-        keys = [key for _ in range(5) for key in with_new_keys(found).keys]
-        self.assertEqual(len(set(keys) - set(found.keys)), 10)
+        fixture = fixture_of(Setup(4, ring(4).links, 0, [2], 2, QUOTA, 64))
+        keys = [key for _ in range(5) for key in with_new_keys(fixture).keys]
+        self.assertEqual(len(set(keys) - set(fixture.keys)), 10)
 
     def test_who_did_not_enter_may_not_enter(self) -> None:
-        for lines, expected in (([], None), ([{"do": "enter", "key": "ka"}], 1)):
+        for lines, expectation in (([], None), ([{"do": "enter", "key": "ka"}], 1)):
             player: Any = Speaks(0, lines)
-            said = Alone(player, "ka", QUOTA).otherwise([])
-            self.assertEqual(said.number if said else None, expected)
+            otherwise = Alone(player, "ka", QUOTA).otherwise([])
+            self.assertEqual(otherwise.number if otherwise else None, expectation)
 
     def test_what_was_said_hides_nothing(self) -> None:
         text = in_words({"do": "write", "expect": "", "put": "a\u202e\x1b[8mb"})
@@ -164,7 +165,7 @@ class RepeatingTest(unittest.TestCase):
         self.assertEqual(in_words({"do": "depart", "port": 1}), "depart port 1")
 
     def test_a_seed_fits_everywhere_and_comes_from_the_key(self) -> None:
-        found = [seed_of(f"k{number}") for number in range(200)]
-        self.assertEqual(len(set(found)), 200)
-        self.assertTrue(all(0 <= seed < 2**31 for seed in found))
-        self.assertEqual(seed_of("k0"), found[0])
+        results = [seed_of(f"k{number}") for number in range(200)]
+        self.assertEqual(len(set(results)), 200)
+        self.assertTrue(all(0 <= seed < 2**31 for seed in results))
+        self.assertEqual(seed_of("k0"), results[0])

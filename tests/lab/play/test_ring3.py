@@ -4,9 +4,9 @@ import functools
 import math
 import unittest
 
-from arena_lab.play.agent_files import AGENTS, loaded
+from arena_lab.play.agent_files import AGENTS, load_module
 
-ring3 = loaded(AGENTS / "ring3.py")
+ring3 = load_module(AGENTS / "ring3.py")
 
 
 def most_moves(nodes: int) -> int:
@@ -14,37 +14,43 @@ def most_moves(nodes: int) -> int:
     ways between the agents."""
 
     @functools.lru_cache(None)
-    def ways(left: int) -> int:
+    def ways(remaining: int) -> int:
         """The most that ways cost from a division of what is left on, with the way of
         the agent that divides. A way to somewhere and back is two moves shorter, as an
         agent goes to its last safe node only to go on from there."""
-        if left == 1:
+        if remaining == 1:
             return 0
-        way = nodes - 1 - left
-        mine, middle = ring3.parts(left)
-        most = 0
+        variant = nodes - 1 - remaining
+        mine, middle = ring3.parts(remaining)
+        limit = 0
         for first, last, near in (
-            (mine, left - mine - middle, way - way // 2),
-            (left - mine - middle, mine, way // 2),
+            (mine, remaining - mine - middle, variant - variant // 2),
+            (remaining - mine - middle, mine, variant // 2),
         ):
             if not middle:
-                most = max(most, met(last, way + first))
+                limit = max(limit, moves_from(last, variant + first))
                 continue
-            taken = 2 * (near + first) - 2
-            seen = (
-                2 * (way - near + last) - 2
+            duration = 2 * (near + first) - 2
+            observations = (
+                2 * (variant - near + last) - 2
                 if middle == 1
-                else met(middle, way + first + last)
+                else moves_from(middle, variant + first + last)
             )
-            most = max(most, taken + met(last, way + first + middle), taken + seen)
-        return way + most
+            limit = max(
+                limit,
+                duration + moves_from(last, variant + first + middle),
+                duration + observations,
+            )
+        return variant + limit
 
     @functools.lru_cache(None)
-    def met(left: int, way: int) -> int:
-        """The most from where an agent has done all but the part of the other, which
-        may come some nodes far."""
+    def moves_from(remaining: int, variant: int) -> int:
+        """Returns the most moves from a state in which only the part of the other agent
+        is left, which may end several nodes away."""
         return (
-            0 if left == 1 else way - 2 + max(i + ways(left - i) for i in range(left))
+            0
+            if remaining == 1
+            else variant - 2 + max(i + ways(remaining - i) for i in range(remaining))
         )
 
     return 3 * (nodes - 2) + 1 + ways(nodes - 1)
@@ -52,15 +58,15 @@ def most_moves(nodes: int) -> int:
 
 class Division(unittest.TestCase):
     def test_each_agent_has_a_part_and_the_parts_are_what_is_left(self) -> None:
-        for left in range(2, 256):
-            mine, middle = ring3.parts(left)
-            theirs = left - mine - middle
-            with self.subTest(left=left):
+        for remaining in range(2, 256):
+            mine, middle = ring3.parts(remaining)
+            theirs = remaining - mine - middle
+            with self.subTest(left=remaining):
                 self.assertGreaterEqual(min(mine, theirs), 1)
                 self.assertLessEqual(abs(mine - theirs), 0 if middle else 1)
                 self.assertLessEqual(
                     max(mine, middle, theirs),
-                    (left + 2) // 3 if middle else (left + 1) // 2,
+                    (remaining + 2) // 3 if middle else (remaining + 1) // 2,
                 )
 
     def test_most_moves(self) -> None:

@@ -10,8 +10,8 @@ from arena_lab.commands import run as command
 from arena_lab.commands.run import Tally, rank, report, seeds
 
 
-def row(**more: Any) -> Dict[str, Any]:
-    return {"outcome": "solved", "failed": False, "moves": 5, "choices": 9, **more}
+def row(**extra: Any) -> Dict[str, Any]:
+    return {"outcome": "solved", "failed": False, "moves": 5, "choices": 9, **extra}
 
 
 class Rows(unittest.TestCase):
@@ -20,8 +20,8 @@ class Rows(unittest.TestCase):
             print("not a row")
             yield mock.Mock(line=lambda: "a row")
 
-        said = io.StringIO()
-        told = io.StringIO()
+        stream = io.StringIO()
+        message = io.StringIO()
         words = argparse.Namespace(
             json=True,
             seeds=None,
@@ -31,8 +31,8 @@ class Rows(unittest.TestCase):
             repeat=False,
             workers=1,
         )
-        with contextlib.redirect_stdout(said), contextlib.redirect_stderr(
-            told
+        with contextlib.redirect_stdout(stream), contextlib.redirect_stderr(
+            message
         ), mock.patch.object(command, "program_of"), mock.patch.object(
             command, "game_of"
         ), mock.patch.object(
@@ -41,7 +41,9 @@ class Rows(unittest.TestCase):
             command, "Tally", mock.Mock(return_value=mock.Mock(best=None))
         ):
             command.run(words)
-        self.assertEqual((said.getvalue(), told.getvalue()), ("a row\n", "not a row\n"))
+        self.assertEqual(
+            (stream.getvalue(), message.getvalue()), ("a row\n", "not a row\n")
+        )
 
 
 class Words(unittest.TestCase):
@@ -58,13 +60,13 @@ class Words(unittest.TestCase):
 class Tallies(unittest.TestCase):
     def test_the_most_moves_or_the_shortest_failure(self) -> None:
         tally: Any = Tally()
-        for given in (
+        for arguments in (
             row(),
             row(moves=7),
             row(moves=6),
             row(failed=True, outcome="guess 1", choices=20),
         ):
-            tally.add(given)
+            tally.add(arguments)
         self.assertEqual(tally.outcomes, {"solved": 3, "guess": 1})
         self.assertEqual((tally.failed, tally.best["choices"]), (1, 20))
         tally.add(row(failed=True, choices=8))
@@ -72,19 +74,19 @@ class Tallies(unittest.TestCase):
         self.assertGreater(rank(row(moves=7)), rank(row()))  # type: ignore[arg-type]
 
     def test_networks_that_are_solved_while_an_agent_fails(self) -> None:
-        """Of sixty matches that are solved, in all of which an agent fails, it is said
-        that they are the same."""
+        """Reports that sixty matches count both as solved and as failed, because an
+        agent fails in each."""
         tally = Tally()
-        said = io.StringIO()
+        stream = io.StringIO()
         for _ in range(60):
             tally.add(row(failed=True, seed=0, home=0, holes=[1]))  # type: ignore[arg-type]
         best: Any = mock.Mock()
-        best.match().told.return_value = []
+        best.match().report.return_value = []
         best.match().faults.return_value = []
-        best.match().played.refused = []
+        best.match().match.refusals = []
         best.__getitem__ = mock.Mock(return_value=0)
-        report(tally, best, None, said)
+        report(tally, best, None, stream)
         self.assertIn(
             "60 schedules: solved 60; failed 60, of which 60 solved, but an agent failed\n",
-            said.getvalue(),
+            stream.getvalue(),
         )

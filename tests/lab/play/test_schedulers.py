@@ -9,8 +9,8 @@ from arena_lab.play.schedulers import (
     ARRIVE,
     WAKE,
     Choice,
-    ScheduleEnded,
-    Impossible,
+    ScheduleEndedError,
+    ImpossibleError,
 )
 
 ANSWERS = [Choice(ANSWER, agent) for agent in range(3)]
@@ -28,17 +28,17 @@ def state(pool: List[int]) -> Any:
 
 class Schedulers(unittest.TestCase):
     def test_a_seed_gives_the_same_choices(self) -> None:
-        for name, maker in schedulers.NAMED.items():
+        for name, maker in schedulers.SCHEDULER_MAKERS.items():
             with self.subTest(name):
-                one, two = (
+                first, two = (
                     [choose(ARRIVALS, state([2, 0, 1])) for _ in range(50)]
                     for choose in (maker(1), maker(1))
                 )
-                self.assertEqual(one, two)
+                self.assertEqual(first, two)
 
     def test_each_that_draws_chooses_each_in_the_end(self) -> None:
         for name in ("fair", "slow-agents", "slow-links"):
-            choose = schedulers.NAMED[name](3)
+            choose = schedulers.SCHEDULER_MAKERS[name](3)
             with self.subTest(name):
                 self.assertEqual(
                     {choose(ARRIVALS, state([0, 1, 2])) for _ in range(5000)},
@@ -54,14 +54,14 @@ class Schedulers(unittest.TestCase):
 
     def test_slow_links_are_slow_for_the_whole_match_and_answers_are_not(self) -> None:
         choose = schedulers.slow_links(SLOW)
-        arrived = [0, 0, 0]
+        arrival = [0, 0, 0]
         for _ in range(3000):
-            arrived[choose(ARRIVALS, state([0, 1, 2])).agent] += 1
-        self.assertLess(min(arrived) * 3, max(arrived))
-        answered = [0, 0, 0]
+            arrival[choose(ARRIVALS, state([0, 1, 2])).agent] += 1
+        self.assertLess(min(arrival) * 3, max(arrival))
+        answer = [0, 0, 0]
         for _ in range(3000):
-            answered[choose(ANSWERS, state([])).agent] += 1
-        self.assertGreater(min(answered) * 3, max(answered))
+            answer[choose(ANSWERS, state([])).agent] += 1
+        self.assertGreater(min(answer) * 3, max(answer))
 
     def test_the_last_that_departed_arrives_first_once_nobody_is_to_be_answered(
         self,
@@ -71,7 +71,7 @@ class Schedulers(unittest.TestCase):
         self.assertEqual(choose([ARRIVALS[0], ANSWERS[1]], state([0])), ANSWERS[1])
 
     def test_the_starved_wait_for_all_others(self) -> None:
-        choose = schedulers.starved(1)
+        choose = schedulers.starved_scheduler(1)
         self.assertNotIn(
             Choice(ANSWER, 1), {choose(ANSWERS, state([])) for _ in range(100)}
         )
@@ -80,14 +80,14 @@ class Schedulers(unittest.TestCase):
     def test_runs(self) -> None:
         choose = schedulers.in_runs([(1, 2), (2, 1), (4, 1)])
         lone = [ANSWERS[0]]
-        found = [
+        results = [
             choose(choices, state([])).agent
             for choices in (ANSWERS, lone, ANSWERS, ANSWERS, ANSWERS, ANSWERS)
         ]
-        self.assertEqual(found, [1, 0, 1, 2, 1, 0])
+        self.assertEqual(results, [1, 0, 1, 2, 1, 0])
 
     def test_a_recorded_schedule(self) -> None:
-        choose = schedulers.recorded([ANSWERS[1], ARRIVALS[0]])
+        choose = schedulers.recorded_scheduler([ANSWERS[1], ARRIVALS[0]])
         self.assertEqual(choose(ANSWERS, state([])), ANSWERS[1])
-        self.assertRaises(Impossible, choose, ANSWERS, state([]))
-        self.assertRaises(ScheduleEnded, choose, ANSWERS, state([]))
+        self.assertRaises(ImpossibleError, choose, ANSWERS, state([]))
+        self.assertRaises(ScheduleEndedError, choose, ANSWERS, state([]))

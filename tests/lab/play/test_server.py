@@ -38,7 +38,7 @@ def turns_of_moves(
         contest.take(agent, b'{"do":"enter","key":"k%d"}' % agent)
     if is_other_destroyed:
         contest.take(1, b'{"do":"depart","port":1}')
-    found = []
+    results = []
     port = 0
     turns = 0
     walker = contest.matches[0].agents[0]
@@ -47,9 +47,9 @@ def turns_of_moves(
         while walker.standing == AWAY:
             contest.turn(0)
             turns += 1
-        found.append(turns)
+        results.append(turns)
         port = walker.came
-    return found
+    return results
 
 
 class Clients(unittest.TestCase):
@@ -63,12 +63,12 @@ class Clients(unittest.TestCase):
             with self.assertRaises(TimeoutError):
                 while True:
                     ours.sendall(b'{"do":"look"}\n' * 1000)
-            other = threading.Thread(
+            thread = threading.Thread(
                 target=contest.take, args=(1, b'{"do":"enter","key":"k1"}'), daemon=True
             )
-            other.start()
-            other.join(20)
-            self.assertFalse(other.is_alive())
+            thread.start()
+            thread.join(20)
+            self.assertFalse(thread.is_alive())
 
 
 class DelaysTest(InTemporary):
@@ -78,10 +78,16 @@ class DelaysTest(InTemporary):
 
     def test_turns_tell_nothing_of_who_is_destroyed(self) -> None:
         self.assertEqual(
-            *(turns_of_moves(DELAYS, destroyed, 40) for destroyed in (False, True))
+            *(
+                turns_of_moves(DELAYS, destroyed_value, 40)
+                for destroyed_value in (False, True)
+            )
         )
         self.assertNotEqual(
-            *(turns_of_moves(None, destroyed, 40) for destroyed in (False, True))
+            *(
+                turns_of_moves(None, destroyed_value, 40)
+                for destroyed_value in (False, True)
+            )
         )
 
     def test_agents_wait_for_their_delays(self) -> None:

@@ -9,7 +9,7 @@ from arena_lab.play import parallel
 
 
 def deaf(is_ready: Any) -> None:
-    """Does not end when it is asked to."""
+    """Ignores SIGTERM."""
     signal.signal(signal.SIGTERM, signal.SIG_IGN)
     is_ready.set()
     signal.pause()

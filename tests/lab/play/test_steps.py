@@ -4,8 +4,15 @@ import math
 import unittest
 from typing import Any
 
-from arena_lab.play.agent_files import NoAgent, function_of
-from arena_lab.play.steps import NotPlain, check, fresh, is_step, memory_of, name_of
+from arena_lab.play.agent_files import AgentError, function_of
+from arena_lab.play.steps import (
+    NotPlainError,
+    check,
+    fresh,
+    is_step,
+    memory_of,
+    name_of,
+)
 
 PLAIN = [
     None,
@@ -56,8 +63,10 @@ class Memories(unittest.TestCase):
     def test_plain_values_are_made_again_of_their_names(self) -> None:
         for value in PLAIN:
             with self.subTest(value):
-                made = memory_of(name_of(value))
-                self.assertEqual((repr(made), type(made)), (repr(value), type(value)))
+                memory = memory_of(name_of(value))
+                self.assertEqual(
+                    (repr(memory), type(memory)), (repr(value), type(value))
+                )
 
     def test_different_values_have_different_names(self) -> None:
         names = [name_of(value) for value in PLAIN]
@@ -65,32 +74,32 @@ class Memories(unittest.TestCase):
 
     def test_equal_values_have_one_name_whatever_they_share(self) -> None:
         text = "".join(["le", "ft"])
-        for one, other in (
+        for first, second in (
             ((text, text), (text, "".join(["le", "ft"]))),
             (["left"], [text]),
         ):
-            self.assertEqual(name_of(one), name_of(other))
+            self.assertEqual(name_of(first), name_of(second))
 
     def test_other_values_are_refused(self) -> None:
         for value in OTHERS:
-            with self.subTest(repr(value)), self.assertRaises(NotPlain):
+            with self.subTest(repr(value)), self.assertRaises(NotPlainError):
                 check(value)
         with self.assertRaisesRegex(
-            NotPlain,
+            NotPlainError,
             r"^its memory holds \{1\}, of type set: hold None, True, False, numbers",
         ):
             name_of((0, {1}))
 
     def test_a_step_keeps_nothing_in_what_it_gives(self) -> None:
-        kept: Any = []
+        record: Any = []
 
         def step(memory: Any, _reply: Any) -> Any:
-            kept.append(memory)
-            return kept if memory is None else memory, {"do": "look"}
+            record.append(memory)
+            return record if memory is None else memory, {"do": "look"}
 
         first, _ = fresh(step)(None, {})
         self.assertEqual(first, [None])
-        kept.append(7)
+        record.append(7)
         self.assertEqual(fresh(step)(first, {})[0], [None])
 
 
@@ -98,5 +107,5 @@ class Files(unittest.TestCase):
     def test_a_file_without_a_search_has_a_step(self) -> None:
         self.assertTrue(is_step(function_of("examples/agents/ring_step.py {nodes}")))
         self.assertFalse(is_step(function_of("examples/agents/ring.py {nodes}")))
-        with self.assertRaisesRegex(NoAgent, "it has no function search or step$"):
+        with self.assertRaisesRegex(AgentError, "it has no function search or step$"):
             function_of("examples/agents/client.py")

@@ -3,19 +3,19 @@ import unittest
 from typing import List, Optional, Tuple
 
 from arena_lab.pages.screen import WatchedMatch, standings, teams
-from arena_lab.pages.teams import Came, networks_of, ranked
+from arena_lab.pages.teams import MatchOutcome, networks_of, rank_teams
 from arena_lab.rules.model import Match, Setup, Verdict
 from arena_lab.rules.networks import ring
 
 
-def came(
+def outcome_of(
     team: str,
     outcome: Optional[str],
     moves: int = 0,
     network: str = "r",
     has_entered: bool = True,
-) -> Came:
-    return Came(
+) -> MatchOutcome:
+    return MatchOutcome(
         team,
         network,
         None if outcome is None else Verdict(outcome, moves, 1),
@@ -24,49 +24,51 @@ def came(
 
 
 class Standings(unittest.TestCase):
-    def places(self, found: List[Came]) -> List[Tuple[int, str, int, int]]:
-        return [(row.place, row.team, row.solved, row.moves) for row in ranked(found)]
+    def places(self, outcomes: List[MatchOutcome]) -> List[Tuple[int, str, int, int]]:
+        return [
+            (row.place, row.team, row.solved, row.moves) for row in rank_teams(outcomes)
+        ]
 
     def test_one_row_a_team_by_what_it_solved_and_then_by_moves(self) -> None:
-        found = [
-            came("a", "solved", 9),
-            came("a", "guess", 1),
-            came("b", "solved", 5),
-            came("b", "solved", 7, "s"),
-            came("c", "solved", 8),
-            came("c", None),
+        results = [
+            outcome_of("a", "solved", 9),
+            outcome_of("a", "guess", 1),
+            outcome_of("b", "solved", 5),
+            outcome_of("b", "solved", 7, "s"),
+            outcome_of("c", "solved", 8),
+            outcome_of("c", None),
         ]
         self.assertEqual(
-            self.places(found), [(1, "b", 2, 12), (2, "c", 1, 8), (3, "a", 1, 9)]
+            self.places(results), [(1, "b", 2, 12), (2, "c", 1, 8), (3, "a", 1, 9)]
         )
-        self.assertEqual(ranked(found)[0].networks, {"r": (1, 1), "s": (1, 1)})
-        self.assertEqual(networks_of(found), ["r", "s"])
+        self.assertEqual(rank_teams(results)[0].networks, {"r": (1, 1), "s": (1, 1)})
+        self.assertEqual(networks_of(results), ["r", "s"])
 
     def test_equal_teams_share_a_place_and_who_never_came_stands_last(self) -> None:
-        found = [
-            came("late", "silent", has_entered=False),
-            came("a", "silent"),
-            came("b", "wrong", 30),
-            came("none", None, has_entered=False),
+        results = [
+            outcome_of("late", "silent", has_entered=False),
+            outcome_of("a", "silent"),
+            outcome_of("b", "wrong", 30),
+            outcome_of("none", None, has_entered=False),
         ]
         self.assertEqual(
-            [(row.place, row.team, row.is_absent) for row in ranked(found)],
+            [(row.place, row.team, row.is_absent) for row in rank_teams(results)],
             [(1, "a", False), (1, "b", False), (3, "late", True), (3, "none", True)],
         )
 
     def test_traps_are_counted_apart(self) -> None:
-        def trap(team: str, outcome: str) -> Came:
-            return came(team, outcome)._replace(is_trap=True)
+        def trap(team: str, outcome: str) -> MatchOutcome:
+            return outcome_of(team, outcome)._replace(is_trap=True)
 
-        found = [
-            came("a", "solved", 9),
+        results = [
+            outcome_of("a", "solved", 9),
             trap("a", "silent"),
-            came("b", "solved", 5),
+            outcome_of("b", "solved", 5),
             trap("b", "wrong"),
-            came("c", "solved", 9),
+            outcome_of("c", "solved", 9),
             trap("c", "unfinished"),
         ]
-        rows = ranked(found)
+        rows = rank_teams(results)
         self.assertEqual(
             [(row.place, row.team, row.traps, row.deceived) for row in rows],
             [(1, "a", 1, 0), (1, "c", 1, 0), (3, "b", 1, 1)],
@@ -100,15 +102,15 @@ class Standings(unittest.TestCase):
 
     def test_matches_as_they_are_watched(self) -> None:
         setup = Setup(3, ring(3).links, 0, [2], 2, 10, 8)
-        solved = Match(setup)
+        solved_count = Match(setup)
         running = Match(setup)
         empty = Match(setup)
         for event in ({"do": "enter"}, {"do": "depart", "port": 0}):
-            solved.tell(0, event)
-        solved.deliver(0)
-        solved.tell(0, {"do": "accuse", "port": 0})
-        running.tell(0, {"do": "enter"})
-        for match in (solved, empty):
+            solved_count.reply_to(0, event)
+        solved_count.deliver(0)
+        solved_count.reply_to(0, {"do": "accuse", "port": 0})
+        running.reply_to(0, {"do": "enter"})
+        for match in (solved_count, empty):
             match.close()
         rows = standings(
             [
@@ -116,13 +118,13 @@ class Standings(unittest.TestCase):
                 for team, match in (
                     ("red", running),
                     ("blue", empty),
-                    ("red", solved),
+                    ("red", solved_count),
                     ("green", None),
                 )
             ]
         )
-        told = teams(rows, ["r", "r", "s", "s"])
-        self.assertEqual(told["networks"], ["r", "s"])
+        message = teams(rows, ["r", "r", "s", "s"])
+        self.assertEqual(message["networks"], ["r", "s"])
         self.assertEqual(
             [
                 (
@@ -132,7 +134,7 @@ class Standings(unittest.TestCase):
                     row["is_absent"],
                     row["networks"],
                 )
-                for row in told["rows"]
+                for row in message["rows"]
             ],
             [
                 (1, "red", 1, False, [(0, 1), (1, 1)]),

@@ -33,10 +33,10 @@ class Advice(unittest.TestCase):
         for fault in ("run at byte 38", "run type at byte 38", "opcode 9 at byte 1"):
             with self.subTest(fault):
                 word = fault.partition(" at")[0].removesuffix(" 9")
-                told = f"/tmp/a b.wasm: {fault}"
-                self.assertEqual(with_advice(told), f"{told}: {ADVICE[word]}")
-        told = "a.wasm: import type arena.look at byte 21"
-        self.assertEqual(with_advice(told), f"{told}: {ADVICE['import type']}")
+                text = f"/tmp/a b.wasm: {fault}"
+                self.assertEqual(with_advice(text), f"{text}: {ADVICE[word]}")
+        text = "a.wasm: import type arena.look at byte 21"
+        self.assertEqual(with_advice(text), f"{text}: {ADVICE['import type']}")
 
     def test_other_faults_stay(self) -> None:
         for fault in ("a.wasm: memory", "cup.toml: run at byte 38", "no match 9"):

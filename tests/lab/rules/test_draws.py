@@ -1,4 +1,4 @@
-"""What is drawn of a match, and that nothing else draws it."""
+"""Checks the draws of matches, and that only one module makes them."""
 import ast
 import random
 import unittest
@@ -9,7 +9,7 @@ from arena_lab.rules import draws, networks
 from arena_lab.rules.draws import DRAWN, Open
 from arena_lab.support.built import LAB
 
-RING = networks.named("ring:4")
+RING = networks.network_named("ring:4")
 # calls that draw nodes or seeds, and the modules that have other things to draw by them
 CALLS = ("sample", "randrange", "getrandbits", "randbits")
 OTHERS = {
@@ -40,39 +40,41 @@ class Draws(unittest.TestCase):
         self.assertEqual(set(drawing()) - OTHERS, set())
 
     def test_what_is_left_open_is_drawn_and_nothing_else(self) -> None:
-        network = networks.named("hypercube:3")
-        chance = random.Random(1)
+        network = networks.network_named("hypercube:3")
+        rng = random.Random(1)
         homes = set()
         holes = set()
         ports = set()
         for _ in range(300):
-            found = draws.drawn(network, chance, Open(holes=2, closed=1))
-            self.assertNotIn(found.home, found.holes)
-            self.assertEqual(len(set(found.holes)), 2)
-            self.assertEqual(len(found.held), 3)
-            homes.add(found.home)
-            holes.update(found.holes)
-            ports.add(found.ports)
+            match = draws.draw_match(network, rng, Open(holes=2, closed_pairs=1))
+            self.assertNotIn(match.home, match.holes)
+            self.assertEqual(len(set(match.holes)), 2)
+            self.assertEqual(len(match.held), 3)
+            homes.add(match.home)
+            holes.update(match.holes)
+            ports.add(match.ports)
         self.assertEqual((homes, holes), (set(range(8)), set(range(8))))
         self.assertEqual(len(ports), 300)
-        found = draws.drawn(network, chance, Open(3, ports=None))
-        self.assertEqual((found.home, found.network), (3, network))
+        match = draws.draw_match(network, rng, Open(3, ports=None))
+        self.assertEqual((match.home, match.network), (3, network))
 
     def test_more_nodes_than_there_are(self) -> None:
-        with self.assertRaisesRegex(networks.NoNetwork, "only 3 nodes can be"):
-            draws.drawn(RING, random.Random(0), Open(holes=3, closed=1))
+        with self.assertRaisesRegex(networks.NetworkError, "only 3 nodes can be"):
+            draws.draw_match(RING, random.Random(0), Open(holes=3, closed_pairs=1))
 
     def test_numbers_of_matches_go_through_all_places(self) -> None:
-        found = [draws.of_number(RING, number, Open()) for number in range(12)]
-        self.assertEqual(len({(it.home, *it.holes) for it in found}), 12)
-        plain = [draws.of_number(RING, it, Open(0, ports=None)) for it in range(3)]
+        results = [draws.of_number(RING, number, Open()) for number in range(12)]
+        self.assertEqual(len({(result.home, *result.holes) for result in results}), 12)
+        plain = [
+            draws.of_number(RING, number, Open(0, ports=None)) for number in range(3)
+        ]
         self.assertEqual([it.holes for it in plain], [[1], [2], [3]])
 
     def test_ports_in_words(self) -> None:
         for word, ports in (("drawn", DRAWN), ("given", None), ("shuffled:3", 3)):
             self.assertEqual(draws.ports_of(word), ports)
         for word in ("shuffled", "3", "Drawn", "shuffled:-1"):
-            with self.assertRaisesRegex(networks.NoNetwork, f"{word}: ports are "):
+            with self.assertRaisesRegex(networks.NetworkError, f"{word}: ports are "):
                 draws.ports_of(word)
 
     def test_keys_are_those_of_a_number(self) -> None:
@@ -85,30 +87,34 @@ class Draws(unittest.TestCase):
 class Games(unittest.TestCase):
     """What a game's seeds and its searches have of ports and home bases."""
 
-    def game(self, **more: object) -> Game:
-        return Game("ring:4", RING, [AgentWords("agent", "a.py")] * 2)._replace(**more)  # type: ignore[arg-type]
+    def game(self, **extra: object) -> Game:
+        return Game("ring:4", RING, [AgentWords("agent", "a.py")] * 2)._replace(**extra)  # type: ignore[arg-type]
 
     def test_each_match_has_keys_of_its_own(self) -> None:
         fixtures = [self.game().fixture(seed) for seed in range(6)]
-        self.assertEqual(len({key for it in fixtures for key in it.keys}), 12)
-        self.assertEqual({repr(it.setup.links) for it in fixtures}, {repr(RING.links)})
+        self.assertEqual(len({key for fixture in fixtures for key in fixture.keys}), 12)
+        self.assertEqual(
+            {repr(fixture.setup.links) for fixture in fixtures}, {repr(RING.links)}
+        )
 
     def test_every_numbering_goes_with_every_black_hole(self) -> None:
-        games = self.game(ports=DRAWN).fixed()
+        games = self.game(ports=DRAWN).drawn_games()
         self.assertEqual(len(games), NUMBERINGS)
         self.assertIn("ring:4 with ports shuffled:", games[0].name)
-        links = {repr(one.fixtures()[0].setup.links) for one in games}
+        links = {repr(game.fixtures()[0].setup.links) for game in games}
         self.assertEqual(len(links), NUMBERINGS)
-        for one in games:
-            holes = [it.setup.holes for it in one.fixtures()]
+        for game in games:
+            holes = [fixture.setup.holes for fixture in game.fixtures()]
             self.assertEqual(holes, [[1], [2], [3]])
             # its agents are taken for the same machines
-            self.assertEqual(len({repr(it.keys) for it in one.fixtures()}), 1)
-        self.assertEqual(len({repr(one.fixtures()[0].keys) for one in games}), 16)
+            self.assertEqual(
+                len({repr(fixture.keys) for fixture in game.fixtures()}), 1
+            )
+        self.assertEqual(len({repr(game.fixtures()[0].keys) for game in games}), 16)
 
     def test_every_home_base(self) -> None:
-        games = self.game(home=None).fixed()
+        games = self.game(home=None).drawn_games()
         self.assertEqual(
-            [(it.name, it.home) for it in games],
+            [(game.name, game.home) for game in games],
             [(f"ring:4, home {home}", home) for home in range(4)],
         )

@@ -6,15 +6,15 @@ import unittest
 from arena_lab.rules.fixtures import (
     SEED,
     Fixture,
-    NoMatch,
-    checked,
+    MatchError,
+    check_setup,
     fixture_of,
     read_tournament,
     tournament_text,
     write_tournament,
 )
 from arena_lab.rules.model import Match, Setup
-from arena_lab.rules.networks import NoNetwork, in_file, ring, text_of
+from arena_lab.rules.networks import NetworkError, in_file, ring, text_of
 from tests.support.output import InTemporary
 
 NETWORK = ring(4)
@@ -28,7 +28,7 @@ class Setups(unittest.TestCase):
             RIGHT._replace(holes=[1, 3]),
             RIGHT._replace(holes=[], dark=[(0, 0), (0, 1)]),
         ):
-            self.assertEqual(checked(setup), setup)
+            self.assertEqual(check_setup(setup), setup)
 
     def test_what_is_refused(self) -> None:
         wrong = {
@@ -45,8 +45,8 @@ class Setups(unittest.TestCase):
             "a dark link is named twice": RIGHT._replace(dark=[(0, 0), (1, 1)]),
         }
         for why, setup in wrong.items():
-            with self.subTest(why), self.assertRaisesRegex(NoMatch, why):
-                checked(setup)
+            with self.subTest(why), self.assertRaisesRegex(MatchError, why):
+                check_setup(setup)
 
 
 class Versions(unittest.TestCase):
@@ -84,10 +84,10 @@ class Files(InTemporary):
             ("nodes", "Expected '=' after a key"),
         ):
             file.write_text(text, encoding="utf-8")
-            with self.subTest(text), self.assertRaisesRegex(NoNetwork, why):
+            with self.subTest(text), self.assertRaisesRegex(NetworkError, why):
                 in_file(str(file))
             with self.subTest(text), self.assertRaisesRegex(
-                NoMatch, "it is no tournament"
+                MatchError, "it is no tournament"
             ):
                 read_tournament(str(file))
 
@@ -97,7 +97,7 @@ class Files(InTemporary):
         text = tournament_text(SEED, [(fixture_of(RIGHT), "four.toml")])
         # a match without black holes lacks the key of later versions
         cup.write_text(text.replace("holes", "hloes"))
-        with self.assertRaisesRegex(NoMatch, "it has no key 'holes'"):
+        with self.assertRaisesRegex(MatchError, "it has no key 'holes'"):
             read_tournament(str(cup))
         for word in ("seed = ", "held = "):
             strange = text.replace(word, f"hled = 0\n{word}")
@@ -106,24 +106,24 @@ class Files(InTemporary):
                 self.assertEqual(len(read_tournament(str(cup)).fixtures), 1)
                 cup.write_text(strange.replace("version = 2", "version = 3"))
                 with self.assertRaisesRegex(
-                    NoMatch, "unknown key hled: the keys here are"
+                    MatchError, "unknown key hled: the keys here are"
                 ):
                     read_tournament(str(cup))
 
     def test_a_network_is_looked_for_as_the_program_does(self) -> None:
         folder = self.folder / "week"
         elsewhere = self.folder / "elsewhere"
-        for place, nodes in ((folder, 5), (elsewhere, 4)):
-            place.mkdir()
-            (place / "net.toml").write_text(text_of(ring(nodes)), encoding="utf-8")
+        for path, nodes in ((folder, 5), (elsewhere, 4)):
+            path.mkdir()
+            (path / "net.toml").write_text(text_of(ring(nodes)), encoding="utf-8")
         tournament = folder / "t.toml"
         tournament.write_text(
             tournament_text(SEED, [(fixture_of(RIGHT), "net.toml")]), encoding="utf-8"
         )
         before = os.getcwd()
         self.addCleanup(os.chdir, before)
-        for place, nodes in ((self.folder, 5), (elsewhere, 4), (folder, 5)):
-            os.chdir(place)
+        for path, nodes in ((self.folder, 5), (elsewhere, 4), (folder, 5)):
+            os.chdir(path)
             self.assertEqual(
                 read_tournament(str(tournament)).fixtures[0].setup.nodes, nodes
             )

@@ -5,16 +5,16 @@ import unittest
 
 from arena_lab.rules import limits
 from arena_lab.support.built import TOP
-from tools.size import tracked
+from tools.size import tracked_files
 
 RUST = re.compile(r"^pub const (MAX|SMALL)_(\w+): \w+ = ([\d_]+);", re.M)
 # a limit that a module states by itself
 STATED = re.compile(
-    r"^(?:MAX|MOST|SMALL)_(?:AGENTS|NODES|QUOTA|BOARD|LINE|TEXT|SCRIPT)\b[^=\n]*= *\d",
+    r"^(?:MAX|SMALL)_(?:AGENTS|NODES|QUOTA|BOARD|LINE|TEXT|SCRIPT)\b[^=\n]*= *\d",
     re.M,
 )
 # what no Python asks for: how many reads a rehearsal may take
-ALONE = {"MOST_TURNS"}
+ALONE = {"MAX_TURNS"}
 
 
 class Limits(unittest.TestCase):
@@ -24,7 +24,7 @@ class Limits(unittest.TestCase):
             for path in ("bhs_model/src/limits.rt", "bhs_net/src/faults.rt")
         )
         model = {
-            f"{kind.replace('MAX', 'MOST')}_{name}": int(number.replace("_", ""))
+            f"{kind}_{name}": int(number.replace("_", ""))
             for source in sources
             for kind, name, number in RUST.findall(source.read_text(encoding="utf-8"))
         }
@@ -36,7 +36,7 @@ class Limits(unittest.TestCase):
     def test_no_other_module_states_one(self) -> None:
         texts = (
             (str(path.relative_to(TOP)), path.read_text(encoding="utf-8"))
-            for path in tracked("*.py")
+            for path in tracked_files("*.py")
         )
         self.assertEqual(
             [

@@ -29,8 +29,8 @@ class Model(unittest.TestCase):
 
     def test_a_guess_is_written_as_its_replay(self) -> None:
         match = self.triangle()
-        match.tell(0, ENTER)
-        match.tell(0, accuse(1))
+        match.reply_to(0, ENTER)
+        match.reply_to(0, accuse(1))
         match.close()
         self.assertEqual(judge(match), ("guess 1", 0, 0))
         self.assertEqual(
@@ -52,25 +52,25 @@ class Model(unittest.TestCase):
             ([accuse(0)], "wrong"),
         ):
             match = self.triangle()
-            match.tell(0, ENTER)
-            match.tell(0, depart(0))
+            match.reply_to(0, ENTER)
+            match.reply_to(0, depart(0))
             match.deliver(0)
             for command in commands:
-                match.tell(0, command)
+                match.reply_to(0, command)
             match.close()
             self.assertEqual(outcome_of(match), outcome)
 
     def test_the_first_rule_that_holds(self) -> None:
         match = self.triangle()
-        match.tell(0, ENTER)
-        match.tell(1, ENTER)
-        match.tell(0, accuse(1))
+        match.reply_to(0, ENTER)
+        match.reply_to(1, ENTER)
+        match.reply_to(0, accuse(1))
         self.assertEqual(outcome_of(match), "unfinished")
         # of several nodes that nobody has reached the least is the guess
         links = [(v, 0, (v + 1) % 5, 1) for v in range(5)]
         match = Match(Setup(5, links, 0, [4], 1, 10, 8))
-        match.tell(0, ENTER)
-        match.tell(0, accuse(1))
+        match.reply_to(0, ENTER)
+        match.reply_to(0, accuse(1))
         self.assertEqual(outcome_of(match), "guess 1")
         self.assertEqual(outcome_of(self.triangle(holes=())), "silent")
 
@@ -89,24 +89,24 @@ class Model(unittest.TestCase):
 
     def test_a_dark_link_destroys_and_is_accused(self) -> None:
         match = self.triangle(holes=(), dark=[(0, 1)])
-        match.tell(0, ENTER)
-        match.tell(0, depart(1))
+        match.reply_to(0, ENTER)
+        match.reply_to(0, depart(1))
         match.deliver(0)
-        match.tell(1, ENTER)
+        match.reply_to(1, ENTER)
         for port in (0, 1):
-            match.tell(1, depart(port))
+            match.reply_to(1, depart(port))
             match.deliver(1)
-        match.tell(1, accuse(1))
+        match.reply_to(1, accuse(1))
         match.close()
         self.assertEqual(judge(match), ("solved", 3, 1))
 
     def test_refusals_in_order(self) -> None:
         match = self.triangle()
-        told = [
-            match.tell(0, command)
+        message = [
+            match.reply_to(0, command)
             for command in (LOOK, ENTER, ENTER, depart(0), LOOK, LEAVE, LOOK)
         ]
-        whys = [reply.get("no") or reply["ok"] for reply in told]
+        whys = [reply.get("no") or reply["ok"] for reply in message]
         self.assertEqual(
             whys, ["outside", "here", "twice", "gone", "away", "bye", "ended"]
         )

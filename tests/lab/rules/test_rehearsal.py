@@ -23,20 +23,21 @@ class Connections(unittest.TestCase):
     def setUp(self) -> None:
         self.engine = Rehearsal(ring_fixture())
 
-    def fed(self, number: int, *lines: bytes) -> List[str]:
+    def feed(self, number: int, *lines: bytes) -> List[str]:
         return [text for line in lines for _, text in self.engine.feed(number, line)]
 
     def test_denials(self) -> None:
-        self.assertEqual(self.fed(0, b'{"do":"look"}', ENTER[0]), ['{"no":"enter"}'])
+        self.assertEqual(self.feed(0, b'{"do":"look"}', ENTER[0]), ['{"no":"enter"}'])
         self.assertEqual(
-            self.fed(1, b'{"do":"enter","key":"k9"}', ENTER[0]), ['{"no":"key"}']
+            self.feed(1, b'{"do":"enter","key":"k9"}', ENTER[0]), ['{"no":"key"}']
         )
-        self.assertEqual(self.fed(2, ENTER[0]), [HERE])
-        self.assertEqual(self.fed(3, ENTER[0], ENTER[1]), ['{"no":"taken"}'])
+        self.assertEqual(self.feed(2, ENTER[0]), [HERE])
+        self.assertEqual(self.feed(3, ENTER[0], ENTER[1]), ['{"no":"taken"}'])
 
     def test_lines_wait_while_the_agent_is_on_a_link(self) -> None:
         self.assertEqual(
-            self.fed(5, ENTER[1], DEPART, b'{"do":"look"}', b" ", b"jump"), [HERE, GONE]
+            self.feed(5, ENTER[1], DEPART, b'{"do":"look"}', b" ", b"jump"),
+            [HERE, GONE],
         )
         self.assertEqual(
             self.engine.draw(7), [(5, AT_1), (5, AT_1), (5, '{"no":"line"}')]
@@ -44,7 +45,7 @@ class Connections(unittest.TestCase):
         self.assertEqual(self.engine.draw(0), [])
 
     def test_the_end_of_an_input_makes_the_agent_leave(self) -> None:
-        self.fed(0, ENTER[0], DEPART)
+        self.feed(0, ENTER[0], DEPART)
         self.assertEqual(self.engine.end(0), [])
         self.assertEqual(self.engine.match.log[-1]["do"], "depart")
         self.assertEqual(self.engine.draw(0), [(0, AT_1)])
@@ -55,18 +56,18 @@ class Connections(unittest.TestCase):
 
     def test_the_close_is_told_to_those_on_links_by_rising_number(self) -> None:
         for number, enter in ((7, ENTER[0]), (3, ENTER[1])):
-            self.fed(number, enter, DEPART)
+            self.feed(number, enter, DEPART)
         self.assertEqual(self.engine.close(), [(3, OVER), (7, OVER)])
         self.assertEqual(self.engine.close(), [])
-        self.assertEqual(self.fed(3, b'{"do":"look"}'), [])
+        self.assertEqual(self.feed(3, b'{"do":"look"}'), [])
 
     def test_a_held_link_lets_nobody_arrive(self) -> None:
         self.engine = Rehearsal(ring_fixture()._replace(held=[(0, 0)]))
-        self.fed(0, ENTER[0], DEPART)
+        self.feed(0, ENTER[0], DEPART)
         self.assertEqual(self.engine.draw(0), [])
 
     def test_the_script_is_kept(self) -> None:
-        self.fed(0, ENTER[0])
+        self.feed(0, ENTER[0])
         self.engine.draw(3)
         self.engine.end(0)
         self.engine.close()

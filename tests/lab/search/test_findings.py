@@ -91,61 +91,62 @@ FIXTURE = Fixture("lab", Setup(3, ring(3).links, 0, [2], 1, 10, 8), ["k"], [])
 GAME = Game("ring:3", ring(3), [AgentWords(INSIDE, "ring.py")], 0, [], [], 10, 8, 1, 5)
 
 
-def read(
-    told: Dict[str, Any], counts: Dict[str, Any], *modules: Dict[str, Any]
+def read_result(
+    text: Dict[str, Any], counts: Dict[str, Any], *modules: Dict[str, Any]
 ) -> MatchResult:
     """A match of which the program said this, after two seconds."""
-    return MatchResult(FIXTURE, answer_of(told, counts, modules, 2.0))
+    return MatchResult(FIXTURE, answer_of(text, counts, modules, 2.0))
 
 
 class Findings(unittest.TestCase):
     def test_lines_are_read_and_told(self) -> None:
-        for told, found, said in LINES:
-            with self.subTest(told["found"]):
-                tried = read(told, COUNTS)
-                self.assertEqual(tried.answered, ExploreAnswer(found, 2.0, 5))
+        for text_sent, line, output in LINES:
+            with self.subTest(text_sent["found"]):
+                result = read_result(text_sent, COUNTS)
+                self.assertEqual(result.answer, ExploreAnswer(line, 2.0, 5))
                 self.assertEqual(
-                    explore_program.line_of(tried), f"home 0 holes [2]: {said}, 2.0 s"
+                    explore_program.line_of(result),
+                    f"home 0 holes [2]: {output}, 2.0 s",
                 )
                 self.assertEqual(
-                    (tried.is_whole(), tried.has_failed()),
-                    (True, told["found"] != "solves"),
+                    (result.is_whole(), result.has_failed()),
+                    (True, text_sent["found"] != "solves"),
                 )
 
     def test_drawn_schedules_are_read_and_told(self) -> None:
-        for told, found, more in DRAWS:
-            with self.subTest(told["found"]):
-                tried = read(told, DRAWN)
+        for text_sent, draw, extra in DRAWS:
+            with self.subTest(text_sent["found"]):
+                result = read_result(text_sent, DRAWN)
                 self.assertEqual(
-                    (tried.answered.found, tried.answered.states), (found, None)
+                    (result.answer.finding, result.answer.states), (draw, None)
                 )
                 self.assertEqual(
-                    explore_samples.line_of(tried),
-                    f"home 0 holes [2]: {SAID}{more}, 2.0 s",
+                    explore_samples.line_of(result),
+                    f"home 0 holes [2]: {SAID}{extra}, 2.0 s",
                 )
 
     def test_more_commands_than_the_quota_are_no_result(self) -> None:
-        tried = read({"found": "exceeds", "agent": 1, "commands": 11}, COUNTS)
+        result = read_result({"found": "exceeds", "agent": 1, "commands": 11}, COUNTS)
         self.assertEqual(
-            (tried.answered.found, tried.is_whole(), tried.has_failed()),
+            (result.answer.finding, result.is_whole(), result.has_failed()),
             (Exceeds(1, 11), False, False),
         )
         self.assertEqual(
-            explore_samples.line_of(tried),
+            explore_samples.line_of(result),
             "home 0 holes [2]: under a schedule agent 1 uses 11 commands, "
             "and its quota is less, 2.0 s",
         )
 
     def test_a_module_that_fails_is_told_with_its_function(self) -> None:
-        failed = {"module": "31", "arguments": [8], "failure": "fuel", "function": 7}
-        other = {"module": "32"}
+        failures = {"module": "31", "arguments": [8], "failure": "fuel", "function": 7}
+        second = {"module": "32"}
         for agent, modules in (
-            (0, [failed]),
-            (1, [failed]),
-            (0, [failed, other]),
-            (1, [other, failed]),
+            (0, [failures]),
+            (1, [failures]),
+            (0, [failures, second]),
+            (1, [second, failures]),
         ):
-            tried = read(
+            result = read_result(
                 {
                     "found": "breaks",
                     "agent": agent,
@@ -157,44 +158,46 @@ class Findings(unittest.TestCase):
             )
             self.assertIn(
                 f"agent {agent} fails: it burns more fuel than a command has in function 7",
-                explore_program.line_of(tried),
+                explore_program.line_of(result),
             )
 
     def test_a_match_that_was_stopped_says_why(self) -> None:
-        tried = MatchResult(FIXTURE, ExploreAnswer(None, 2.0, why="stopped"))
+        result = MatchResult(FIXTURE, ExploreAnswer(None, 2.0, why="stopped"))
         for line in (explore_program.line_of, explore_samples.line_of):
-            self.assertEqual(line(tried), "home 0 holes [2]: stopped, 2.0 s")
-        self.assertEqual((tried.is_whole(), tried.has_failed()), (False, False))
+            self.assertEqual(line(result), "home 0 holes [2]: stopped, 2.0 s")
+        self.assertEqual((result.is_whole(), result.has_failed()), (False, False))
 
     def test_a_round_is_played_behind_its_schedule(self) -> None:
         self.assertEqual(turns_of(Endless((0,), (1, 0), True)), (0, 1, 0))
 
     def test_what_a_schedule_comes_to(self) -> None:
-        found = Comes(4, 1, ()), Fails("silent", 2, 1, ()), Breaks(0, "", ())
+        result = Comes(4, 1, ()), Fails("silent", 2, 1, ()), Breaks(0, "", ())
         self.assertEqual(
-            list(map(verdict_of, found)),
+            list(map(verdict_of, result)),
             [Verdict("solved", 4, 1), Verdict("silent", 2, 1), None],
         )
 
     def test_rows_of_python_programs_are_those_of_the_lines(self) -> None:
         start = {"network": "ring:3", "nodes": 3, "home": 0, "holes": [2]}
         end = {"seconds": 2.0, "why": ""}
-        for told, counts, drawn in [
-            *((told, COUNTS, None) for told, *_ in LINES),
+        for text_sent, counts, draw in [
+            *((text_sent, COUNTS, None) for text_sent, *_ in LINES),
             (DRAWS[0][0], DRAWN, 4),
         ]:
-            with self.subTest(told["found"]):
-                row = api.row_of(GAME, read(told, counts))
-                said = {name: told.get(name) for name in ("moves", "lost", "turns")}
+            with self.subTest(text_sent["found"]):
+                row = api.row_of(GAME, read_result(text_sent, counts))
+                output = {
+                    name: text_sent.get(name) for name in ("moves", "lost", "turns")
+                }
                 self.assertEqual(
                     json.dumps(row),
                     json.dumps(
                         {
                             **start,
-                            "found": told["found"],
+                            "found": text_sent["found"],
                             "states": counts.get("states"),
-                            **said,
-                            "drawn": drawn,
+                            **output,
+                            "drawn": draw,
                             **end,
                         }
                     ),
@@ -204,44 +207,47 @@ class Findings(unittest.TestCase):
 class Driver(unittest.TestCase):
     """What is tried of a game with two matches."""
 
-    def tried(
-        self, *answers: ExploreAnswer, after: driver.After = lambda tried, _: tried
+    def results(
+        self, *answers: ExploreAnswer, after: driver.After = lambda trial, _: trial
     ) -> List[MatchResult]:
         """The matches that are tried, if the program answers so."""
         job = driver.ExploreJob(GAME.matches(), "arena", 10, 0)
-        with mock.patch.object(driver, "asked", side_effect=answers), mock.patch.object(
-            driver, "Machines"
-        ) as machines:
+        with mock.patch.object(
+            driver, "run_search", side_effect=answers
+        ), mock.patch.object(driver, "Machines") as machines:
             machines.return_value.configure_mock(modules=[], seen=frozenset)
             machines.return_value.beside.configure_mock(checked=0, merged=0)
             search = driver.Search(job, after=after)
-            found = list(search.tried(mock.Mock()))
+            results = list(search.results(mock.Mock()))
         machines.return_value.stop.assert_called_once_with()
-        self.assertEqual(search.tries, found)
-        return found
+        self.assertEqual(search.tries, results)
+        return results
 
     def test_matches_are_tried_up_to_one_that_fails_or_is_stopped(self) -> None:
         solves = ExploreAnswer(Solves(1, 0, 4), 1.0, 5)
-        stopped = ExploreAnswer(None, 1.0)
+        answer = ExploreAnswer(None, 1.0)
         self.assertEqual(
-            [it.fixture.setup.holes for it in self.tried(solves, solves)], [[1], [2]]
+            [result.fixture.setup.holes for result in self.results(solves, solves)],
+            [[1], [2]],
         )
         for last in (
-            stopped,
+            answer,
             ExploreAnswer(Breaks(0, "program", ()), 1.0, 5),
             ExploreAnswer(Exceeds(0, 11), 1.0, 5),
         ):
-            self.assertEqual([it.answered for it in self.tried(last, solves)], [last])
+            self.assertEqual(
+                [result.answer for result in self.results(last, solves)], [last]
+            )
 
     def test_what_is_made_of_a_match_says_whether_it_goes_on(self) -> None:
         beside = mock.Mock(is_whole=True, rank=lambda: (False, 3))
         exceeds = ExploreAnswer(Exceeds(0, 11), 1.0, 5)
         solves = ExploreAnswer(Solves(1, 0, 4), 1.0, 5)
-        tries = self.tried(
+        tries = self.results(
             exceeds,
             solves,
-            after=lambda tried, _: tried._replace(
-                beside=beside if tried.answered is exceeds else None
+            after=lambda trial, _: trial._replace(
+                beside=beside if trial.answer is exceeds else None
             ),
         )
         self.assertEqual([it.beside for it in tries], [beside, None])

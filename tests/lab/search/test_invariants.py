@@ -4,7 +4,7 @@ import unittest
 from arena_lab.rules.engines import TOP
 from arena_lab.rules.model import Match, Setup
 from arena_lab.rules.networks import ring
-from arena_lab.search.invariants import Candidate, NoCandidate, Wrong
+from arena_lab.search.invariants import Candidate, CandidateError, CandidateWrongError
 from arena_lab.search.configurations import (
     After,
     At,
@@ -21,7 +21,7 @@ WORLD = World(Match(Setup(3, NETWORK.links, 0, [1], 1, 10, 4)))
 BLANK = Configuration(
     (Before(),), ((),), (0,), (0,), ("", "", ""), (None,), frozenset(), 0
 )
-# a candidate's file, and what is said of it when it is read
+# source of a candidate -> error when it is loaded
 FILES = {
     "def hold(world, picture): return True": "it has no function holds",
     "def holds(world): return True": "holds takes other values: write `def holds(world, picture): ..`",
@@ -29,7 +29,7 @@ FILES = {
     "def holds(world, picture) return True": "line 1: ",
     "import nowhere": "it raises ModuleNotFoundError: No module named 'nowhere'",
 }
-# of a candidate's file what is wrong of it at a picture
+# source of a candidate -> error at a configuration
 SAYS = {
     "def holds(world, picture): pass": "holds gives None, and neither True nor False",
     "def holds(world, picture):\n    return picture.moves / 0 == 1": "holds raises ZeroDivisionError in line 2: ",
@@ -43,24 +43,24 @@ class Files(InTemporary):
         return Candidate(path)
 
     def test_a_file_without_a_candidate_is_refused(self) -> None:
-        for text, said in FILES.items():
-            with self.subTest(text), self.assertRaises(NoCandidate) as raised:
+        for text, message in FILES.items():
+            with self.subTest(text), self.assertRaises(CandidateError) as error:
                 self.candidate(text)
-            self.assertIn(said, str(raised.exception))
-        with self.assertRaises(NoCandidate):
+            self.assertIn(message, str(error.exception))
+        with self.assertRaises(CandidateError):
             Candidate(self.folder / "nothing.py")
 
     def test_what_is_no_answer_is_told(self) -> None:
-        for text, said in SAYS.items():
-            with self.subTest(text), self.assertRaises(Wrong) as raised:
+        for text, message in SAYS.items():
+            with self.subTest(text), self.assertRaises(CandidateWrongError) as error:
                 self.candidate(text).holds(WORLD, BLANK)
             self.assertTrue(
-                str(raised.exception).startswith(said), str(raised.exception)
+                str(error.exception).startswith(message), str(error.exception)
             )
         negative = self.candidate(
             "def holds(world, picture): return True\ndef left(world, picture): return -1"
         )
-        with self.assertRaises(Wrong):
+        with self.assertRaises(CandidateWrongError):
             negative.left(WORLD, BLANK)
 
     def test_a_file_may_leave_out_all_but_the_test(self) -> None:

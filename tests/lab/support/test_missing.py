@@ -4,7 +4,7 @@ import unittest
 from unittest import mock
 
 from arena_lab.support import missing as lab_missing
-from arena_lab.support.missing import Missing, needed
+from arena_lab.support.missing import MissingPackageError, require
 
 
 class Packages(unittest.TestCase):
@@ -17,5 +17,7 @@ class Packages(unittest.TestCase):
             with mock.patch.object(
                 importlib, "import_module", side_effect=missing
             ), mock.patch.object(lab_missing, "in_environment", return_value=False):
-                with self.assertRaisesRegex(Missing, f"apt-get install {package}`"):
-                    needed(name)
+                with self.assertRaisesRegex(
+                    MissingPackageError, f"apt-get install {package}`"
+                ):
+                    require(name)

@@ -10,7 +10,7 @@ import weakref
 from typing import Any, Dict, List
 from unittest import mock
 
-from arena_lab.support.signals import Terminated, come_again, end
+from arena_lab.support.signals import TerminatedError, come_again, end
 
 
 class Signals(unittest.TestCase):
@@ -28,23 +28,25 @@ class Signals(unittest.TestCase):
             time.sleep(9)
 
         def forgets() -> None:
-            held[Forgotten()] = 1
+            held_links[Forgotten()] = 1
             time.sleep(9)
 
-        held: "weakref.WeakKeyDictionary[Forgotten, int]" = weakref.WeakKeyDictionary()
-        held.data = Told()
-        sent = [signal.SIGTERM]
+        held_links: "weakref.WeakKeyDictionary[Forgotten, int]" = (
+            weakref.WeakKeyDictionary()
+        )
+        held_links.data = Told()
+        payload = [signal.SIGTERM]
         os.register_at_fork(
-            after_in_parent=lambda: sent and os.kill(os.getpid(), sent.pop())
+            after_in_parent=lambda: payload and os.kill(os.getpid(), payload.pop())
         )
         self.enterContext(mock.patch.object(sys, "unraisablehook", come_again))
-        for number, does, raised in (
+        for number, does, error in (
             (signal.SIGINT, forgets, KeyboardInterrupt),
-            (signal.SIGTERM, forks, Terminated),
+            (signal.SIGTERM, forks, TerminatedError),
         ):
             handler = functools.partial(end, os.getpid())
             self.addCleanup(signal.signal, number, signal.signal(number, handler))
-            with self.subTest(number), self.assertRaises(raised):
+            with self.subTest(number), self.assertRaises(error):
                 does()
 
     def test_a_signal_is_not_lost_that_falls_into_its_coming_again(self) -> None:

@@ -6,10 +6,10 @@ from typing import Dict, List
 from unittest import mock
 
 from arena_lab.play.parallel import Result
-from arena_lab.support.fields import WrongFile
+from arena_lab.support.fields import FileFormatError
 from arena_lab.sweep import report, statistic, tables, verify
 from arena_lab.sweep.grid import Grid, grid_of
-from arena_lab.sweep.tables import NoTable
+from arena_lab.sweep.tables import TableError
 from tests.support.needing import needs
 from tests.support.output import InTemporary
 
@@ -45,7 +45,7 @@ class Files(unittest.TestCase):
         grid = grid_of(
             text('holes = [1, 3]\nschedulers = ["fair", "starved"]\nseeds = 2\n', two)
         )
-        wanted = [
+        expectation = [
             (network, hole, team, scheduler, seed)
             for network in ("ring:4", "ring:5")
             for hole in (1, 3)
@@ -53,14 +53,14 @@ class Files(unittest.TestCase):
             for scheduler in ("fair", "starved")
             for seed in (0, 1)
         ]
-        self.assertEqual(runs(grid), wanted)
+        self.assertEqual(runs(grid), expectation)
         self.assertEqual(
-            [case.number for case in grid.cases()], list(range(len(wanted)))
+            [case.number for case in grid.cases()], list(range(len(expectation)))
         )
 
     def test_black_holes(self) -> None:
-        def holes(said: str) -> List[int]:
-            grid = grid_of(text(f"home = 2\nseeds = 3\nholes = {said}\n"))
+        def holes(text_given: str) -> List[int]:
+            grid = grid_of(text(f"home = 2\nseeds = 3\nholes = {text_given}\n"))
             return [case.holes[0] for case in grid.cases() if case.network == "ring:5"]
 
         self.assertEqual(holes('"by seed"'), [0, 1, 3])
@@ -108,7 +108,7 @@ class Files(unittest.TestCase):
         )
 
     def test_what_is_refused(self) -> None:
-        for given, said in (
+        for arguments, message in (
             ("title = 3\n" + TEAM, "title must be a text"),
             (HEAD, "team must be given"),
             (text("seed = 3\n"), "it has no key seed; its keys are board,"),
@@ -138,9 +138,9 @@ class Files(unittest.TestCase):
             (text(team=TEAM + "agents = 65\n"), "agents must be 1 to 64"),
             (text(team=TEAM + "size = 1\n"), "a team has no key size"),
         ):
-            with self.subTest(said), self.assertRaises(WrongFile) as fault:
-                grid_of(given)
-            self.assertIn(said, str(fault.exception))
+            with self.subTest(message), self.assertRaises(FileFormatError) as fault:
+                grid_of(arguments)
+            self.assertIn(message, str(fault.exception))
 
 
 def row(
@@ -218,7 +218,7 @@ class Reports(unittest.TestCase):
             row(4, 9, "silent", "ring:5"),
             row(5, 99, "silent", "ring:5"),
         ]
-        self.assertEqual([it["run"] for it in report.worst_runs(rows)], ["1", "4"])
+        self.assertEqual([run["run"] for run in report.worst_runs(rows)], ["1", "4"])
 
     def test_a_fault_is_a_failure(self) -> None:
         grid = grid_of(text())
@@ -230,8 +230,8 @@ class Reports(unittest.TestCase):
 @needs("numpy", "scipy")
 class Statistics(unittest.TestCase):
     def test_students_t(self) -> None:
-        """As tables of it have it, for 95 %."""
-        for freedom, wanted in (
+        """Compares quantiles with published tables for 95 %."""
+        for freedom, expectation in (
             (1, 12.706),
             (2, 4.303),
             (3, 3.182),
@@ -241,13 +241,14 @@ class Statistics(unittest.TestCase):
             (199, 1.972),
             (1999, 1.961),
         ):
-            self.assertAlmostEqual(statistic.student(freedom), wanted, 3)
+            self.assertAlmostEqual(statistic.student(freedom), expectation, 3)
         self.assertAlmostEqual(statistic.student(10, 0.99), 3.169, 3)
 
     def test_quartiles(self) -> None:
-        found = statistic.spread_of([1, 2, 3, 4, 100])
+        confidence = statistic.spread_of([1, 2, 3, 4, 100])
         self.assertEqual(
-            (found.low, found.median, found.high, found.mean), (2, 3, 4, 22)
+            (confidence.low, confidence.median, confidence.high, confidence.mean),
+            (2, 3, 4, 22),
         )
         self.assertEqual(statistic.spread_of([7]), (7, 0, 7, 7, 7))
 
@@ -258,8 +259,8 @@ class Tables(InTemporary):
         self.folder /= "made"
         self.path = self.folder / tables.RUNS
 
-    def prepared(self, **made: object) -> int:
-        return tables.prepared(self.folder, {"program": "", **made})
+    def prepare(self, **args: object) -> int:
+        return tables.prepare_table(self.folder, {"program": "", **args})
 
     def add(self, *rows: List[str]) -> str:
         """Writes rows, and gives the file's text."""
@@ -268,19 +269,19 @@ class Tables(InTemporary):
         return self.path.read_text()
 
     def test_a_row_that_was_not_written_whole_is_dropped(self) -> None:
-        self.assertEqual(self.prepared(), 0)
+        self.assertEqual(self.prepare(), 0)
         whole = self.add(cells(0), cells(1))
         self.path.write_text(whole + "2,c")
-        self.assertEqual(self.prepared(), 2)
+        self.assertEqual(self.prepare(), 2)
         self.assertEqual(self.path.read_text(), whole)
         self.path.write_text("run,net")
-        self.assertEqual(self.prepared(), 0)
+        self.assertEqual(self.prepare(), 0)
         self.assertEqual(self.path.read_text(), tables.line_of(tables.COLUMNS))
 
     def test_rows_that_were_made_otherwise_are_kept_as_they_are(self) -> None:
         before = {"files": {"a.py": "1", "b.py": "2"}, "python": "3.11"}
-        self.prepared(**before)
-        for now, said in (
+        self.prepare(**before)
+        for now, message in (
             ({"program": "00"}, "program differ"),
             ({"python": "3.12"}, "python differ"),
             ({"files": {"a.py": "1"}}, "b.py differ"),
@@ -289,19 +290,19 @@ class Tables(InTemporary):
                 "a.py and 1 more differ",
             ),
         ):
-            with self.subTest(said), self.assertRaisesRegex(
-                NoTable, f"made otherwise: {said}"
+            with self.subTest(message), self.assertRaisesRegex(
+                TableError, f"made otherwise: {message}"
             ):
-                self.prepared(**{**before, **now})
-        (self.folder / tables.MADE).write_text("?")
-        with self.assertRaisesRegex(NoTable, "not as it was written"):
-            self.prepared(**before)
-        (self.folder / tables.MADE).unlink()
-        with self.assertRaisesRegex(NoTable, "name another folder"):
-            self.prepared(**before)
+                self.prepare(**{**before, **now})
+        (self.folder / tables.RECORD_FILE).write_text("?")
+        with self.assertRaisesRegex(TableError, "not as it was written"):
+            self.prepare(**before)
+        (self.folder / tables.RECORD_FILE).unlink()
+        with self.assertRaisesRegex(TableError, "name another folder"):
+            self.prepare(**before)
 
     def test_a_row_that_was_edited_is_told(self) -> None:
-        self.prepared()
+        self.prepare()
         whole = self.add(cells(0), cells(1), cells(2))
         self.assertEqual(len(tables.rows_in(self.path)), 3)
         lines = whole.splitlines(keepends=True)
@@ -313,14 +314,14 @@ class Tables(InTemporary):
         ):
             self.path.write_text(wrong)
             with self.assertRaisesRegex(
-                NoTable, f"line {line} is not as it was written"
+                TableError, f"line {line} is not as it was written"
             ):
-                self.prepared()
+                self.prepare()
 
     def test_two_commands_do_not_write_into_one_folder(self) -> None:
         with tables.alone_in(self.folder):
             with self.assertRaisesRegex(
-                NoTable, "another command writes into"
+                TableError, "another command writes into"
             ), tables.alone_in(self.folder):
                 pass
         with tables.alone_in(self.folder):
@@ -329,31 +330,31 @@ class Tables(InTemporary):
 
 def cells(run: int) -> List[str]:
     """A row as a sweep writes it."""
-    return tables.checked([str(row(run, 4)[name]) for name in tables.COLUMNS])
+    return tables.with_check([str(row(run, 4)[name]) for name in tables.COLUMNS])
 
 
 class Verified(unittest.TestCase):
     def test_what_comes_out_otherwise(self) -> None:
-        now = tables.checked(["0", *cells(0)[1:-2], "", "agent 1: raises"])
+        now = tables.with_check(["0", *cells(0)[1:-2], "", "agent 1: raises"])
         self.assertIsNone(verify.differing(0, cells(0), cells(0)))
         self.assertEqual(
             verify.differing(0, cells(0), now), verify.Differing(0, ["fault"])
         )
         with contextlib.redirect_stderr(
             io.StringIO()
-        ) as errors, contextlib.redirect_stdout(io.StringIO()) as said, mock.patch(
+        ) as errors, contextlib.redirect_stdout(io.StringIO()) as stream, mock.patch(
             "arena_lab.support.progress.bar", mock.MagicMock()
         ):
-            found = verify.compared(
+            differences = verify.differing_rows(
                 [0, 1], [cells(0), cells(1)], [Result(cells(0), ""), Result(None, "no")]
             )
-            self.assertEqual(verify.report_differences([0, 1], 9, found), 1)
+            self.assertEqual(verify.report_differences([0, 1], 9, differences), 1)
         self.assertEqual(errors.getvalue(), "run 1 comes out otherwise: fault\n")
-        self.assertEqual(said.getvalue(), "2 of 9 rows were played again: 1 differ\n")
+        self.assertEqual(stream.getvalue(), "2 of 9 rows were played again: 1 differ\n")
 
     def test_which_rows(self) -> None:
         self.assertEqual(verify.chosen(3, verify.ALL), [0, 1, 2])
         self.assertEqual(verify.chosen(3, 5), [0, 1, 2])
-        drawn = verify.chosen(1000, 500)
-        self.assertEqual(len(set(drawn)), 500)
-        self.assertNotEqual(drawn, verify.chosen(1000, 500))
+        draw = verify.chosen(1000, 500)
+        self.assertEqual(len(set(draw)), 500)
+        self.assertNotEqual(draw, verify.chosen(1000, 500))

@@ -1,6 +1,6 @@
-"""An agent that is drawn by chance, and is a function of its key and of what it has
-heard. It sleeps, naps, raises, polls, leaves, is refused, crashes when the match is
-over, says lines after its end, and may send a line before it arrives."""
+"""A random agent, which is a function of its key and of its history. It sleeps, sends
+invalid commands, raises, polls, leaves, crashes after the match, sends lines after its
+end, and may send a line before it arrives."""
 import hashlib
 import json
 
@@ -10,8 +10,8 @@ GONE = '{"ok":"gone"}'
 OVER = '{"ok":"over"}'
 
 
-class Drawn:
-    """What it does next is drawn by all that it has heard."""
+class DrawnStep:
+    """Draws each step from a hash of the history."""
 
     def __init__(self, salt, lines, sleep, is_early):
         self._heard = salt
@@ -32,8 +32,8 @@ class Drawn:
         return line
 
     def say(self, command):
-        """What it is answered, after its arrival if it departs. Some crash when the
-        match is over."""
+        """Sends a command and returns its reply (for a departure: the arrival's). Some
+        agents crash after the match."""
         self._lines.send(json.dumps(command, separators=(",", ":")))
         line = self.hear()
         if line == GONE:
@@ -51,10 +51,10 @@ class Drawn:
     def say_early(self):
         """Says a line on its link, which waits there until it has arrived."""
         self._lines.send('{"do":"look"}')
-        found = [self.hear(), self.hear()]
-        if OVER in found:
+        results = [self.hear(), self.hear()]
+        if OVER in results:
             raise MatchOver()
-        return json.loads(found[1])
+        return json.loads(results[1])
 
     def end(self, command):
         """Ends, and may say something then, which nobody answers."""
@@ -65,7 +65,7 @@ class Drawn:
                 self.hear()
 
     def act(self, board):
-        """Does one thing; None if that was the last."""
+        """Takes one step; returns None after the last one."""
         kind = self.draw(20)
         if kind < 6:
             return self.say({"do": "depart", "port": self.draw(2)})
@@ -107,4 +107,4 @@ def search(agent, key, seed, length, early, roles, sleep):
     import random
 
     role = (key, str(random.random()), "")[roles]
-    Drawn(f"{seed}-{role}", agent._lines, sleep, bool(early)).run(key, length)
+    DrawnStep(f"{seed}-{role}", agent._lines, sleep, bool(early)).run(key, length)

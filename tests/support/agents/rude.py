@@ -18,7 +18,7 @@ def main() -> None:
         sys.exit("no such map")
     server = socket.create_connection((host, int(port)))
     if how == "silent":
-        # what it starts is to be ended too
+        # the lab must end this child too
         subprocess.Popen(
             [sys.executable, "-c", f"import time; time.sleep({HOURS})", mark]
         )

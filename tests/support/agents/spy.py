@@ -26,10 +26,10 @@ SYSTEM = {
 }
 
 
-def below(place):
+def below(position):
     """The files below a place."""
     try:
-        for path in pathlib.Path(place).resolve().iterdir():
+        for path in pathlib.Path(position).resolve().iterdir():
             if str(path) not in SYSTEM:
                 yield from below(path) if path.is_dir() and not path.is_symlink() else [
                     path
@@ -40,8 +40,8 @@ def below(place):
 
 def files(places):
     """The files below the places, and what the system tells of processes."""
-    for place in places:
-        yield from below(place)
+    for position in places:
+        yield from below(position)
     for process in pathlib.Path("/proc").glob("[0-9]*"):
         yield from (process / "cmdline", process / "environ")
 
@@ -57,11 +57,11 @@ def words_in(path):
 
 def main():
     key, *places = sys.argv[1:]
-    found = {
+    results = {
         word for path in files([".", "..", *places]) for word in words_in(path)
     } - {key.encode()}
     sys.exit(
-        "found " + (", ".join(sorted(word.decode() for word in found)) or "nothing")
+        "found " + (", ".join(sorted(word.decode() for word in results)) or "nothing")
     )
 
 

@@ -12,9 +12,9 @@ def say(apps: Any, _: Any) -> None:
         apps.get_model("attempts", "Attempt").objects.exclude(kind="practice").count()
     )
     if count:
-        said = f"{count} rated attempts and matches of contests are practice now: only hand-ins are ranked"
-        apps.get_model("teams", "Entry").objects.create(who="hall", what=said)
-        print(f"hall: {said}", file=sys.stderr, flush=True)
+        text = f"{count} rated attempts and matches of contests are practice now: only hand-ins are ranked"
+        apps.get_model("teams", "Entry").objects.create(who="hall", what=text)
+        print(f"hall: {text}", file=sys.stderr, flush=True)
 
 
 class Migration(migrations.Migration):
