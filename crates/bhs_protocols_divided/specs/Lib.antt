@@ -1,0 +1,5 @@
+pub mod Plans
+pub mod Dividing
+pub mod DividingLaws
+pub mod DividedDiamond
+pub mod DividedBound
