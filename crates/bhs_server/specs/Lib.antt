@@ -3,6 +3,7 @@ pub mod Dealing
 pub mod Settling
 pub mod Exchanges
 pub mod Written
+pub mod Attending
 pub mod Unserved
 pub mod Waiting
 pub mod Crowds

@@ -1,5 +1,7 @@
 //! Serving the client of a connection.
 
+ghost use Rattle.bhs_server.specs.Attending.{WasServedIfPlayed};
+
 use crate::connections::{Connection, Guest, Incoming};
 use crate::ending::Ending;
 use crate::sessions::{Session, Sessions};
@@ -61,7 +63,9 @@ impl<R: Wait + Clock, G: Gate, W: Watch> Reception<'_, R, G, W> {
     }
 
     // Ends a session.
-    fn part(&self, session: u32, connection: &Connection, session_end: EndedSession) {
+    fn part(&self, session: u32, connection: &Connection, session_end: EndedSession)
+        requires { WasServedIfPlayed session_end.played session_end.ended }
+    {
         let EndedSession { ended, played } = session_end;
         let denial = connection.denial();
         if denial.is_some() {
@@ -69,21 +73,25 @@ impl<R: Wait + Clock, G: Gate, W: Watch> Reception<'_, R, G, W> {
             self.ending.go(self.rt, session);
         }
         let _ = connection.send_held();
-        let ended = if connection.has_failed() {
-            Ended::WriteFault
-        } else {
-            ended
-        };
+        let has_failed = connection.has_failed();
         match (played, denial) {
             (Some(played), _) => {
-                self.watch
-                    .ended(session, ended, played.game, played.pass.agent());
+                let kept = Session::of(ended, played, has_failed);
+                self.watch.ended(
+                    session,
+                    kept.ended,
+                    kept.played.game,
+                    kept.played.pass.agent(),
+                );
                 connection.tell_strays(session, self.watch);
-                self.sessions.keep(self.rt, Session { ended, played });
+                self.sessions.keep(self.rt, kept);
                 self.ending.session_ended(self.rt);
             }
             (None, Some(denial)) => self.outside(session, Outside::Denied(denial)),
-            (None, None) => self.leave(session, connection, ended),
+            (None, None) => {
+                let ended = if has_failed { Ended::WriteFault } else { ended };
+                self.leave(session, connection, ended);
+            }
         }
     }
 
