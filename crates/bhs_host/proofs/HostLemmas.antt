@@ -1,4 +1,4 @@
--- Matches of a tournament that come under locks, one after the other.
+-- Lists of matches that are put under locks.
 use Rattle.std.proofs.Common.{◌≡◌, ◌∙◌, ap, sym, ℕ, ◌+◌, List, [], ◌∷◌, ◌++◌, length, map, append_assoc}
 use Rattle.std.proofs.Common.{length-append}
 use Rattle.rand_chacha.specs.ChaCha.{ChaCha}

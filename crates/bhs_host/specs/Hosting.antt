@@ -42,7 +42,7 @@ pub record IsRowOf (team : List ℕ) (play : Play) (row : Row) : Type 0 where
   pub team_is : string_bytes row.team ≡ team
   pub judged : row.verdict ≡ verdict_of play
 
--- the rows of teams, one of each with its match, in their order
+-- one row for each team with its match, in order
 abbrev pub AreRowsOf : List (List ℕ) → List Play → List Row → Type 0
 AreRowsOf [] [] [] = Unit {0}
 AreRowsOf (team ∷ teams) (play ∷ plays) (row ∷ rows) = IsRowOf team play row × AreRowsOf teams plays rows

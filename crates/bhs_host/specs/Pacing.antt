@@ -12,7 +12,7 @@ pub record Beat : Type 0 where
 abbrev pub step_after : (turns turn : ℕ) → PaceStep
 step_after turns turn = if nat_lt turn turns then Turn else Close
 
--- What may come after a turn: what comes after it by this number of turns; or the close, if the match is called off.
--- Contracts do not say of which matches that is so, since it is told under a lock.
+-- What a match may do after a turn: what its pace says for this number of turns, or close, if the match was called off.
+-- Contracts do not say which matches are called off, since that stands under a lock.
 abbrev pub MayStep : (turns turn : ℕ) → PaceStep → Type 0
 MayStep turns turn step = (step ≡ step_after turns turn) ⊎ (step ≡ Close)

@@ -1,4 +1,4 @@
-//! From the matches of a tournament to a contest.
+//! Making a contest of the matches of a tournament.
 
 ghost use Rattle.std.specs.Prelude.{◌≡◌, [], ◌∷◌, ◌++◌, IfOk, length, map};
 ghost use Rattle.bhs_deal.specs.Dealer.{dealer_at};
@@ -14,7 +14,7 @@ use bhs_server::Contest;
 use bhs_time::ScheduleKind;
 use std::alloc::Global;
 
-/// A contest that can be served, and the teams of its matches.
+/// A contest that is ready to be served, and the teams of its matches.
 #[derive(Drop)]
 pub struct Hosted {
     /// The teams, by the numbers of their matches.
@@ -22,8 +22,8 @@ pub struct Hosted {
     pub contest: Contest,
 }
 
-/// The matches of a tournament under their locks, each with the dealer that has the stream of its number. Nothing has
-/// happened in them. Their turns are of the tournament's schedule, and let nobody arrive over held links.
+/// The matches of a tournament under locks, each with the dealer of its own stream. Nothing has happened in them. Their
+/// turns are of the tournament's schedule, and let nobody arrive over held links.
 pub fn contest_of(alloc: Global, lineup: Lineup) -> Result<Hosted, Memory>
     requires { AreFresh lineup.ready.items }
     ensures teams { IfOk result (λ hosted. hosted.teams.items ≡ map (λ ready. ready.team) lineup.ready.items) }

@@ -63,8 +63,8 @@ fn judged_at_once<R: Threads + Sync>(
     Ok(verdicts)
 }
 
-// Judges a few matches, each on a thread of its own, which shows the verdict. A note for each match that has seen it;
-// None if there was no memory to show it.
+// Judges a few matches, each on a thread of its own, which shows the verdict. One note per match, each with the verdict
+// that it has seen, or None if memory ran out.
 fn notes_of<R: Threads + Sync>(
     rt: &R,
     alloc: Global,
@@ -86,8 +86,8 @@ fn notes_of<R: Threads + Sync>(
     )
 }
 
-// Judges a match and shows the verdict, unless one is shown already: a note that has seen the verdict. None also where
-// there was no memory to show it.
+// Judges a match and shows the verdict, unless one is shown already: a note that has seen the verdict. None if memory
+// ran out.
 fn shown_by_judge(showcase: &Showcase, game: u32, sealed: &Sealed) -> Option<ShowNote>
     ensures place { IfSome result (λ note. slice_get showcase.now game ≡ Some note.place) }
     ensures seen { IfSome result (λ note. note.verdict ≡ Some (verdict_of sealed.now)) }
@@ -99,7 +99,7 @@ fn shown_by_judge(showcase: &Showcase, game: u32, sealed: &Sealed) -> Option<Sho
     }
 }
 
-// The verdict that is shown on a match: that which the note has seen, if it has seen one.
+// The verdict of a match: the note's, if the note has seen one.
 fn shown(showcase: &Showcase, game: u32, mut note: ShowNote) -> Option<Verdict>
     requires { slice_get showcase.now game ≡ Some note.place }
     ensures { IfSome result (λ verdict. Agree note.verdict (Some verdict)) }

@@ -1,4 +1,4 @@
-//! From the matches of a tournament to a contest under locks, and from matches that have ended to their table.
+//! A contest: the matches of a tournament under locks, the pace of their turns, and the table of their verdicts.
 #![tactic(auto)]
 
 mod hosting;

@@ -11,7 +11,7 @@ use std::time::{Clock, Duration};
 struct MatchProgress {
     /// How many turns it has taken.
     turns: u32,
-    /// Whether it takes no more of them.
+    /// Whether the match takes no more turns.
     is_called_off: bool,
 }
 
@@ -23,7 +23,7 @@ struct PacedMatch {
 }
 
 impl PacedMatch {
-    // Has the match take no more turns. Answers whether it might have taken some.
+    // Has the match take no more turns. Returns whether the match might have taken more turns.
     fn call_off<R: Wait>(&self, rt: &R) -> bool {
         let mut progress = self.progress.lock(rt);
         let was_on = !progress.is_called_off;
@@ -41,7 +41,7 @@ pub struct Progress {
 }
 
 impl Progress {
-    /// Of this number of matches, none of which has taken a turn or is called off.
+    /// The progress of this many matches, none of which has taken a turn or was called off.
     pub fn new(alloc: Global, count: usize) -> Result<Progress, Memory> {
         let mut matches = Vec::with_capacity(alloc, count)?;
         for _ in 0..count {
@@ -89,8 +89,8 @@ impl Progress {
         }
     }
 
-    // Notes that a match has taken this number of turns, and pauses before the next one. Answers whether it may take
-    // that.
+    // Notes that a match has taken this number of turns, and pauses before the next one. Returns whether the match may
+    // take this turn.
     pub(crate) fn pause<R: Wait + Clock>(
         &self,
         rt: &R,

@@ -1,4 +1,4 @@
--- Matches with one node as their only black hole, and what is told of several of them.
+-- Matches with one node as the only black hole, and the reports of several such matches.
 use Rattle.std.proofs.Common.{◌≡◌, ◌∙◌, refl, sym, ap, ap₂, subst, true≢false, ℕ, zero, suc, ◌+◌, ◌<◌, ◌≤◌, arith}
 use Rattle.std.proofs.Common.{◌==◌, Bool, true, false, ◌||◌, List, [], ◌∷◌, ◌++◌, length, map, get_or}
 use Rattle.std.proofs.Common.{Option, Some, None, if◌then◌else◌, inl, inr}
@@ -26,7 +26,7 @@ none_later hole start (suc count) later =
     cond-false (is_hole (hole ∷ []) start) _ _ (only_hole hole start false (ne_eqb hole start (λ same. omega arith)))
     ∙ none_later hole (start + 1) count (omega arith)
 
--- a node that is not the first is a later one
+-- a node other than the first is in the rest of the list
 apart : (hole start : ℕ) → start ≤ hole → (hole == start) ≡ false → start + 1 ≤ hole
 apart hole start from is = elim (cases_order hole start) [
   | inl same ↦ absurd (true≢false (sym (eq-eqb hole start same) ∙ is))
@@ -70,7 +70,7 @@ normal_with net setup (Some hole) is within =
 
 -- ---- the nodes that are tried
 
--- what holds of the first if it passes a test, and of those behind it
+-- a property of the elements that pass a test, by induction on the list
 module _ (P : ℕ → Type 0) (test : ℕ → Bool) (first : ℕ) (rest : List ℕ) where
   first_kept : AllByRecursion P (if test first then first ∷ rest else rest) → test first ≡ true
       → P first × AllByRecursion P rest
@@ -85,7 +85,7 @@ module _ (P : ℕ → Type 0) (test : ℕ → Bool) (first : ℕ) (rest : List �
       (λ is. subst (AllByRecursion P) (sym (cond-true (test first) (first ∷ rest) rest is)) (one, others))
       (λ is. subst (AllByRecursion P) (sym (cond-false (test first) (first ∷ rest) rest is)) others)
 
--- what holds of all that pass a test holds of one that does
+-- a property of all elements that pass a test holds of an element that passes it
 pub holds_of : (P : ℕ → Type 0) (test : ℕ → Bool) (start count node : ℕ)
     → AllByRecursion P (filter test (range_with_len start count)) → start ≤ node → node < start + count
     → test node ≡ true → P node
@@ -113,7 +113,7 @@ all_nodes net test = all_below test 0 (nodes_of net) (nodes_of net) (omega arith
 
 -- ---- results
 
--- what each result is by its place
+-- the result at each index
 by_place : {R : Type 0} (P : R → Type 0) (place_of : R → ℕ) (places : List ℕ) (results : List R)
     → length results ≡ length places
     → ((i : ℕ) (d : R) → i < length places → (place_of (get_or results i d) ≡ get_or places i 0)
@@ -129,7 +129,7 @@ by_place P place_of (place ∷ places) (result ∷ results) many each =
       (first.1, rest.1),
     )
 
--- the same of results that there may be
+-- the same for optional results
 pub results_by_place : {V E R : Type 0} (P : R → Type 0) (place_of : R → ℕ) (places : List ℕ) (items : V → List R)
     (outcome : Result V E) (Many Each : V → Type 0) → IfOk outcome Many → IfOk outcome Each
     → ((it : V) → Many it → length (items it) ≡ length places)

@@ -10,7 +10,7 @@ use Rattle.bhs_orders_explore.specs.declared.hosts.Host.{Host}
 use Rattle.bhs_orders.specs.LineStates.{IsPart}
 use Rattle.bhs_orders_explore.specs.HostAnswers.{IsAnswer, IsReplied, TakesText, TakesHeld}
 
--- what came by some reads, and then by others
+-- the bytes of two sequences of reads are joined
 gathers_both : {I : Type 0} (gives : I → Chunk → I → Type 0) (old here new : I) (first second : ℕ) (one other : List ℕ)
     → Gathers gives old first one here → Gathers gives here second other new
     → Gathers gives old (first + second) (one ++ other) new

@@ -23,7 +23,7 @@ and_none : (b : Bool) → (b && false) ≡ false
 and_none true = refl
 and_none false = refl
 
--- of one node the links below this port are listed behind others
+-- the list continues with the links of one node at ports below this one
 abbrev pub HasMore : (held : List (ℕ × ℕ)) (node port : ℕ) (old new : List (ℕ × ℕ)) → Type 0
 HasMore held node port old new = (v p : ℕ) → is_held new v p ≡ (is_held old v p
     || (node == v && (nat_lt p port && held_in held v p)))
@@ -34,7 +34,7 @@ no_more held node old v p =
     ∙ ap (λ (b : Bool). is_held old v p || b)
     (sym (ap (λ (b : Bool). node == v && (b && held_in held v p)) (none_below_0 p) ∙ and_none (node == v)))
 
--- the links of the nodes below this one are listed
+-- the list has the links of all nodes below this one
 abbrev pub HasBelow : (net : Network) (held : List (ℕ × ℕ)) (node : ℕ) (links : List (ℕ × ℕ)) → Type 0
 HasBelow net held node links = (v p : ℕ) → p < degree_of net v → is_held links v p ≡ (nat_lt v node && held_in held v p)
 

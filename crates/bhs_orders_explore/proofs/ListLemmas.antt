@@ -1,4 +1,4 @@
--- Numbers that are printed one after the other, as a loop does.
+-- The text of a list of numbers, built by a loop.
 use Rattle.std.proofs.Common.{◌≡◌, sym, ap, ◌∙◌, ℕ, ◌+◌, ◌<◌, ◌≤◌, List, ◌++◌, codes, decimal, length}
 use Rattle.std.proofs.Common.{drop, get_or}
 use Rattle.std.proofs.Common.{append_assoc}

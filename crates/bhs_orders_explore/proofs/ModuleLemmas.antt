@@ -22,7 +22,7 @@ one_more {V = V} f g xs ys x y same one =
 
 -- ---- roles
 
--- what holds if this succeeded, which it did
+-- the clause of a successful call
 pub if_done : {T E P : Type 0} (result : Result T E) → is_err result ≡ false → OnOk result P → P
 if_done (Ok it) done holds = holds
 if_done (Err error) done holds = absurd (cc)

@@ -33,7 +33,7 @@ done_both false printed done is coded = absurd (true≢false (sym (eq-eqb printe
 
 module _ {O : Type 0} (takes : O → List ℕ → WriteAnswer → O → Type 0) (flushes : O → Bool → O → Type 0)
     (IsReport : (hole : ℕ) → (text : List ℕ) → (code : ℕ) → Type 0) where
-  -- all of these are told, and then others
+  -- the reports of these holes are printed, and then the rest
   pub tells_then : (there output' : O) (code done : ℕ) (more holes : List ℕ) (output : O) → done ≡ DONE
       → TellsHoles takes flushes IsReport there done holes output
       → TellsHoles takes flushes IsReport output' code more there
@@ -47,7 +47,7 @@ module _ {O : Type 0} (takes : O → List ℕ → WriteAnswer → O → Type 0) 
   tells_then there output' code done more holes output is (tells_fault hole rest fault coded) told =
       absurd (not_done fault (sym coded ∙ is))
 
-  -- not all was done with one of these, so nothing is told of others
+  -- a search that was not done ends the output
   pub tells_cut : (output' : O) (code : ℕ) (more holes : List ℕ) (output : O) → code ≢ DONE
       → TellsHoles takes flushes IsReport output' code holes output
       → TellsHoles takes flushes IsReport output' code (holes ++ more) output
@@ -59,7 +59,7 @@ module _ {O : Type 0} (takes : O → List ℕ → WriteAnswer → O → Type 0) 
   tells_cut output' code more holes output other (tells_fault hole rest fault coded) =
       tells_fault hole (rest ++ more) fault coded
 
-  -- if all was done, each has a report that says so
+  -- if every search was done, each hole has a report with the status DONE
   pub all_done : (output' : O) (code : ℕ) (holes : List ℕ) (output : O) → code ≡ DONE
       → TellsHoles takes flushes IsReport output' code holes output
       → AllByRecursion (λ hole. (text : List ℕ) × IsReport hole text DONE) holes
@@ -96,7 +96,7 @@ module _ {O : Type 0} (takes : O → List ℕ → WriteAnswer → O → Type 0) 
         subst (λ (holes : List ℕ). TellsHoles takes flushes IsReport output' code holes output) (sym front)
         (tells_then there output' code DONE (hole_of x ∷ []) (map hole_of (take place all)) output refl before one)
 
-    -- nothing is told of those behind the one that ends it
+    -- no report follows the one that ends the output
     pub told_whole : code ≢ DONE → TellsHoles takes flushes IsReport output' code (map hole_of (take place all)) output
         → TellsHoles takes flushes IsReport output' code (map hole_of all) output
     told_whole other front =
@@ -104,7 +104,7 @@ module _ {O : Type 0} (takes : O → List ℕ → WriteAnswer → O → Type 0) 
         (sym (map-append hole_of (take place all) (drop place all)) ∙ ap (map hole_of) (take-append-drop place all))
         (tells_cut output' code (map hole_of (drop place all)) (map hole_of (take place all)) output other front)
 
-  -- a fault before the first of some
+  -- a fault before the first report
   pub told_none : (holes : List ℕ) (fault : Fault) (output : O) (code : ℕ) → 0 < length holes → code ≡ status fault
       → TellsHoles takes flushes IsReport output code holes output
   told_none [] fault output code some is = absurd (omega (arith, some))
@@ -112,7 +112,7 @@ module _ {O : Type 0} (takes : O → List ℕ → WriteAnswer → O → Type 0) 
 
   -- ---- a few at a time
 
-  -- what is told when these are left of all: of those before them all was done
+  -- the output so far when these holes are left: every search before them was done
   pub record Leaves (all left : List ℕ) (output output' : O) : Type 0 where
     pub before : List ℕ
     pub parted : before ++ left ≡ all

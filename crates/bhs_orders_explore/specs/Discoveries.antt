@@ -31,7 +31,7 @@ use Rattle.bhs_orders.specs.declared.reporting.statuses.TheConstants.{DONE, FAIL
 
 -- ---- the text
 
--- numbers, the first behind this text and the others each behind a comma
+-- the text of a list of numbers: the first after this opening, each further one after a comma
 abbrev pub items_text : (before : List ℕ) → List ℕ → List ℕ
 items_text before [] = []
 items_text before (number ∷ numbers) = (before ++ decimal number) ++ items_text (codes ",") numbers
@@ -44,7 +44,7 @@ list_text numbers = (codes "[" ++ items_text (codes "") numbers) ++ codes "]"
 abbrev pub pair_text : ℕ × ℕ → List ℕ
 pair_text pair = codes "[" ++ (decimal pair.0 ++ (codes "," ++ (decimal pair.1 ++ codes "]")))
 
--- pairs of numbers, the first behind this text and the others each behind a comma
+-- the text of a list of pairs: the first after this opening, each further one after a comma
 abbrev pub pair_items : (before : List ℕ) → List (ℕ × ℕ) → List ℕ
 pair_items before [] = []
 pair_items before (pair ∷ pairs) = (before ++ pair_text pair) ++ pair_items (codes ",") pairs
@@ -103,7 +103,7 @@ breaks_line agent failure schedule =
     ++ (codes ",\"failure\":\"" ++ (failure_text failure
     ++ (codes "\",\"schedule\":" ++ (list_text schedule ++ codes "}\n")))))
 
--- the line of what was found
+-- the line of a finding
 abbrev pub found_line : Finding → List ℕ
 found_line (Solves bounds) = solves_line bounds
 found_line (Comes verdict schedule) = comes_line verdict schedule.items
@@ -133,7 +133,7 @@ draws_line drawn =
     ++ (codes ",\"memories\":" ++ (decimal drawn.memories
     ++ (codes ",\"stances\":" ++ (decimal drawn.locals ++ codes "}\n"))))))
 
--- what was found, under every schedule or under those that were drawn
+-- a finding about every schedule, or about the schedules that were drawn
 abbrev pub found_in : Discovery → Finding
 found_in (discoveries.Tried explored) = explored.found
 found_in (discoveries.Drawn drawn) = drawn.found
@@ -162,7 +162,7 @@ found_status (Exceeds agent commands) = REFUSED_TEXT
 
 -- ---- what it is true of
 
--- these links are those of the network that are held
+-- these are the held links of the network
 abbrev pub AreLinks : Ready → List (ℕ × ℕ) → Type 0
 AreLinks ready links = (node port : ℕ) → node < nodes_of ready.game.net → port < degree_of ready.game.net node
     → is_held links node port ≡ held_in ready.held node port
@@ -205,7 +205,7 @@ module _ {O : Type 0} (takes : O → List ℕ → WriteAnswer → O → Type 0) 
 
   -- what the exit status says of an exploration of a match
   pub data ExploresMatch (ready : Ready) (exploration : Exploration) (output' : O) (code : ℕ) : Type 0 where
-    -- all was asked, and what was found is printed
+    -- every question was answered, and the finding is printed
     exploration_done : PrintsDiscovery ready exploration output' code → ExploresMatch ready exploration output' code
     -- a fault ended it
     exploration_ends : (fault : Fault) → code ≡ status fault → ExploresMatch ready exploration output' code
@@ -216,6 +216,6 @@ module _ {O : Type 0} (takes : O → List ℕ → WriteAnswer → O → Type 0) 
     explores_on : (lineup : Lineup) → IsAssembled lineup → (ready : Ready)
         → slice_get lineup.ready.items exploration.game ≡ Some ready
         → ExploresMatch ready exploration output' code → Explores exploration input input' output output' code
-    -- the file of the tournament is refused, or cannot be read, or it has no such match
+    -- a fault of the tournament: its file is refused or cannot be read, or it has no such match
     explores_nothing : (fault : Fault) → code ≡ status fault → Rests input input' output output'
         → Explores exploration input input' output output' code

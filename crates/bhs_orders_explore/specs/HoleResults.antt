@@ -1,4 +1,4 @@
--- What came of the searches of a match with one black hole after the other.
+-- The results of searches with one black hole after the other.
 use Rattle.std.specs.Prelude.{ℕ, List, IfOk, map, string_bytes}
 use Rattle.bhs_wasm_read.specs.Modules.{module_in}
 use Rattle.bhs_orders_explore.specs.declared.holes.HoleResult.{HoleResult}

@@ -1,5 +1,4 @@
--- What is found of a match where each node other than the home base is the only black hole in turn, and what is printed
--- of it.
+-- Explorations with --all-holes: each node other than the home base is the only black hole in turn.
 use Rattle.std.specs.Prelude.{◌≡◌, ◌≢◌, ◌==◌, ◌<◌, ℕ, not, List, [], ◌∷◌, ◌++◌, codes, decimal, Option, Some, None}
 use Rattle.std.specs.Prelude.{Bool, length, slice_get}
 use Rattle.bhs_net.specs.Network.{nodes_of}
@@ -28,7 +27,7 @@ use Rattle.bhs_orders_explore.specs.ModuleExploration.{AreFor, IsModuleReport, P
 abbrev pub with_hole : Setup → (hole : ℕ) → Setup
 with_hole setup hole = record setup { holes = hole ∷ []; dark = [] }
 
--- the same, if there is a node
+-- the same for an optional node
 abbrev pub setup_with : Setup → (hole : Option ℕ) → Setup
 setup_with setup None = setup
 setup_with setup (Some hole) = with_hole setup hole
@@ -84,8 +83,8 @@ AreAllSolved ready exploration programs arguments = (hole : ℕ) → hole < node
 -- the calls of the output, and what a text and an exit status are to say of a black hole
 module _ {O : Type 0} (takes : O → List ℕ → WriteAnswer → O → Type 0) (flushes : O → Bool → O → Type 0)
     (IsReport : (hole : ℕ) → (text : List ℕ) → (code : ℕ) → Type 0) where
-  -- The reports of these black holes are printed one after the other, in their order. The first whose exit status is
-  -- not 0 is the last one, and gives the exit status. A fault may come before it, and ends the command.
+  -- The reports for these black holes are printed in order. The first whose exit status is not 0 is the last one, and
+  -- gives the exit status. A fault may come before it, and ends the command.
   pub data TellsHoles (output' : O) (code : ℕ) : (holes : List ℕ) → (output : O) → Type 0 where
     -- all are printed
     all_told : code ≡ DONE → TellsHoles output' code [] output'
@@ -102,10 +101,9 @@ module _ {O : Type 0} (takes : O → List ℕ → WriteAnswer → O → Type 0) 
         → TellsHoles output' code (hole ∷ holes) output'
 
 module _ {O : Type 0} (takes : O → List ℕ → WriteAnswer → O → Type 0) (flushes : O → Bool → O → Type 0) where
-  -- An exploration of a match of the tournament that is named, with each node other than its home base as the only
-  -- black hole in turn, whose agents run modules with these arguments: one for all of them, or one for each agent. If
-  -- the exit status is 0 and no schedules were drawn, every schedule solves the match with each of these black holes,
-  -- if agents run the modules of the reports.
+  -- An exploration with --all-holes of a match of the named tournament, whose agents run modules with these arguments:
+  -- one for all agents, or one for each agent. If the exit status is 0 and no schedules were drawn, every schedule
+  -- solves the match with each of these black holes, if agents run the modules of the reports.
   pub data ExploresHoles (arguments : List (List ℕ)) (exploration : Exploration) (output output' : O) (code : ℕ) :
       Type 0 where
     explores_holes : (lineup : Lineup) → IsAssembled lineup → (ready : Ready)

@@ -1,4 +1,4 @@
--- What a host was asked, and what it has answered, by the bytes that were written to it and those that it gave.
+-- The questions to a host and its answers, as the bytes that were written and read.
 use Rattle.std.specs.Prelude.{◌≡◌, ℕ, Bool, true, false, Some, List, [], ◌∷◌, ◌++◌, codes, decimal}
 use Rattle.std.specs.Str.Parse.{IsNumeral, digits_value, without_leading_plus}
 use Rattle.bhs_model.specs.declared.commands.Command.{Command}
@@ -23,8 +23,8 @@ abbrev pub happened : Observation → List ℕ
 happened Woke = codes "\"wakes\":true"
 happened (Heard reply) = codes "\"hears\":" ++ line reply
 
--- the line of a question: what does this agent hold at the start; or what does an agent hold that held this memory, and
--- to which this has happened
+-- the line of a question: it asks for the first memory of an agent, or for the memory after an observation, given the
+-- one before
 abbrev pub begin_question : (agent : ℕ) → List ℕ
 begin_question agent = codes "{\"begin\":" ++ decimal agent ++ codes "}\n"
 
@@ -53,8 +53,8 @@ command_by (firsts.Tell command) = command
 abbrev pub IsCommand : (said : List ℕ) → Command → Type 0
 IsCommand said command = (first : First) × (says said ≡ Some first) × (command ≡ command_by first)
 
--- These bytes are an answer: a line with a memory and with what a program does that holds it, and then the line of the
--- command, if it says one.
+-- These bytes are an answer: a line with a memory and the step of a program in that memory, and the line of its command
+-- if the step says one.
 abbrev pub IsAnswer : (text : List ℕ) → (memory : ℕ) → Step → Type 0
 IsAnswer text memory (Says command) = (first said : List ℕ) × IsNumbered first memory (codes "says")
     × IsCommand said command × (text ≡ first ++ 10 ∷ (said ++ 10 ∷ []))
@@ -62,7 +62,7 @@ IsAnswer text memory Sleeps = (first : List ℕ) × IsNumbered first memory (cod
 IsAnswer text memory Stops = (first : List ℕ) × IsNumbered first memory (codes "stops") × (text ≡ first ++ 10 ∷ [])
 IsAnswer text memory Fails = (first : List ℕ) × IsNumbered first memory (codes "fails") × (text ≡ first ++ 10 ∷ [])
 
--- of what was read, a line and its line feed were taken, or all of it as a part of a line
+-- from the bytes that were read, a line with its line feed was taken, or all bytes as a part of a line
 abbrev pub TakesHeld : (text taken rest : List ℕ) → (is_line : Bool) → Type 0
 TakesHeld text taken rest true = text ≡ taken ++ 10 ∷ rest
 TakesHeld text taken rest false = (text ≡ taken) × (rest ≡ [])

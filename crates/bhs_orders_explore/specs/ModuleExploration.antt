@@ -62,7 +62,7 @@ abbrev pub module_lines : List ModuleLine → List ℕ
 module_lines [] = []
 module_lines (line ∷ lines) = module_line line ++ module_lines lines
 
--- what was found, and the lines of the modules: one for all agents, or one for each agent, in their order
+-- the report of an exploration: the finding, and a line for each module in the order of the command
 abbrev pub module_discovery : Discovery → List ModuleLine → List ℕ
 module_discovery found lines = discovery found ++ module_lines lines
 
@@ -74,7 +74,7 @@ is_of_one (Comes verdict schedule) = true
 is_of_one other = false
 
 -- What was found of this match, with its held links, is true of agents in these roles. Schedules were drawn if the
--- exploration has that. If all were tried, what was found speaks of all of them.
+-- exploration has that. A search of all schedules has a finding about all of them.
 pub record IsFoundOfModules (ready : Ready) (exploration : Exploration) (roles : Roles) (fuel : ℕ) (found : Discovery) :
     Type 0 where
   pub links : List (ℕ × ℕ)
@@ -102,7 +102,7 @@ pub record IsModuleReport (ready : Ready) (exploration : Exploration) (roles : R
 
 -- ---- the modules that are given
 
--- one module for all agents, or one for each
+-- the command names one module for all agents, or one for each agent
 abbrev pub AreFor : (agents modules : ℕ) → Type 0
 AreFor agents modules = (modules ≡ 1) ⊎ (modules ≡ agents)
 
@@ -110,7 +110,7 @@ AreFor agents modules = (modules ≡ 1) ⊎ (modules ≡ agents)
 abbrev pub arguments_of : Roles → List (List ℕ)
 arguments_of roles = map (λ role. role.arguments.items) (all_roles roles)
 
--- the match of this number is wanted, with these modules: one for all its agents, or one for each of them
+-- the command asks for the match of this number, with one module for all its agents or one for each
 pub record IsWanted (lineup : Lineup) (game : ℕ) (modules : List AgentModule) (ready : Ready) : Type 0 where
   pub is_match : slice_get lineup.ready.items game ≡ Some ready
   pub enough : AreFor ready.game.setup.agents (length (map (λ it. it.arguments) modules))
@@ -131,8 +131,8 @@ module _ {O : Type 0} (takes : O → List ℕ → WriteAnswer → O → Type 0) 
     pub prints : Prints takes flushes text output output' printed
     pub coded : code ≡ (if printed == DONE then done else printed)
 
-  -- an exploration of a match of the tournament that is named, whose agents run modules with these arguments: one for
-  -- all of them, or one for each agent, in their order
+  -- an exploration of a match of the named tournament, whose agents run modules with these arguments: one for all
+  -- agents, or one for each agent in order
   pub data ExploresModules (arguments : List (List ℕ)) (exploration : Exploration) (output output' : O) (code : ℕ) :
       Type 0 where
     explores_modules : (lineup : Lineup) → IsAssembled lineup → (ready : Ready)

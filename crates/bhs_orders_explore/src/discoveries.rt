@@ -14,14 +14,14 @@ use bhs_schedules::{Bounds, Failure, Finding};
 use bhs_standings::outcome_text;
 use std::alloc::Global;
 
-/// What was found: under every schedule, or under those that were drawn.
+/// A finding about every schedule, or about drawn schedules.
 #[derive(Drop)]
 pub(crate) enum Discovery {
     Tried(Explored),
     Drawn(SampleResult),
 }
 
-/// What is told of a discovery.
+/// The report of a discovery.
 pub(crate) fn found_of(discovery: &Discovery) -> &Finding
     ensures { result.now ≡ found_in discovery.now }
 {
@@ -31,7 +31,7 @@ pub(crate) fn found_of(discovery: &Discovery) -> &Finding
     }
 }
 
-/// A line of what was found, and one of how much was visited or drawn.
+/// A line with the finding, and one with the counts of visited states or drawn schedules.
 pub(crate) fn text_of(alloc: Global, found: &Discovery) -> Result<String, Memory>
     ensures { IfOk result (λ text. string_bytes text ≡ discovery found.now) }
 {
@@ -85,7 +85,7 @@ pub(crate) fn status_of(found: &Finding) -> u8
     }
 }
 
-// The line of what was found.
+// Writes the line of a finding.
 fn found_line(alloc: Global, found: &Finding) -> Result<String, Memory>
     ensures { IfOk result (λ text. string_bytes text ≡ found_line found.now) }
 {
@@ -145,7 +145,7 @@ fn endless_line(
     )
 }
 
-// The word for yes or no.
+// The JSON word for a truth value.
 fn bool_text(is: bool) -> &'static str
     ensures { result.now ≡ bool_text is }
 {

@@ -25,8 +25,8 @@ use std::rt::Files;
 const VISITS: u32 = 262_144;
 
 /// Reads a tournament as `check` does, and tries every schedule of one of its matches, or draws some. The host that
-/// plays the agents is asked by lines of the writer, and answers by lines of the reader. Then what was found is
-/// printed. A fault goes to `errors` and ends it. The answer is the exit status.
+/// plays the agents is asked by lines of the writer, and answers by lines of the reader. It then prints the finding. A
+/// fault goes to `errors` and ends it. The answer is the exit status.
 pub fn explore_named<F: Files, R: Input, W: Output, E: Write>(
     alloc: Global,
     files: &F,
@@ -107,7 +107,7 @@ fn discovered<R: Input, W: Output>(
     }
 }
 
-// What an explorer finds, under all schedules or under those that it draws.
+// Runs an explorer over all schedules, or over drawn ones.
 fn made<R: Input, W: Output>(
     explorer: &mut Explorer,
     host: &mut Host<'_, R, W>,
@@ -130,7 +130,7 @@ fn made<R: Input, W: Output>(
     }
 }
 
-// What is found under all schedules. Now and then the host is told how far the search is.
+// Runs an explorer over all schedules. Now and then the host is told how far the search is.
 fn tried<R: Input, W: Output>(
     explorer: &mut Explorer,
     host: &mut Host<'_, R, W>,

@@ -193,7 +193,7 @@ impl HoleSearches<'_> {
         Ok((text, status))
     }
 
-    // Prints these results, up to the first of which not all was done.
+    // Prints the results in order, up to the first search that was not done.
     fn print_results<W: Output, E: Write>(
         &self,
         results: &[HoleResult],
@@ -271,7 +271,7 @@ fn roles_of(alloc: Global, files: &[ModuleFile]) -> Result<Roles, Memory>
     }
 }
 
-// A role for each of these files.
+// Makes a role for each module file.
 fn roles_in(alloc: Global, files: &[ModuleFile]) -> Result<Vec<Role>, Memory>
     ensures arguments { IfOk result (λ roles. map (λ role. role.arguments.items) roles.items
         ≡ map (λ file. file.arguments.items) files.now) }
@@ -285,7 +285,7 @@ fn roles_in(alloc: Global, files: &[ModuleFile]) -> Result<Vec<Role>, Memory>
     Ok(roles)
 }
 
-// The role of agents that run the module of a file. It was one when it was read, so only memory may be lacking.
+// The role of agents that run the module of a file. The file was valid when it was read, so the only fault is memory.
 fn role_of(alloc: Global, file: &ModuleFile) -> Result<Role, Memory>
     ensures arguments { IfOk result (λ role. role.arguments.items ≡ file.now.arguments.items) }
     ensures program { IfOk result (λ role. Some (contents_of role.program) ≡ module_in file.now.bytes.items) }

@@ -1,5 +1,4 @@
-//! A team that a host plays at the other end of an input and an output. Each question to it is a line, and so is each
-//! answer.
+//! A team that a host plays at the other end of an input and an output. Questions and answers are lines.
 
 ghost use Rattle.std.specs.Prelude.{◌≡◌, ◌++◌, ◌∷◌, [], ℕ, List, Bool, IfOk, IfSome, OnOk, Ok, true, false};
 ghost use Rattle.bhs_wire.specs.LentReply.{reply_of};
@@ -89,7 +88,7 @@ impl<'h, R: Input, W: Output> Host<'h, R, W> {
         self.answer(&question)
     }
 
-    // What an agent holds that held this before, and to which this has happened.
+    // Asks for the memory of an agent after an observation, given its memory before.
     fn held_next(&mut self, before: u32, latest: Latest, shown: &str) -> Result<TeamAnswer, Fault>
         ensures { IfOk result (λ answer. IsReplied R.gives W.takes W.flushes self.old
             (next_question before (item_with latest shown.now)) answer.memory answer.step self.new) }
@@ -230,7 +229,7 @@ fn begin_line(alloc: Global, agent: u16) -> Result<Vec<u8>, Memory>
     Ok(Vec::from_slice(alloc, line.as_bytes())?)
 }
 
-// The question what is held by an agent that held this before, and to which this has happened.
+// The question for the memory of an agent after an observation, given its memory before.
 fn ask_line(alloc: Global, before: u32, latest: Latest, shown: &str) -> Result<Vec<u8>, Memory>
     ensures { IfOk result (λ text. text.items ≡ next_question before (item_with latest shown.now)) }
 {

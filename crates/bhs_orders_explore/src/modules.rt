@@ -69,8 +69,8 @@ impl FileRoles {
 }
 
 /// Reads a tournament as `check` does, then the modules of its agents, and tries every schedule of one of its matches,
-/// or draws some. Then what was found is printed, with a line for each module. A fault goes to `errors` and ends it.
-/// Now and then a line there says how far the search is. The answer is the exit status.
+/// or draws some. It then prints the finding, and a line for each module. A fault goes to `errors` and ends it. Now and
+/// then a line there says how far the search is. The answer is the exit status.
 pub fn explore_modules_named<F: Files, W: Output, E: Write>(
     alloc: Global,
     files: &F,
@@ -107,8 +107,8 @@ pub fn explore_modules_named<F: Files, W: Output, E: Write>(
     }
 }
 
-/// The match of this number, and the first module of its agents and the others. Why they do not go together goes to
-/// `errors`; the answer is then its exit status.
+/// The match of this number, the first module, and the further ones. Why they do not go together goes to `errors`; the
+/// answer is then its exit status.
 pub(crate) fn wanted<'l, E: Write>(
     lineup: &'l Lineup,
     name: &str,
@@ -143,7 +143,8 @@ pub(crate) fn print_report<W: Output, E: Write>(
     if printed == DONE { status } else { printed }
 }
 
-// Splits the modules into the first and the others. There must be one for all agents, or one for each agent.
+// Splits the list of modules into its first element and the rest. The command needs one module for all agents, or one
+// for each agent.
 fn modules_for<'m>(
     agents: u16,
     modules: &'m [AgentModule],
@@ -381,8 +382,8 @@ pub(crate) struct ModuleSearch<'m> {
 }
 
 impl ModuleSearch<'_> {
-    /// What is found of the match, or of the match with this node as its only black hole, by agents in these roles: as
-    /// it is printed, and its exit status.
+    /// Searches the match, with this node as its only black hole if one is given. Returns the printed report and the
+    /// exit status.
     pub(crate) fn report<E: Write>(
         &self,
         alloc: Global,
@@ -402,7 +403,7 @@ impl ModuleSearch<'_> {
         Ok((text, status_of(found_of(&found))))
     }
 
-    // What is found of the match, or of the match with this node as its only black hole.
+    // Searches the match, with this node as its only black hole if one is given.
     fn discovered<E: Write>(
         &self,
         alloc: Global,
@@ -444,7 +445,7 @@ fn agents_in(alloc: Global, roles: Roles) -> Result<Agents, Memory>
     Ok(Agents::new(alloc, roles, FUEL)?)
 }
 
-// What was found under all schedules. It is nothing that is told of one alone; the check of that is for the contract.
+// The finding of a search of all schedules. It speaks of no single schedule; the check of that is for the contract.
 fn tried(explored: Explored) -> Result<Discovery, Fault>
     ensures found { IfOk result (λ found. found ≡ Tried explored) }
     ensures all { IfOk result (λ found. is_of_one explored.found ≡ false) }

@@ -19,7 +19,7 @@ pub(crate) fn world_of(alloc: Global, ready: &Ready, hole: Option<u16>) -> Resul
 {
     let net = ready.game.net().try_clone(alloc)?;
     let setup = setup_with(alloc, ready.game.setup(), hole)?;
-    // The match was set up so, but for the black hole, so only memory may be lacking.
+    // The setup differs from a valid one by its black hole alone, so the only fault is memory.
     match World::new(alloc, net, setup) {
         Ok(world) => Ok(world),
         Err(_) => Err(Fault::Memory),

@@ -43,7 +43,7 @@ module _ {P I O : Type 0} (files : P → List ℕ → WriteAnswer → P → Type
   abbrev pub TellsByLine : (IsReport : List ℕ → Type 0) → (output output' : O) → ℕ → Type 0
   TellsByLine = Reports (PrintsByLine takes flushes)
 
-  -- how an order is carried out, if there is memory to begin
+  -- the effect of an order, once memory suffices to begin
   abbrev pub Does : Order → (input input' : I) → (output output' : O) → ℕ → Type 0
   Does (order.Rehearse tournament prefix) input input' output output' code =
       RehearsesEither files gives takes flushes tournament prefix input input' output output' code
@@ -78,7 +78,7 @@ module _ {P I O : Type 0} (files : P → List ℕ → WriteAnswer → P → Type
 
   pub data Obeys (order : Order) (input input' : I) (output output' : O) (code : ℕ) : Type 0 where
     does : Does order input input' output output' code → Obeys order input input' output output' code
-    -- there was no memory to begin
+    -- memory ran out before the command began
     lacks_memory : code ≡ NO_MEMORY → Rests input input' output output' → Obeys order input input' output output' code
 
   -- how the program goes on these words
@@ -92,5 +92,5 @@ module _ {P I O : Type 0} (files : P → List ℕ → WriteAnswer → P → Type
     -- they are refused
     refuses_words : AreRefused words → code ≡ REFUSED_WORDS → Rests input input' output output'
         → Runs words input input' output output' code
-    -- there was no memory to read them
+    -- memory ran out before the words were read
     lacks_room : code ≡ NO_MEMORY → Rests input input' output output' → Runs words input input' output output' code

@@ -1,4 +1,4 @@
-//! What the program does with the words that it is given: each command is carried out.
+//! The dispatch of the program: it parses its words and runs the command.
 #![tactic(auto)]
 
 mod orders;

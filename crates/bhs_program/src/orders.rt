@@ -22,12 +22,12 @@ use std::net::{Net, TcpListener, TcpStream};
 
 /// Does what the words after the program's name order, and answers the exit status. Files are opened, threads started
 /// and sockets listened on through `rt`; of the orders only `serve` and a search with all black holes, which runs on
-/// threads, do more with it than open files.
-/// What is asked for goes to `writer`; why it could not be done goes to `errors`, as a line `WHERE: WHAT`.
+/// threads, do more with it than open files. Output goes to `writer`; a fault goes to `errors`, as a line `WHERE:
+/// WHAT`.
 ///
-/// `Runs` goes by the cases of the words: what was read and written, call by call, and with which status. Of the files
-/// that are read it says that some text is what they are taken for, of those that are written what they took. It says
-/// nothing of what goes to `errors`.
+/// `Runs` goes by the cases of the words: what was read and written, call by call, and with which status. For each file
+/// that is read it says which text the file is taken for, and for each file that is written which bytes it took. It
+/// says nothing of what goes to `errors`.
 pub fn run<
     S: AsStr,
     R: Machine + Net<Listener = TcpListener, Stream = TcpStream>,

@@ -11,7 +11,7 @@ use std::env::FillError;
 use std::io::Write;
 use std::rt::Env;
 
-// The bytes of a word for which there is room at first.
+// The room for a word at first, in bytes.
 const ROOM: usize = 256;
 
 /// The words after the program's name. Where one of them is no UTF-8 the command line is refused: the first such word
@@ -42,7 +42,7 @@ pub fn words_of<V: Env, E: Write>(
     Ok(words)
 }
 
-// The bytes of a word; None behind the last one. Where there is no room for them, twice as much is asked for.
+// Reads a word of the command line, or None after the last one. A longer word is read again with twice the room.
 fn bytes_of<V: Env>(alloc: Global, process: &V, number: usize) -> Result<Option<Vec<u8>>, Memory> {
     let mut bytes = Vec::new(alloc);
     let mut room = ROOM;
