@@ -21,6 +21,7 @@ use Rattle.bhs_schedules.specs.declared.answers.Step.TheVariants.{Says, Stops}
 use Rattle.bhs_schedules.specs.Strategies.{History, Heard, Strategy}
 use Rattle.bhs_searcher.specs.CommandLines.{data_of, PortFits}
 use Rattle.bhs_searcher.specs.Talks.{IsLineOf, Talks, Meets, begins, goes_on, speaks}
+use Rattle.bhs_searcher.specs.WakeUps.{wake_ups_in}
 use Rattle.bhs_searcher.proofs.CommandLemmas.{first_in-data_of, is_plain}
 use Rattle.bhs_searcher.proofs.ReplyLemmas.{reply_on-line}
 use Rattle.bhs_searcher.specs.Transcripts.{Transcript, unused, Writes, Reads}
@@ -34,16 +35,16 @@ lines_behind said more whole =
     ∙ ap (λ (found : List Line). lines said ++ found) (sym (lines_after-as_held [] more))
 
 -- a client that has said these commands and heard these bytes
-pub record HasTalked (strategy : Strategy) (key : List ℕ) (history : History) (said : List Command)
+pub record HasTalked (wakeups : ℕ) (strategy : Strategy) (key : List ℕ) (history : History) (said : List Command)
     (heard : List ℕ) : Type 0 where
   pub transcript : Transcript
-  pub talks : Talks Writes Reads strategy key unused history transcript
+  pub talks : Talks Writes Reads wakeups strategy key unused history transcript
   pub said_is : map command_of (lines transcript.said) ≡ said
   pub whole : rest transcript.said ≡ []
   pub heard_is : transcript.heard ≡ heard
 
-pub talked_none : (strategy : Strategy) (key : List ℕ) → HasTalked strategy key [] [] []
-talked_none strategy key =
+pub talked_none : (wakeups : ℕ) (strategy : Strategy) (key : List ℕ) → HasTalked wakeups strategy key [] [] []
+talked_none wakeups strategy key =
     record { transcript = unused; talks = begins; said_is = refl; whole = refl; heard_is = refl }
 
 -- the line of a command is the text of its data
@@ -63,21 +64,24 @@ line_is key command spelled = record {
 }
 
 -- it says a command and hears a reply
-pub says_then : (strategy : Strategy) (key : List ℕ) (history : History) (said : List Command) (heard : List ℕ)
+pub says_then : (wakeups : ℕ) (strategy : Strategy) (key : List ℕ) (history : History) (said : List Command)
+    (heard : List ℕ)
     (command : Command) (reply : Reply) → strategy history ≡ Says command → IsSpelled key command → NumbersFit reply
-    → HasTalked strategy key history said heard
-    → HasTalked strategy key (Heard reply ∷ history) (said ++ command ∷ []) (heard ++ text_of reply)
-says_then strategy key history said heard command reply says spelled fits talked =
+    → HasTalked wakeups strategy key history said heard
+    → HasTalked wakeups strategy key (Heard reply ∷ history) (said ++ command ∷ []) (heard ++ text_of reply)
+says_then wakeups strategy key history said heard command reply says spelled fits talked =
     let line : List ℕ = compact_text (data_of key command) in
     let told : Transcript = record talked.transcript { said = talked.transcript.said ++ (line ++ 10 ∷ []) } in
     let new : Transcript = record told { heard = told.heard ++ (line_of reply ++ 10 ∷ []) } in
-    let meets : Meets Writes Reads key (Says command) talked.transcript (Heard reply) new =
+    let meets : Meets Writes Reads key wakeups (wake_ups_in history).in_a_row (Says command) talked.transcript
+    (Heard reply) new =
     speaks reply told new (line, line_is key command spelled, refl)
     (line_of reply, reply_on-line reply fits, (reply_flat reply fits, refl)) in
     record {
       transcript = new;
       talks = goes_on history (Heard reply) talked.transcript new talked.talks
-          (subst (λ step. Meets Writes Reads key step talked.transcript (Heard reply) new) (sym says) meets);
+          (subst (λ step. Meets Writes Reads key wakeups (wake_ups_in history).in_a_row step talked.transcript
+          (Heard reply) new) (sym says) meets);
       said_is = ap (map command_of) (lines_behind talked.transcript.said (line ++ 10 ∷ []) talked.whole)
           ∙ map-append command_of (lines talked.transcript.said) (lines (line ++ 10 ∷ []))
           ∙ ap (λ (first : List Command). first ++ map command_of (lines (line ++ 10 ∷ []))) talked.said_is
@@ -93,17 +97,20 @@ says_then strategy key history said heard command reply says spelled fits talked
     rest_of_line before line none = ap (λ (from : List ℕ). rest_after from (line ++ 10 ∷ [])) none ∙ rest-ended line []
 
 -- it waits and hears a reply
-pub waits_then : (strategy : Strategy) (key : List ℕ) (history : History) (said : List Command) (heard : List ℕ)
-    (reply : Reply) → strategy history ≡ Stops → NumbersFit reply → HasTalked strategy key history said heard
-    → HasTalked strategy key (Heard reply ∷ history) said (heard ++ text_of reply)
-waits_then strategy key history said heard reply stops fits talked =
+pub waits_then : (wakeups : ℕ) (strategy : Strategy) (key : List ℕ) (history : History) (said : List Command)
+    (heard : List ℕ)
+    (reply : Reply) → strategy history ≡ Stops → NumbersFit reply → HasTalked wakeups strategy key history said heard
+    → HasTalked wakeups strategy key (Heard reply ∷ history) said (heard ++ text_of reply)
+waits_then wakeups strategy key history said heard reply stops fits talked =
     let new : Transcript = record talked.transcript { heard = talked.transcript.heard ++ (line_of reply ++ 10 ∷ []) } in
-    let meets : Meets Writes Reads key Stops talked.transcript (Heard reply) new =
+    let meets : Meets Writes Reads key wakeups (wake_ups_in history).in_a_row Stops talked.transcript (Heard reply) new
+    =
     speaks reply talked.transcript new refl (line_of reply, reply_on-line reply fits, (reply_flat reply fits, refl)) in
     record {
       transcript = new;
       talks = goes_on history (Heard reply) talked.transcript new talked.talks
-          (subst (λ step. Meets Writes Reads key step talked.transcript (Heard reply) new) (sym stops) meets);
+          (subst (λ step. Meets Writes Reads key wakeups (wake_ups_in history).in_a_row step talked.transcript
+          (Heard reply) new) (sym stops) meets);
       said_is = talked.said_is;
       whole = talked.whole;
       heard_is = ap (λ (bytes : List ℕ). bytes ++ text_of reply) talked.heard_is;

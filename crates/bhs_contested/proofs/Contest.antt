@@ -1,6 +1,6 @@
 -- What a team solves under every schedule it solves in a contest.
-use Rattle.std.proofs.Common.{ℕ, ◌+◌, ◌<◌, ◌≤◌, ◌≡◌, ◌∙◌, ◌⊎◌, Bool, true, false, not, List, [], ◌∷◌, ◌++◌, map}
-use Rattle.std.proofs.Common.{nat_lt, refl, sym, ap, inl, inr, subst, arith, append_assoc, append-nil}
+use Rattle.std.proofs.Common.{ℕ, ◌<◌, ◌≡◌, ◌∙◌, ◌⊎◌, Bool, true, false, not, List, [], ◌∷◌, ◌++◌, map}
+use Rattle.std.proofs.Common.{nat_lt, refl, sym, ap, inl, inr, subst, append_assoc, append-nil}
 use Rattle.std.specs.Prelude.{◌≢◌}
 use Rattle.std.proofs.lemmas.Bool.{true≢false, false≢true, and_parts, cond_both, ltb-true, lt-ltb}
 use Rattle.std.proofs.lemmas.Bool.Decides.{eqb_tells}
@@ -35,13 +35,13 @@ use Rattle.bhs_theorems.proofs.ContestMetLemmas.{sent_as_met_lemma}
 use Rattle.bhs_contested.specs.Contests.{IsPlayedOut, IsPlayedBy, IsPlayedIn, IsPlainMatch, IsOrderly, trial_in}
 use Rattle.bhs_contested.specs.Contests.{ContestsAreSolved, ContestsAreNeverWrong, ContestsStayWithin}
 use Rattle.bhs_contested.proofs.Steps.{steps, steps_met, steps-view_from}
-use Rattle.bhs_contested.proofs.Doings.{Doing, met_in, naps_in, Follows, with_arrival, arrival_met, arrival_naps}
+use Rattle.bhs_contested.proofs.Doings.{Doing, met_in, Follows, with_arrival, arrival_met}
 use Rattle.bhs_contested.proofs.Doings.{arrival_follows}
-use Rattle.bhs_contested.proofs.Scenes.{Keeps, IsPlayedTo}
+use Rattle.bhs_contested.proofs.Scenes.{Keeps, IsPlayedTo, terms_of}
 use Rattle.bhs_contested.proofs.Heart.{heart}
 use Rattle.bhs_contested.proofs.Early.{within_early}
 use Rattle.bhs_contested.proofs.Final.{judged, never_wrong}
-use Rattle.bhs_contested.proofs.Talking.{spoken, naps_spoken}
+use Rattle.bhs_contested.proofs.Talking.{spoken}
 use Rattle.bhs_contested.proofs.Plain.{IsPlainPast, plain_past, plain_met}
 use Rattle.bhs_contested.proofs.PlayingOut.{playing_out}
 
@@ -86,7 +86,7 @@ heard_run world state [] all = all
 heard_run world state (event ∷ events) all =
     heard_run world (next world state event) events (heard_next world state event all)
 
--- who has ended did not leave
+-- a session that ended with an accusation is not one that left
 never_left : (quota : ℕ) (view : View) → standing view ≡ Stopped → IsHeard quota (Told view commands.Leave Nothing) → ⊥
 never_left quota view stopped is =
     false≢true (sym (ap (λ (s : Standing). accepts s (nat_lt (used view) quota) commands.Leave) stopped) ∙ is.0)
@@ -144,7 +144,7 @@ all_written one is (inr over) = subst (λ (ended : Ended). MayLack ended is.unwr
 
 -- ---- what is to be played of an agent
 
--- what is plain of a past is plain of what was met
+-- a plain past consists of plain meetings
 plain_view : (quota limit : ℕ) (view past : View) → IsMet view past → IsPlainPast quota limit past
     → IsPlainPast quota limit view
 plain_view quota limit view past (inl same) plain = subst (IsPlainPast quota limit) same plain
@@ -170,9 +170,8 @@ module _ (play : Play) (held : Held) (wakeups : ℕ) (strategies : Strategies) (
   final agent = (state_of play).past agent
 
   record IsToPlay (agent : ℕ) (doings : List Doing) : Type 0 where
-    follows : Follows (strategies agent) play.setup.quota play.setup.board [] Start doings
+    follows : Follows (strategies agent) (terms_of trial) [] Start doings
     left : steps (final agent) ≡ steps_met (met_in doings)
-    rested : naps_in doings ≤ wakeups + 1
 
   record ToPlay (agent : ℕ) : Type 0 where
     doings : List Doing
@@ -203,38 +202,33 @@ module _ (play : Play) (held : Held) (wakeups : ℕ) (strategies : Strategies) (
       sym (append_assoc is.heard is.left (one.more ++ played.unread))
       ∙ ap (λ (first : List Command). first ++ (one.more ++ played.unread)) (sym is.said)
       ∙ sym (append_assoc one.said one.more played.unread) ∙ played.read in
-      let talk = spoken (strategies agent) played.key played.history played.transcript played.talks in
-      let naps_are = naps_spoken (strategies agent) played.key played.history played.transcript talk in
+      let talk = spoken wakeups (strategies agent) played.key played.history played.transcript played.talks in
       let out =
-      playing_out (strategies agent) played.key quota board is.last talk.items [] Start is.met played.transcript.said
+      playing_out (strategies agent) played.key (terms_of trial) is.last talk.items [] Start is.met
+      played.transcript.said
       played.transcript.heard is.heard (is.left ++ (one.more ++ played.unread)) talk.speaks_all (played.heard ∙ written)
       (subst (λ (q : ℕ). AreDue q Start is.met) quota_is is.due)
       (subst (λ (limit : ℕ). AreSaid limit Start is.met is.heard) board_is is.are_said) said
       (plain_met quota board is.met Start
       (plain_view quota board (view_of is.met) (final agent) met_is past_plain)).0 in
-      let rested : naps_in out.doings ≤ wakeups + 1 = few _ _ _ _ out.few naps_are played.few_naps in
       let met_steps : steps (view_of is.met) ≡ steps_met (met_in out.doings) =
       steps-view_from Start is.met ∙ ap steps_met (sym out.same) in
       elim met_is [
         | inl lived ↦ record {
           doings = out.doings;
-          is = λ within. record { follows = out.follows; left = ap steps lived ∙ met_steps; rested = rested };
+          is = λ within. record { follows = out.follows; left = ap steps lived ∙ met_steps };
         }
         | inr came ↦ record {
           doings = with_arrival out.doings came.1.0;
           is = λ within. record {
-            follows = arrival_follows (strategies agent) quota board came.1.0 out.doings [] Start
+            follows = arrival_follows (strategies agent) (terms_of trial) came.1.0 out.doings [] Start
                 (ap (λ (met : List Meeting). standing (view_from Start met)) out.same ∙ came.0) out.follows;
             left = ap steps came.1.1 ∙ ap (λ (met : List Meeting). met ++ Arrives came.1.0 ∷ []) met_steps
                 ∙ sym (steps_more (met_in out.doings) came.1.0)
                 ∙ ap steps_met (sym (arrival_met out.doings came.1.0));
-            rested = subst (λ (n : ℕ). n ≤ wakeups + 1) (sym (arrival_naps out.doings came.1.0)) rested;
           };
         }
       ]
-    where
-      few : (count among woken most : ℕ) → count ≤ among → among ≡ woken → woken ≤ most → count ≤ most
-      few count among woken most first second third = omega (arith, first, second, third)
 
   to_play : (clients : (agent : ℕ) → Attended)
       → ((agent : ℕ) → agent < play.setup.agents → IsPlayedIn play wakeups strategies agent (clients agent))
@@ -261,8 +255,6 @@ module _ (play : Play) (held : Held) (wakeups : ℕ) (strategies : Strategies) (
     doings = λ agent. (all agent).doings;
     follows = λ agent within. ((all agent).is within).follows;
     left = λ agent within. ((all agent).is within).left;
-    rested = λ agent within. let few : naps_in (all agent).doings ≤ wakeups + 1 = ((all agent).is within).rested in
-        omega (arith, few);
   }
 
   -- a schedule comes to where the log does

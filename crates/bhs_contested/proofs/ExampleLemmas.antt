@@ -80,26 +80,26 @@ first_heard =
     ((((([] ++ text_of (Here 2 None [])) ++ text_of Gone) ++ text_of (Here 2 (Some 1) [])) ++ text_of Gone)
     ++ text_of (Here 2 (Some 0) [])) ++ text_of Noted
 
-first_talked : HasTalked (explorers 0) key first_history (Enter ∷ Depart 0 ∷ Depart 1 ∷ Accuse 1 ∷ []) first_heard
+first_talked : HasTalked 0 (explorers 0) key first_history (Enter ∷ Depart 0 ∷ Depart 1 ∷ Accuse 1 ∷ []) first_heard
 first_talked =
-    says_then (explorers 0) key _ _ _ (Accuse 1) Noted refl accuses tt
-    (waits_then (explorers 0) key _ _ _ (Here 2 (Some 0) []) refl (omega arith, omega arith)
-    (says_then (explorers 0) key _ _ _ (Depart 1) Gone refl departs_second tt
-    (waits_then (explorers 0) key _ _ _ (Here 2 (Some 1) []) refl (omega arith, omega arith)
-    (says_then (explorers 0) key _ _ _ (Depart 0) Gone refl departs_first tt
-    (says_then (explorers 0) key _ _ _ Enter (Here 2 None []) refl enters (omega arith, tt)
-    (talked_none (explorers 0) key))))))
+    says_then 0 (explorers 0) key _ _ _ (Accuse 1) Noted refl accuses tt
+    (waits_then 0 (explorers 0) key _ _ _ (Here 2 (Some 0) []) refl (omega arith, omega arith)
+    (says_then 0 (explorers 0) key _ _ _ (Depart 1) Gone refl departs_second tt
+    (waits_then 0 (explorers 0) key _ _ _ (Here 2 (Some 1) []) refl (omega arith, omega arith)
+    (says_then 0 (explorers 0) key _ _ _ (Depart 0) Gone refl departs_first tt
+    (says_then 0 (explorers 0) key _ _ _ Enter (Here 2 None []) refl enters (omega arith, tt)
+    (talked_none 0 (explorers 0) key))))))
 
 abbrev second_heard : List ℕ
 second_heard = (([] ++ text_of (Here 2 None [])) ++ text_of Gone) ++ text_of Over
 
-second_talked : HasTalked (explorers 1) key (Heard Over ∷ Heard Gone ∷ Heard (Here 2 None []) ∷ [])
+second_talked : HasTalked 0 (explorers 1) key (Heard Over ∷ Heard Gone ∷ Heard (Here 2 None []) ∷ [])
     (Enter ∷ Depart 1 ∷ []) second_heard
 second_talked =
-    waits_then (explorers 1) key _ _ _ Over refl tt
-    (says_then (explorers 1) key _ _ _ (Depart 1) Gone refl departs_second tt
-    (says_then (explorers 1) key _ _ _ Enter (Here 2 None []) refl enters (omega arith, tt)
-    (talked_none (explorers 1) key)))
+    waits_then 0 (explorers 1) key _ _ _ Over refl tt
+    (says_then 0 (explorers 1) key _ _ _ (Depart 1) Gone refl departs_second tt
+    (says_then 0 (explorers 1) key _ _ _ Enter (Here 2 None []) refl enters (omega arith, tt)
+    (talked_none 0 (explorers 1) key)))
 
 -- ---- sessions
 
@@ -216,7 +216,6 @@ played zero within = record {
     unread = [];
     read = sym first_talked.said_is;
     heard = first_talked.heard_is ∙ first_bytes;
-    few_naps = omega arith;
     out = inl (inr refl);
   };
 }
@@ -232,7 +231,6 @@ played (suc zero) within = record {
     unread = [];
     read = sym second_talked.said_is;
     heard = second_talked.heard_is ∙ second_bytes;
-    few_naps = omega arith;
     out = inr (refl, not_stopped);
   };
 }

@@ -43,7 +43,7 @@ done_same world one two same same_lost done agent within = elim (done agent with
   | inr is ↦ inr (ap (λ (marks : ℕ → Bool). marks agent) same_lost ∙ is)
 ]
 
--- who is done does not move
+-- an agent that is done cannot move
 done_at : (world : World) (held : Held) (wakeups woken agent : ℕ) (step : Step) (position : Position)
     → (standing_at position ≡ Ended) ⊎ (is_doomed world position ≡ true)
     → is_move world position (action_at held wakeups position woken step agent) ≡ false

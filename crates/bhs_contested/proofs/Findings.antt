@@ -1,4 +1,4 @@
--- What is found in events is found in those that are kept.
+-- The findings of a list of events are those of its kept events.
 use Rattle.std.proofs.Common.{ℕ, ◌≡◌, ◌∙◌, Bool, false, not, Option, List, [], ◌∷◌, refl, sym, ap, ap₂}
 use Rattle.std.proofs.Common.{nat_lt}
 use Rattle.std.proofs.lemmas.Bool.{true≢false, cond_both, or_parts, and_from}

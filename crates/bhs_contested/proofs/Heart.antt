@@ -30,10 +30,10 @@ use Rattle.bhs_contested.specs.Contests.{IsOrderly, AreOverFree}
 use Rattle.bhs_contested.proofs.Steps.{steps, steps_met, Grows, grow_run}
 use Rattle.bhs_contested.proofs.Untouched.{all_out}
 use Rattle.bhs_contested.proofs.Stuck.{never_stuck}
-use Rattle.bhs_contested.proofs.Doings.{Doing, Naps, Meets, met_in, naps_in, IsBy, IsOdd, Follows}
+use Rattle.bhs_contested.proofs.Doings.{Doing, Naps, Meets, met_in, IsBy, IsOdd, Follows}
 use Rattle.bhs_contested.proofs.Scenes.{Keeps, IsPlayedTo, state_is, stands_at, takes_at}
 use Rattle.bhs_contested.proofs.Scenes.{deed_is, says_deed, event_turn}
-use Rattle.bhs_contested.proofs.Scenes.{nap_turn, refuse_turn, fewer_in}
+use Rattle.bhs_contested.proofs.Scenes.{nap_turn, refuse_turn, terms_of}
 
 or_left : (one two : Bool) → one ≡ true → (one || two) ≡ true
 or_left one two is = rw is refl
@@ -89,14 +89,14 @@ module _ (trial : Trial) (final : ℕ → View) (orderly : IsOrderly trial) (mov
 
   -- ---- up to what stands in the log
 
-  -- a scene in which this is what the agent meets next, and it is by what its strategy says
+  -- a scene in which the agent's next doing is this meeting, as its strategy says
   record IsReady (front : List Event) (agent : ℕ) (meeting : Meeting) : Type 0 where
     keeps : Keeps trial final front
     rest : List Doing
     now : keeps.doings agent ≡ Meets meeting ∷ rest
     by : IsBy (trial.strategies agent (keeps.scene.history agent)) meeting
     due : IsDue trial.world.quota ((run trial.world front).past agent) meeting
-    follows : Follows (trial.strategies agent) trial.world.quota trial.world.board
+    follows : Follows (trial.strategies agent) (terms_of trial)
         (Heard (answer_to trial.world.board ((run trial.world front).past agent) meeting)
         ∷ keeps.scene.history agent) (past_after ((run trial.world front).past agent) meeting) rest
 
@@ -105,14 +105,15 @@ module _ (trial : Trial) (final : ℕ → View) (orderly : IsOrderly trial) (mov
       → steps_met (met_in doings) ≡ meeting ∷ others → IsReady front agent meeting
   until front agent within meeting others [] k now is = absurd (cc)
   until front agent within meeting others (Naps ∷ doings) k now is =
-      elim (subst (λ (list : List Doing). Follows (trial.strategies agent) trial.world.quota trial.world.board
+      elim (subst (λ (list : List Doing). Follows (trial.strategies agent) (terms_of trial)
       (k.scene.history agent) ((run trial.world front).past agent) list) now (k.follows agent within)) [
-        | inl naps ↦ let after = nap_turn trial final front k agent doings within now naps.0 naps.1 naps.2 in
+        | inl naps ↦ let after = nap_turn trial final front k agent doings within now naps.0 naps.1 naps.2
+            naps.3 in
             until front agent within meeting others doings after.keeps after.now is
         | inr odd ↦ absurd (never_odd front k agent within odd)
       ]
   until front agent within meeting others (Meets (Refuses command) ∷ doings) k now is =
-      elim (subst (λ (list : List Doing). Follows (trial.strategies agent) trial.world.quota trial.world.board
+      elim (subst (λ (list : List Doing). Follows (trial.strategies agent) (terms_of trial)
       (k.scene.history agent) ((run trial.world front).past agent) list) now (k.follows agent within)) [
         | inl says ↦ let after = refuse_turn trial final front k agent command doings within now says.0 says.1 says.2 in
             until front agent within meeting others doings after.keeps after.now is
@@ -121,7 +122,7 @@ module _ (trial : Trial) (final : ℕ → View) (orderly : IsOrderly trial) (mov
   until front agent within meeting others (Meets (Hears command seen) ∷ doings) k now is =
       let same : Hears command seen ≡ meeting = cc in
       let there : k.doings agent ≡ Meets meeting ∷ doings = now ∙ ap (λ (m : Meeting). Meets m ∷ doings) same in
-      elim (subst (λ (list : List Doing). Follows (trial.strategies agent) trial.world.quota trial.world.board
+      elim (subst (λ (list : List Doing). Follows (trial.strategies agent) (terms_of trial)
       (k.scene.history agent) ((run trial.world front).past agent) list) there (k.follows agent within)) [
         | inl does ↦ record {
           keeps = k;
@@ -136,7 +137,7 @@ module _ (trial : Trial) (final : ℕ → View) (orderly : IsOrderly trial) (mov
   until front agent within meeting others (Meets (Arrives seen) ∷ doings) k now is =
       let same : Arrives seen ≡ meeting = cc in
       let there : k.doings agent ≡ Meets meeting ∷ doings = now ∙ ap (λ (m : Meeting). Meets m ∷ doings) same in
-      elim (subst (λ (list : List Doing). Follows (trial.strategies agent) trial.world.quota trial.world.board
+      elim (subst (λ (list : List Doing). Follows (trial.strategies agent) (terms_of trial)
       (k.scene.history agent) ((run trial.world front).past agent) list) there (k.follows agent within)) [
         | inl does ↦ record {
           keeps = k;
@@ -207,11 +208,10 @@ module _ (trial : Trial) (final : ℕ → View) (orderly : IsOrderly trial) (mov
       (answered_by_past world state agent command is_heard
       ∙ ap (rep world.board) (changed_same state.past agent (Told past command shown))))
       lives r.follows
-      (leads front agent within (Hears command shown) refl (λ rest. refl) r)
-      (fewer_in _ _ (ap naps_in r.now)) in
+      (leads front agent within (Hears command shown) refl (λ rest. refl) r) in
       after.keeps
 
-  -- an agent that is on a link is one of the match
+  -- an agent on a link has a number of the match
   bound_within : (front : List Event) (agent node port : ℕ) → (run trial.world front).position agent ≡ Bound node port
       → agent < trial.world.agents
   bound_within front agent node port at =
@@ -260,8 +260,7 @@ module _ (trial : Trial) (final : ℕ → View) (orderly : IsOrderly trial) (mov
       (ap (λ (said : Option Reply). hearing said (r.keeps.scene.history agent))
       (arrival_by_past world state agent arrival ∙ ap (rep world.board) came))
       lives r.follows
-      (leads front agent within (Arrives shown) refl (λ rest. refl) r)
-      (fewer_in _ _ (ap naps_in r.now)) in
+      (leads front agent within (Arrives shown) refl (λ rest. refl) r) in
       after.keeps
 
   -- an agent that is destroyed hears nothing
@@ -281,7 +280,7 @@ module _ (trial : Trial) (final : ℕ → View) (orderly : IsOrderly trial) (mov
       (ap (λ (said : Option Reply). hearing said (k.scene.history agent))
       (no_arrival_no_reply world state agent no_arrival))
       (ap (λ (s : State). s.past agent) (next_no_arrival world state agent no_arrival))
-      (k.follows agent within) (k.left agent within) (fewer_in _ _ refl) in
+      (k.follows agent within) (k.left agent within) in
       after.keeps
 
   -- where it is whom a kept delivery finds

@@ -1,5 +1,5 @@
 -- Searches of every size in contests.
-use Rattle.std.proofs.Common.{ℕ, List, refl, sym, subst}
+use Rattle.std.proofs.Common.{ℕ, refl, sym, subst}
 use Rattle.bhs_net.specs.Network.{Network, nodes_of, degree_of}
 use Rattle.bhs_model.specs.Setups.{world_of}
 use Rattle.bhs_model.specs.Examples.{none_held}

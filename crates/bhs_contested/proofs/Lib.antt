@@ -2,6 +2,7 @@ pub mod Steps
 pub mod Untouched
 pub mod Stuck
 pub mod Doings
+pub mod WakeUpBounds
 pub mod Scenes
 pub mod Heart
 pub mod Findings

@@ -39,7 +39,7 @@ record HasDeparted (strategy : Strategy) (history : History) : Type 0 where
   says : strategy before ≡ Says (Depart port)
   is : history ≡ Heard Gone ∷ before
 
--- what has happened to an agent at this position
+-- the last observation of an agent at this position
 abbrev IsAsAt : Strategy → Position → History → Type 0
 IsAsAt strategy Before history = history ≡ []
 IsAsAt strategy (At node came) history = Unit {0}

@@ -204,7 +204,7 @@ short_whole limit shown expect put short =
     (λ fits. either (λ (reply : Reply). is_of_board reply ≡ true) (bytes_eq shown expect) _ _ refl refl)
     (λ long. absurd (false≢true (sym long ∙ le-leb (length put) limit short)))
 
--- of a Write that is heard, at a node
+-- a Write that is heard at a node is kept whole
 whole_write : (world : World) (state : State) (quota : ℕ) (view : View) (position : Position) (expect put : List ℕ)
     → length put ≤ world.board → standing view ≡ standing_at position
     → (takes_commands (standing view) ≡ true) × (hears quota view (Write expect put) ≡ true)

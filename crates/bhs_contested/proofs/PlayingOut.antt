@@ -1,11 +1,16 @@
 -- What a session met is what its client's strategy says, one after the other.
-use Rattle.std.proofs.Common.{ℕ, ◌+◌, ◌≤◌, ◌≡◌, ◌∙◌, Bool, true, false, List, [], ◌∷◌, ◌++◌}
-use Rattle.std.proofs.Common.{map, refl, sym, ap, inl, inr, subst, arith, append_assoc, if◌then◌else◌}
+use Rattle.std.proofs.Common.{ℕ, ◌≤◌, ◌≡◌, ◌∙◌, Bool, true, false, List, [], ◌∷◌, ◌++◌, length, nat_lt, nat_le}
+use Rattle.std.proofs.Common.{map, refl, sym, ap, inl, inr, subst, arith, append_assoc, if◌then◌else◌, bytes_eq}
 use Rattle.std.proofs.lemmas.Bool.{cond-true}
 use Rattle.bhs_model.specs.declared.commands.Command.{Command}
 use Rattle.bhs_model.specs.declared.commands.Command.TheVariants.{Enter, Look, Write, Depart, Accuse, Leave, Bad}
 use Rattle.bhs_model.specs.declared.replies.Reply.{Reply}
-use Rattle.bhs_model.specs.Views.{View, Away, standing}
+use Rattle.bhs_model.specs.declared.replies.Reply.TheVariants.{Written, Changed, Gone, Noted, Over, No}
+use Rattle.bhs_model.specs.declared.replies.Why.TheVariants.{Long, Port}
+use Rattle.bhs_model.specs.Views.{View, Glance, Nothing, Saw, Seen, Standing, Outside, Present, Away, Ended, standing}
+use Rattle.bhs_model.specs.Views.{ports}
+use Rattle.bhs_model.specs.Replying.{answer, sight_answer, text}
+use Rattle.bhs_model.proofs.LegalLemmas.{either}
 use Rattle.bhs_lock.specs.Passes.{kept_command}
 use Rattle.bhs_session.specs.Texts.{command_of, text_of}
 use Rattle.bhs_wire.specs.Lines.{lines}
@@ -16,14 +21,15 @@ use Rattle.bhs_schedules.specs.Strategies.{History, Observation, Heard, Woke, St
 use Rattle.bhs_theorems.specs.Met.{Meeting, Hears, Refuses, Arrives, past_after, answer_to, bytes_from, takes_commands}
 use Rattle.bhs_theorems.specs.Met.{IsDue, AreDue}
 use Rattle.bhs_theorems.specs.ContestMet.{AreSaid}
-use Rattle.bhs_contested.proofs.Doings.{Doing, Naps, Meets, met_in, naps_in, IsBy, IsOdd, Follows}
+use Rattle.bhs_contested.proofs.Doings.{Doing, Naps, Meets, met_in, IsBy, IsOdd, Terms, Follows}
 use Rattle.bhs_contested.proofs.Spelling.{commands_said, reply_read, some_text}
-use Rattle.bhs_contested.proofs.Talking.{IsOwn, Speaks, naps_among}
+use Rattle.bhs_contested.proofs.Talking.{IsOwn, Speaks}
+use Rattle.bhs_searcher.specs.WakeUps.{wake_ups_in}
 use Rattle.bhs_contested.proofs.Plain.{IsWhole, ArePlain}
 
 -- ---- the command that a pass keeps
 
--- a command that is kept whole is the one that was said
+-- a pass that keeps a command whole keeps the one that was said
 kept_same : (command own : Command) (reply : Reply) → IsWhole command reply
     → kept_command command reply ≡ kept_command own reply → command ≡ own
 kept_same (Write expect put) (Write also other) reply whole same =
@@ -104,15 +110,66 @@ kept_same Bad (Write also other) reply whole same = absurd (no_write (is_of_boar
     no_write true also other e = cc
     no_write false also other e = cc
 
+-- ---- no answer to a command says that the match is over
+
+abbrev IsOther : Reply → Type 0
+IsOther Over = ⊥
+IsOther reply = Unit {0}
+
+sight_other : (limit : ℕ) (command : Command) (glance : Glance) → IsOther (sight_answer limit command glance)
+sight_other limit (Write expect put) (Saw (Seen ports came last_write)) =
+    either IsOther (nat_le (length put) limit)
+    (if bytes_eq (text limit last_write) expect then Written else Changed (text limit last_write)) (No Long)
+    (either IsOther (bytes_eq (text limit last_write) expect) Written (Changed (text limit last_write)) tt tt) tt
+sight_other limit Enter (Saw (Seen ports came last_write)) = tt
+sight_other limit Look (Saw (Seen ports came last_write)) = tt
+sight_other limit (Depart port) (Saw (Seen ports came last_write)) = tt
+sight_other limit (Accuse port) (Saw (Seen ports came last_write)) = tt
+sight_other limit Leave (Saw (Seen ports came last_write)) = tt
+sight_other limit Bad (Saw (Seen ports came last_write)) = tt
+sight_other limit (Write expect put) Nothing = tt
+sight_other limit command Nothing = grind arith
+
+answer_other : (limit : ℕ) (standing : Standing) (ports : ℕ) (command : Command) (glance : Glance)
+    → IsOther (answer limit standing ports command glance)
+answer_other limit standing ports Leave glance = tt
+answer_other limit Away ports (Depart port) glance = tt
+answer_other limit Outside ports (Depart port) glance = either IsOther (nat_lt port ports) Gone (No Port) tt tt
+answer_other limit Present ports (Depart port) glance = either IsOther (nat_lt port ports) Gone (No Port) tt tt
+answer_other limit Ended ports (Depart port) glance = either IsOther (nat_lt port ports) Gone (No Port) tt tt
+answer_other limit Away ports (Accuse port) glance = tt
+answer_other limit Outside ports (Accuse port) glance = either IsOther (nat_lt port ports) Noted (No Port) tt tt
+answer_other limit Present ports (Accuse port) glance = either IsOther (nat_lt port ports) Noted (No Port) tt tt
+answer_other limit Ended ports (Accuse port) glance = either IsOther (nat_lt port ports) Noted (No Port) tt tt
+answer_other limit Away ports Bad glance = tt
+answer_other limit Outside ports Bad glance = tt
+answer_other limit Present ports Bad glance = tt
+answer_other limit Ended ports Bad glance = tt
+answer_other limit Away ports Enter glance = tt
+answer_other limit Outside ports Enter glance = sight_other limit Enter glance
+answer_other limit Present ports Enter glance = sight_other limit Enter glance
+answer_other limit Ended ports Enter glance = sight_other limit Enter glance
+answer_other limit Away ports Look glance = tt
+answer_other limit Outside ports Look glance = sight_other limit Look glance
+answer_other limit Present ports Look glance = sight_other limit Look glance
+answer_other limit Ended ports Look glance = sight_other limit Look glance
+answer_other limit Away ports (Write expect put) glance = tt
+answer_other limit Outside ports (Write expect put) glance = sight_other limit (Write expect put) glance
+answer_other limit Present ports (Write expect put) glance = sight_other limit (Write expect put) glance
+answer_other limit Ended ports (Write expect put) glance = sight_other limit (Write expect put) glance
+
+-- a reply that equals an answer to a command is not Over
+not_over : (reply other : Reply) → IsOther other → reply ≡ other → reply ≡ Over → ⊥
+not_over reply other is same over = subst IsOther (sym same ∙ over) is
+
 -- ---- an agent that plays
 
-module _ (strategy : Strategy) (key : List ℕ) (quota limit : ℕ) (last : List ℕ) where
-  -- what was met may be played by what its strategy says, with no more naps than these
-  pub record IsOut (history : History) (view : View) (met : List Meeting) (most : ℕ) : Type 0 where
+module _ (strategy : Strategy) (key : List ℕ) (terms : Terms) (last : List ℕ) where
+  -- the agent's strategy may have met this, with wake-ups in between
+  pub record IsOut (history : History) (view : View) (met : List Meeting) : Type 0 where
     pub doings : List Doing
     pub same : met_in doings ≡ met
-    pub few : naps_in doings ≤ most
-    pub follows : Follows strategy quota limit history view doings
+    pub follows : Follows strategy terms history view doings
 
   only : List Meeting → List Doing
   only [] = []
@@ -123,63 +180,54 @@ module _ (strategy : Strategy) (key : List ℕ) (quota limit : ℕ) (last : List
   only_met [] = refl
   only_met (meeting ∷ met) = ap (λ (rest : List Meeting). meeting ∷ rest) (only_met met)
 
-  only_naps : (met : List Meeting) → naps_in (only met) ≡ 0
-  unfolding only
-  only_naps [] = refl
-  only_naps (meeting ∷ met) = only_naps met
-
   -- an agent that stands oddly
-  oddly : (history : History) (view : View) (meeting : Meeting) (met : List Meeting) (most : ℕ)
-      → IsOdd (standing view) (strategy history) → IsOut history view (meeting ∷ met) most
-  oddly history view meeting met most odd = record {
+  oddly : (history : History) (view : View) (meeting : Meeting) (met : List Meeting)
+      → IsOdd (standing view) (strategy history) → IsOut history view (meeting ∷ met)
+  oddly history view meeting met odd = record {
     doings = Meets meeting ∷ only met;
     same = ap (λ (rest : List Meeting). meeting ∷ rest) (only_met met);
-    few = let none : naps_in (only met) ≡ 0 = only_naps met in omega (arith, none);
     follows = inr odd;
   }
 
   -- one that meets what its strategy says
-  plays : (history : History) (view : View) (meeting : Meeting) (met : List Meeting) (most : ℕ)
-      → IsBy (strategy history) meeting → IsDue quota view meeting
-      → IsOut (Heard (answer_to limit view meeting) ∷ history) (past_after view meeting) met most
-      → IsOut history view (meeting ∷ met) most
-  plays history view meeting met most by due rest = record {
+  plays : (history : History) (view : View) (meeting : Meeting) (met : List Meeting)
+      → IsBy (strategy history) meeting → IsDue terms.quota view meeting
+      → IsOut (Heard (answer_to terms.board view meeting) ∷ history) (past_after view meeting) met
+      → IsOut history view (meeting ∷ met)
+  plays history view meeting met by due rest = record {
     doings = Meets meeting ∷ rest.doings;
     same = ap (λ (others : List Meeting). meeting ∷ others) rest.same;
-    few = rest.few;
     follows = inl (by, due, rest.follows);
   }
 
-  -- one that naps
-  napping : (history : History) (view : View) (meeting : Meeting) (met : List Meeting) (most : ℕ)
-      → strategy history ≡ Sleeps → IsDue quota view meeting
-      → IsOut (Woke ∷ history) view (meeting ∷ met) most → IsOut history view (meeting ∷ met) (most + 1)
-  napping history view (Hears command seen) met most sleeps due rest = record {
+  -- one that wakes
+  napping : (history : History) (view : View) (meeting : Meeting) (met : List Meeting) → strategy history ≡ Sleeps
+      → (wake_ups_in history).in_a_row ≤ terms.wakeups → IsDue terms.quota view meeting
+      → IsOut (Woke ∷ history) view (meeting ∷ met) → IsOut history view (meeting ∷ met)
+  napping history view (Hears command seen) met sleeps few due rest = record {
     doings = Naps ∷ rest.doings;
     same = rest.same;
-    few = let few : naps_in rest.doings ≤ most = rest.few in omega (arith, few);
-    follows = inl (sleeps, due.0, rest.follows);
+    follows = inl (sleeps, few, due.0, rest.follows);
   }
-  napping history view (Refuses command) met most sleeps due rest = record {
+  napping history view (Refuses command) met sleeps few due rest = record {
     doings = Naps ∷ rest.doings;
     same = rest.same;
-    few = let few : naps_in rest.doings ≤ most = rest.few in omega (arith, few);
-    follows = inl (sleeps, due.0, rest.follows);
+    follows = inl (sleeps, few, due.0, rest.follows);
   }
-  napping history view (Arrives sight) met most sleeps due rest =
-      oddly history view (Arrives sight) met (most + 1) (inl (due, λ stops. awake (sym sleeps ∙ stops)))
+  napping history view (Arrives sight) met sleeps few due rest =
+      oddly history view (Arrives sight) met (inl (due, λ stops. awake (sym sleeps ∙ stops)))
     where
       awake : Sleeps ≡ Stops → ⊥
       awake e = cc
 
-  -- The agent hears a reply. `rest` is what comes then.
-  hears_command : (history : History) (view : View) (meeting : Meeting) (met : List Meeting) (most : ℕ)
-      (own more : List ℕ) (said : List ℕ) (first : Command) (others : List Command)
-      → takes_commands (standing view) ≡ true → (step : Step) → strategy history ≡ step → IsOwn key step own
-      → said ≡ own ++ more → first ∷ others ≡ map command_of (lines said)
-      → (strategy history ≡ Says first → others ≡ map command_of (lines more) → IsOut history view (meeting ∷ met) most)
-      → IsOut history view (meeting ∷ met) most
-  hears_command history view meeting met most own more said first others takes (Says command) is spoken said_is
+  -- The agent hears a reply to a command. `rest` continues with what comes then.
+  hears_command : (history : History) (view : View) (meeting : Meeting) (met : List Meeting)
+      (own more : List ℕ) (said : List ℕ) (first : Command) (others : List Command) (reply : Reply)
+      → takes_commands (standing view) ≡ true → (reply ≡ Over → ⊥) → (step : Step) → strategy history ≡ step
+      → IsOwn key reply step own → said ≡ own ++ more → first ∷ others ≡ map command_of (lines said)
+      → (strategy history ≡ Says first → others ≡ map command_of (lines more) → IsOut history view (meeting ∷ met))
+      → IsOut history view (meeting ∷ met)
+  hears_command history view meeting met own more said first others reply takes not_end (Says command) is spoken said_is
       lines_are rest =
       let all : first ∷ others ≡ command ∷ map command_of (lines more) =
       lines_are ∙ ap (λ (bytes : List ℕ). map command_of (lines bytes))
@@ -187,90 +235,98 @@ module _ (strategy : Strategy) (key : List ℕ) (quota limit : ℕ) (last : List
       ∙ commands_said key spoken.line more command spoken.is_line in
       let same : command ≡ first = cc in
       rest (is ∙ ap Says same) (cc)
-  hears_command history view meeting met most own more said first others takes Stops is spoken said_is lines_are rest =
-      oddly history view meeting met most (inr (takes, is))
-  hears_command history view meeting met most own more said first others takes Sleeps is spoken said_is lines_are rest =
-      absurd spoken
-  hears_command history view meeting met most own more said first others takes Fails is spoken said_is lines_are rest =
-      absurd spoken
+  hears_command history view meeting met own more said first others reply takes not_end Stops is spoken said_is
+      lines_are rest = oddly history view meeting met (inr (takes, is))
+  hears_command history view meeting met own more said first others reply takes not_end Sleeps is spoken said_is
+      lines_are rest = absurd (not_end spoken.1)
+  hears_command history view meeting met own more said first others reply takes not_end Fails is spoken said_is
+      lines_are rest = absurd spoken
 
-  hears_arrival : (history : History) (view : View) (meeting : Meeting) (met : List Meeting) (most : ℕ)
-      (own more : List ℕ) (said : List ℕ) → standing view ≡ Away → (step : Step) → strategy history ≡ step
-      → IsOwn key step own → said ≡ own ++ more → (said ≡ more → IsOut history view (meeting ∷ met) most)
-      → IsOut history view (meeting ∷ met) most
-  hears_arrival history view meeting met most own more said away (Says command) is spoken said_is rest =
-      oddly history view meeting met most (inl (away, λ stops. talks (sym is ∙ stops)))
+  hears_arrival : (history : History) (view : View) (meeting : Meeting) (met : List Meeting)
+      (own more : List ℕ) (said : List ℕ) (reply : Reply) → standing view ≡ Away → (step : Step)
+      → strategy history ≡ step → IsOwn key reply step own → said ≡ own ++ more
+      → (said ≡ more → IsOut history view (meeting ∷ met)) → IsOut history view (meeting ∷ met)
+  hears_arrival history view meeting met own more said reply away (Says command) is spoken said_is rest =
+      oddly history view meeting met (inl (away, λ stops. talks (sym is ∙ stops)))
     where
       talks : Says command ≡ Stops → ⊥
       talks e = cc
-  hears_arrival history view meeting met most own more said away Stops is spoken said_is rest =
+  hears_arrival history view meeting met own more said reply away Stops is spoken said_is rest =
       rest (said_is ∙ ap (λ (bytes : List ℕ). bytes ++ more) spoken)
-  hears_arrival history view meeting met most own more said away Sleeps is spoken said_is rest = absurd spoken
-  hears_arrival history view meeting met most own more said away Fails is spoken said_is rest = absurd spoken
+  hears_arrival history view meeting met own more said reply away Sleeps is spoken said_is rest =
+      oddly history view meeting met (inl (away, λ stops. awake (sym is ∙ stops)))
+    where
+      awake : Sleeps ≡ Stops → ⊥
+      awake e = cc
+  hears_arrival history view meeting met own more said reply away Fails is spoken said_is rest = absurd spoken
 
   pub playing_out : (items : List Observation) (history : History) (view : View) (met : List Meeting)
-      (said heard : List ℕ) (commands left : List Command) → Speaks strategy key history items said heard
-      → heard ≡ bytes_from limit view met ++ last → AreDue quota view met → AreSaid limit view met commands
-      → commands ++ left ≡ map command_of (lines said) → ArePlain quota limit view met
-      → IsOut history view met (naps_among items)
+      (said heard : List ℕ) (commands left : List Command) → Speaks terms.wakeups strategy key history items said heard
+      → heard ≡ bytes_from terms.board view met ++ last → AreDue terms.quota view met
+      → AreSaid terms.board view met commands → commands ++ left ≡ map command_of (lines said)
+      → ArePlain terms.quota terms.board view met → IsOut history view met
   playing_out items history view [] said heard commands left speaks_it met_is due are_said lines_are plain = record {
     doings = [];
     same = refl;
-    few = omega arith;
     follows = tt;
   }
   playing_out [] history view (meeting ∷ met) said heard commands left speaks_it met_is due are_said lines_are plain =
-      absurd (some_text (answer_to limit view meeting) (bytes_from limit (past_after view meeting) met ++ last)
-      (sym speaks_it.1 ∙ met_is ∙ append_assoc (text_of (answer_to limit view meeting)) _ last))
+      absurd (some_text (answer_to terms.board view meeting)
+      (bytes_from terms.board (past_after view meeting) met ++ last)
+      (sym speaks_it.1 ∙ met_is ∙ append_assoc (text_of (answer_to terms.board view meeting)) _ last))
   playing_out (Woke ∷ items) history view (meeting ∷ met) said heard commands left speaks_it met_is due are_said
       lines_are plain =
-      napping history view meeting met (naps_among items) speaks_it.0 due.0
-      (playing_out items (Woke ∷ history) view (meeting ∷ met) said heard commands left speaks_it.1 met_is due
+      napping history view meeting met speaks_it.0 speaks_it.1 due.0
+      (playing_out items (Woke ∷ history) view (meeting ∷ met) said heard commands left speaks_it.2 met_is due
       are_said lines_are plain)
   playing_out (Heard reply ∷ items) history view (Hears command seen ∷ met) said heard [] left speaks_it met_is due
       are_said lines_are plain = absurd are_said
   playing_out (Heard reply ∷ items) history view (Hears command seen ∷ met) said heard (own ∷ commands) left speaks_it
       met_is due are_said lines_are plain =
       let meeting : Meeting = Hears command seen in
-      let answer : Reply = answer_to limit view meeting in
-      let read = reply_read speaks_it.line speaks_it.rest (bytes_from limit (past_after view meeting) met ++ last)
-      reply answer plain.0.0 speaks_it.flat speaks_it.reads
-      (sym speaks_it.heard_is ∙ met_is ∙ append_assoc (text_of answer) _ last) in
-      let is : command ≡ own = kept_same command own answer (plain.0.1 due.0) are_said.0 in
-      hears_command history view meeting met (naps_among items) speaks_it.own speaks_it.more said own
-      (commands ++ left) due.0.0 (strategy history) refl speaks_it.is_own speaks_it.said_is lines_are
-      (λ says behind. plays history view meeting met (naps_among items) (says ∙ ap Says (sym is)) due.0
-      (playing_out items (Heard answer ∷ history) (past_after view meeting) met speaks_it.more speaks_it.rest
+      let answer_is : Reply = answer_to terms.board view meeting in
+      let read = reply_read speaks_it.line speaks_it.rest
+      (bytes_from terms.board (past_after view meeting) met ++ last)
+      reply answer_is plain.0.0 speaks_it.flat speaks_it.reads
+      (sym speaks_it.heard_is ∙ met_is ∙ append_assoc (text_of answer_is) _ last) in
+      let is : command ≡ own = kept_same command own answer_is (plain.0.1 due.0) are_said.0 in
+      hears_command history view meeting met speaks_it.own speaks_it.more said own (commands ++ left) reply due.0.0
+      (not_over reply answer_is (answer_other terms.board (standing view) (ports view) command seen) read.same)
+      (strategy history) refl speaks_it.is_own speaks_it.said_is lines_are
+      (λ says behind. plays history view meeting met (says ∙ ap Says (sym is)) due.0
+      (playing_out items (Heard answer_is ∷ history) (past_after view meeting) met speaks_it.more speaks_it.rest
       commands left
-      (subst (λ (r : Reply). Speaks strategy key (Heard r ∷ history) items speaks_it.more speaks_it.rest) read.same
-      speaks_it.others) read.others due.1 are_said.1 behind plain.1))
+      (subst (λ (r : Reply). Speaks terms.wakeups strategy key (Heard r ∷ history) items speaks_it.more speaks_it.rest)
+      read.same speaks_it.others) read.others due.1 are_said.1 behind plain.1))
   playing_out (Heard reply ∷ items) history view (Refuses command ∷ met) said heard [] left speaks_it met_is due
       are_said lines_are plain = absurd are_said
   playing_out (Heard reply ∷ items) history view (Refuses command ∷ met) said heard (own ∷ commands) left speaks_it
       met_is due are_said lines_are plain =
       let meeting : Meeting = Refuses command in
-      let answer : Reply = answer_to limit view meeting in
-      let read = reply_read speaks_it.line speaks_it.rest (bytes_from limit view met ++ last)
-      reply answer plain.0.0 speaks_it.flat speaks_it.reads
-      (sym speaks_it.heard_is ∙ met_is ∙ append_assoc (text_of answer) _ last) in
-      hears_command history view meeting met (naps_among items) speaks_it.own speaks_it.more said own
-      (commands ++ left) due.0.0 (strategy history) refl speaks_it.is_own speaks_it.said_is lines_are
-      (λ says behind. plays history view meeting met (naps_among items) (says ∙ ap Says (sym are_said.0)) due.0
-      (playing_out items (Heard answer ∷ history) view met speaks_it.more speaks_it.rest commands left
-      (subst (λ (r : Reply). Speaks strategy key (Heard r ∷ history) items speaks_it.more speaks_it.rest) read.same
-      speaks_it.others) read.others due.1 are_said.1 behind plain.1))
+      let answer_is : Reply = answer_to terms.board view meeting in
+      let read = reply_read speaks_it.line speaks_it.rest (bytes_from terms.board view met ++ last)
+      reply answer_is plain.0.0 speaks_it.flat speaks_it.reads
+      (sym speaks_it.heard_is ∙ met_is ∙ append_assoc (text_of answer_is) _ last) in
+      hears_command history view meeting met speaks_it.own speaks_it.more said own (commands ++ left) reply due.0.0
+      (not_over reply answer_is tt read.same)
+      (strategy history) refl speaks_it.is_own speaks_it.said_is lines_are
+      (λ says behind. plays history view meeting met (says ∙ ap Says (sym are_said.0)) due.0
+      (playing_out items (Heard answer_is ∷ history) view met speaks_it.more speaks_it.rest commands left
+      (subst (λ (r : Reply). Speaks terms.wakeups strategy key (Heard r ∷ history) items speaks_it.more speaks_it.rest)
+      read.same speaks_it.others) read.others due.1 are_said.1 behind plain.1))
   playing_out (Heard reply ∷ items) history view (Arrives sight ∷ met) said heard commands left speaks_it met_is due
       are_said lines_are plain =
       let meeting : Meeting = Arrives sight in
-      let answer : Reply = answer_to limit view meeting in
-      let read = reply_read speaks_it.line speaks_it.rest (bytes_from limit (past_after view meeting) met ++ last)
-      reply answer plain.0.0 speaks_it.flat speaks_it.reads
-      (sym speaks_it.heard_is ∙ met_is ∙ append_assoc (text_of answer) _ last) in
-      hears_arrival history view meeting met (naps_among items) speaks_it.own speaks_it.more said due.0
+      let answer_is : Reply = answer_to terms.board view meeting in
+      let read = reply_read speaks_it.line speaks_it.rest
+      (bytes_from terms.board (past_after view meeting) met ++ last)
+      reply answer_is plain.0.0 speaks_it.flat speaks_it.reads
+      (sym speaks_it.heard_is ∙ met_is ∙ append_assoc (text_of answer_is) _ last) in
+      hears_arrival history view meeting met speaks_it.own speaks_it.more said reply due.0
       (strategy history) refl speaks_it.is_own speaks_it.said_is
-      (λ silent. plays history view meeting met (naps_among items) tt due.0
-      (playing_out items (Heard answer ∷ history) (past_after view meeting) met speaks_it.more speaks_it.rest
+      (λ silent. plays history view meeting met tt due.0
+      (playing_out items (Heard answer_is ∷ history) (past_after view meeting) met speaks_it.more speaks_it.rest
       commands left
-      (subst (λ (r : Reply). Speaks strategy key (Heard r ∷ history) items speaks_it.more speaks_it.rest) read.same
-      speaks_it.others) read.others due.1 are_said
+      (subst (λ (r : Reply). Speaks terms.wakeups strategy key (Heard r ∷ history) items speaks_it.more speaks_it.rest)
+      read.same speaks_it.others) read.others due.1 are_said
       (lines_are ∙ ap (λ (bytes : List ℕ). map command_of (lines bytes)) silent) plain.1))

@@ -1,5 +1,5 @@
 -- A scene that a schedule leads to, in which the first events of a log have happened.
-use Rattle.std.proofs.Common.{ℕ, ◌+◌, ◌<◌, ◌≤◌, ◌≡◌, ◌∙◌, ◌⊎◌, Bool, true, false, Option}
+use Rattle.std.proofs.Common.{ℕ, ◌<◌, ◌≤◌, ◌≡◌, ◌∙◌, ◌⊎◌, true, false, Option}
 use Rattle.std.proofs.Common.{List, [], ◌∷◌, ◌++◌, ◌==◌, nat_lt, refl, sym, ap, ap₂}
 use Rattle.std.proofs.Common.{inl, inr, subst, arith, if◌then◌else◌, append-nil}
 use Rattle.std.proofs.lemmas.Bool.{false≢true, cond-true, cond-false, lt-ltb, le-ltb}
@@ -30,9 +30,11 @@ use Rattle.bhs_theorems.specs.Met.{Refuses, answer_to, takes_commands, IsDue}
 use Rattle.bhs_contested.proofs.Steps.{steps, steps_met}
 use Rattle.bhs_contested.proofs.Untouched.{IsUntouched, untouched_told, untouched_deliver}
 use Rattle.bhs_contested.proofs.Stuck.{turns-append}
-use Rattle.bhs_contested.proofs.Doings.{Doing, Naps, Meets, met_in, naps_in, Follows, follows_same}
+use Rattle.bhs_contested.proofs.Doings.{Doing, Naps, Meets, met_in, Terms, Follows, follows_same}
+use Rattle.bhs_contested.proofs.WakeUpBounds.{woken_few}
+use Rattle.bhs_searcher.specs.WakeUps.{wake_ups_in}
 
--- a fact about each number, by whether it is this one
+-- case distinction on whether a number is this agent's
 pub by_agent : (P : ℕ → Type 0) (agent other : ℕ) → P agent → ((other == agent) ≡ false → P other) → P other
 by_agent P agent other own others = elim (eqb_tells other agent) [
   | inl h ↦ subst P (sym h.1) own
@@ -70,27 +72,7 @@ open_by world state agent (Deliver traveller) own =
     at After = refl
 open_by world state agent Close own = absurd own
 
-woken_less : (b : Bool) (n : ℕ) → (if b then n else 0) ≤ n
-woken_less true n = omega arith
-woken_less false n = omega arith
-
-same_less : (n : ℕ) → n ≤ n
-same_less n = omega arith
-
-sum_less : (woken naps old count most : ℕ) → woken ≤ old → naps ≤ count → old + count ≤ most → woken + naps ≤ most
-sum_less woken naps old count most first second all = omega (arith, first, second, all)
-
-nap_less : (woken naps old count most : ℕ) → woken ≡ old + 1 → naps ≡ count → old + (count + 1) ≤ most
-    → woken + naps ≤ most
-nap_less woken naps old count most first second all = omega (arith, first, second, all)
-
-same_sum : (woken naps old count most : ℕ) → woken ≡ old → naps ≡ count → old + count ≤ most → woken + naps ≤ most
-same_sum woken naps old count most first second all = omega (arith, first, second, all)
-
-pub fewer_in : (old new : ℕ) → old ≡ new → new ≤ old
-fewer_in old new is = omega (arith, is)
-
--- what an agent does that is at a node, or has not entered
+-- the action of an agent that is at a node or has not entered
 pub says_deed : (held : Held) (wakeups : ℕ) (position : Position) (woken : ℕ) (command : Command) (agent : ℕ)
     → takes_commands (standing_at position) ≡ true
     → action_at held wakeups position woken (Says command) agent ≡ Makes (Tell agent command)
@@ -108,6 +90,9 @@ wakes_deed held wakeups (At node came) woken agent takes few =
 wakes_deed held wakeups (Bound node port) woken agent takes few = absurd (false≢true takes)
 wakes_deed held wakeups After woken agent takes few = absurd (false≢true takes)
 
+abbrev pub terms_of : Trial → Terms
+terms_of trial = record { wakeups = trial.wakeups; quota = trial.world.quota; board = trial.world.board }
+
 module _ (trial : Trial) (final : ℕ → View) where
   -- The first events of a log have happened, and what is still to be played of each agent leads to its final past.
   pub record Keeps (front : List Event) : Type 0 where
@@ -118,12 +103,10 @@ module _ (trial : Trial) (final : ℕ → View) where
     pub open_still : (run trial.world front).closed ≡ false
     pub doings : (agent : ℕ) → List Doing
     pub follows : (agent : ℕ) → agent < trial.world.agents
-        → Follows (trial.strategies agent) trial.world.quota trial.world.board (scene.history agent)
-        ((run trial.world front).past agent) (doings agent)
+        → Follows (trial.strategies agent) (terms_of trial) (scene.history agent) ((run trial.world front).past agent)
+        (doings agent)
     pub left : (agent : ℕ) → agent < trial.world.agents
         → steps (final agent) ≡ steps ((run trial.world front).past agent) ++ steps_met (met_in (doings agent))
-    pub rested : (agent : ℕ) → agent < trial.world.agents
-        → scene.woken agent + naps_in (doings agent) ≤ trial.wakeups + 1
 
   -- the scene stands as the log does
   pub state_is : (front : List Event) (k : Keeps front) → state_of trial k.scene ≡ run trial.world front
@@ -133,7 +116,7 @@ module _ (trial : Trial) (final : ℕ → View) where
   pub lost_is : (front : List Event) (k : Keeps front) → lost trial.world k.scene.events ≡ lost trial.world front
   lost_is front k = sym (kept_suffice_lemma trial.world k.scene.events).lost ∙ ap (lost trial.world) k.kept
 
-  -- the first events of a log have happened, and the others are none but a Close
+  -- the whole log has happened, except perhaps its Close
   pub record IsPlayedTo (whole : List Event) : Type 0 where
     pub front : List Event
     pub keeps : Keeps front
@@ -164,7 +147,7 @@ module _ (trial : Trial) (final : ℕ → View) where
       ∙ ap (λ (state : State). action_at trial.held trial.wakeups (state.position agent) (k.scene.woken agent)
       (trial.strategies agent (k.scene.history agent)) agent) (state_is front k)
 
-  -- in which this is still to be played of an agent
+  -- a scene in which these doings of an agent are left
   pub record Reaches (front : List Event) (agent : ℕ) (doings : List Doing) : Type 0 where
     pub keeps : Keeps front
     pub now : keeps.doings agent ≡ doings
@@ -177,10 +160,9 @@ module _ (trial : Trial) (final : ℕ → View) where
       ≡ whole
       → hearing (reply trial.world (run trial.world front) event) (k.scene.history agent) ≡ history
       → (next trial.world (run trial.world front) event).past agent ≡ past
-      → Follows (trial.strategies agent) trial.world.quota trial.world.board history past doings
-      → steps (final agent) ≡ steps past ++ steps_met (met_in doings) → naps_in doings ≤ naps_in (k.doings agent)
-      → Reaches whole agent doings
-  event_turn front whole k agent event history past doings own does chosen hears lives follows leads fewer =
+      → Follows (trial.strategies agent) (terms_of trial) history past doings
+      → steps (final agent) ≡ steps past ++ steps_met (met_in doings) → Reaches whole agent doings
+  event_turn front whole k agent event history past doings own does chosen hears lives follows leads =
       let world : World = trial.world in
       let scene : Scene = k.scene in
       let state : State = run world front in
@@ -204,13 +186,14 @@ module _ (trial : Trial) (final : ℕ → View) where
           kept = kept_after;
           open_still = ap (λ (s : State). s.closed) stands ∙ open_by world state agent event own ∙ k.open_still;
           doings = changed k.doings agent doings;
-          follows = λ other below. by_agent (λ (o : ℕ). o < world.agents → Follows (trial.strategies o) world.quota
-              world.board (after.history o) ((run world whole).past o) (changed k.doings agent doings o)) agent other
-              (λ within. follows_same (trial.strategies agent) world.quota world.board history (after.history agent)
+          follows = λ other below. by_agent (λ (o : ℕ). o < world.agents
+              → Follows (trial.strategies o) (terms_of trial) (after.history o) ((run world whole).past o)
+              (changed k.doings agent doings o)) agent other
+              (λ within. follows_same (trial.strategies agent) (terms_of trial) history (after.history agent)
               past ((run world whole).past agent) doings (changed k.doings agent doings agent)
               (changed_same scene.history agent _ ∙ ap (λ (r : Option Reply). hearing r (scene.history agent)) reply_is
               ∙ hears) (past_is agent ∙ lives) (changed_same k.doings agent doings) follows)
-              (λ apart within. follows_same (trial.strategies other) world.quota world.board (scene.history other)
+              (λ apart within. follows_same (trial.strategies other) (terms_of trial) (scene.history other)
               (after.history other) (state.past other) ((run world whole).past other) (k.doings other)
               (changed k.doings agent doings other) (changed_other scene.history agent other _ apart)
               (past_is other ∙ (untouched_by world state agent other event own apart).past)
@@ -223,15 +206,6 @@ module _ (trial : Trial) (final : ℕ → View) where
               ∙ ap₂ (λ (seen : View) (list : List Doing). steps seen ++ steps_met (met_in list))
               (sym (past_is other ∙ (untouched_by world state agent other event own apart).past))
               (sym (changed_other k.doings agent other doings apart))) below;
-          rested = λ other below. by_agent (λ (o : ℕ). o < world.agents
-              → after.woken o + naps_in (changed k.doings agent doings o) ≤ trial.wakeups + 1) agent other
-              (λ within. sum_less _ _ _ _ _ (woken_less _ (scene.woken agent))
-              (subst (λ (list : List Doing). naps_in list ≤ naps_in (k.doings agent))
-              (sym (changed_same k.doings agent doings)) fewer) (k.rested agent within))
-              (λ apart within. sum_less _ _ _ _ _ (woken_less _ (scene.woken other))
-              (subst (λ (list : List Doing). naps_in list ≤ naps_in (k.doings other))
-              (sym (changed_other k.doings agent other doings apart)) (same_less (naps_in (k.doings other))))
-              (k.rested other within)) below;
         };
         now = changed_same k.doings agent doings;
       }
@@ -240,21 +214,23 @@ module _ (trial : Trial) (final : ℕ → View) where
 
   pub nap_turn : (front : List Event) (k : Keeps front) (agent : ℕ) (doings : List Doing) → agent < trial.world.agents
       → k.doings agent ≡ Naps ∷ doings → trial.strategies agent (k.scene.history agent) ≡ Sleeps
+      → (wake_ups_in (k.scene.history agent)).in_a_row ≤ trial.wakeups
       → takes_commands (standing ((run trial.world front).past agent)) ≡ true
-      → Follows (trial.strategies agent) trial.world.quota trial.world.board (Woke ∷ k.scene.history agent)
+      → Follows (trial.strategies agent) (terms_of trial) (Woke ∷ k.scene.history agent)
       ((run trial.world front).past agent) doings → Reaches front agent doings
-  nap_turn front k agent doings within now sleeps takes follows =
+  nap_turn front k agent doings within now sleeps few takes follows =
       let world : World = trial.world in
       let scene : Scene = k.scene in
       let after : Scene = done trial scene agent Wakes in
-      let bound : scene.woken agent + (naps_in doings + 1) ≤ trial.wakeups + 1 =
-      subst (λ (list : List Doing). scene.woken agent + naps_in list ≤ trial.wakeups + 1) now (k.rested agent within) in
+      let count : scene.woken agent ≤ (wake_ups_in (scene.history agent)).in_a_row =
+      subst (λ (now : Scene). now.woken agent ≤ (wake_ups_in (now.history agent)).in_a_row) k.is
+      (woken_few trial k.schedule agent) in
       let does : deed trial scene agent ≡ Wakes =
       deed_is front k agent within
       ∙ ap (λ (step : Step). action_at trial.held trial.wakeups ((run world front).position agent)
       (scene.woken agent) step agent) sleeps
       ∙ wakes_deed trial.held trial.wakeups ((run world front).position agent) (scene.woken agent) agent
-      (takes_at front agent takes) (omega (arith, bound)) in
+      (takes_at front agent takes) (omega (arith, count, few)) in
       record {
         keeps = record {
           scene = after;
@@ -263,12 +239,13 @@ module _ (trial : Trial) (final : ℕ → View) where
           kept = k.kept;
           open_still = k.open_still;
           doings = changed k.doings agent doings;
-          follows = λ other below. by_agent (λ (o : ℕ). o < world.agents → Follows (trial.strategies o) world.quota
-              world.board (after.history o) ((run world front).past o) (changed k.doings agent doings o)) agent other
-              (λ own. follows_same (trial.strategies agent) world.quota world.board (Woke ∷ scene.history agent)
+          follows = λ other below. by_agent (λ (o : ℕ). o < world.agents
+              → Follows (trial.strategies o) (terms_of trial) (after.history o) ((run world front).past o)
+              (changed k.doings agent doings o)) agent other
+              (λ own. follows_same (trial.strategies agent) (terms_of trial) (Woke ∷ scene.history agent)
               (after.history agent) _ ((run world front).past agent) doings (changed k.doings agent doings agent)
               (changed_same scene.history agent _) refl (changed_same k.doings agent doings) follows)
-              (λ apart own. follows_same (trial.strategies other) world.quota world.board (scene.history other)
+              (λ apart own. follows_same (trial.strategies other) (terms_of trial) (scene.history other)
               (after.history other) _ ((run world front).past other) (k.doings other)
               (changed k.doings agent doings other) (changed_other scene.history agent other _ apart) refl
               (changed_other k.doings agent other doings apart) (k.follows other own)) below;
@@ -281,12 +258,6 @@ module _ (trial : Trial) (final : ℕ → View) where
               (λ apart own. k.left other own
               ∙ ap (λ (list : List Doing). steps ((run world front).past other) ++ steps_met (met_in list))
               (sym (changed_other k.doings agent other doings apart))) below;
-          rested = λ other below. by_agent (λ (o : ℕ). o < world.agents
-              → after.woken o + naps_in (changed k.doings agent doings o) ≤ trial.wakeups + 1) agent other
-              (λ own. nap_less _ _ _ _ _ (changed_same scene.woken agent (scene.woken agent + 1))
-              (ap naps_in (changed_same k.doings agent doings)) bound)
-              (λ apart own. same_sum _ _ _ _ _ (changed_other scene.woken agent other _ apart)
-              (ap naps_in (changed_other k.doings agent other doings apart)) (k.rested other own)) below;
         };
         now = changed_same k.doings agent doings;
       }
@@ -297,7 +268,7 @@ module _ (trial : Trial) (final : ℕ → View) where
       → agent < trial.world.agents → k.doings agent ≡ Meets (Refuses command) ∷ doings
       → trial.strategies agent (k.scene.history agent) ≡ Says command
       → IsDue trial.world.quota ((run trial.world front).past agent) (Refuses command)
-      → Follows (trial.strategies agent) trial.world.quota trial.world.board
+      → Follows (trial.strategies agent) (terms_of trial)
       (Heard (answer_to trial.world.board ((run trial.world front).past agent) (Refuses command))
       ∷ k.scene.history agent) ((run trial.world front).past agent) doings → Reaches front agent doings
   refuse_turn front k agent command doings within now says due follows =
@@ -317,4 +288,3 @@ module _ (trial : Trial) (final : ℕ → View) where
       (ap (λ (s : State). s.past agent) (next_unheard world state agent command unheard)) follows
       (k.left agent within
       ∙ ap (λ (list : List Doing). steps (state.past agent) ++ steps_met (met_in list)) now)
-      (fewer_in _ _ (ap naps_in now))

@@ -1,4 +1,4 @@
--- Lines, one after the other: those that a client says, and those that it reads.
+-- The lines that a client writes spell its commands, and the lines that it reads spell replies.
 use Rattle.std.proofs.Common.{ℕ, ◌≡◌, ◌∙◌, Bool, true, ◌||◌, Some, None, List, [], ◌∷◌, ◌++◌}
 use Rattle.std.proofs.Common.{map, refl, sym, ap, ap₂, subst, arith, append_assoc}
 use Rattle.std.specs.List.{list_any}
@@ -89,7 +89,7 @@ split (byte ∷ one) (also ∷ two) rest other flat level same =
     (or_parts (is_line_feed also) _ level).1 behind in
     record { first = ap₂ (λ (b : ℕ) (bytes : List ℕ). b ∷ bytes) is parts.first; others = parts.others }
 
--- what is read of the line of a reply, where others follow
+-- the first line of a text is the line of its first reply
 pub record IsReadAs (reply sent : Reply) (rest other : List ℕ) : Type 0 where
   pub same : reply ≡ sent
   pub others : rest ≡ other

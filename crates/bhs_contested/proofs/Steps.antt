@@ -16,7 +16,7 @@ steps Start = []
 steps (Told view command glance) = steps view ++ Hears command glance ∷ []
 steps (Arrived view sight) = steps view ++ Arrives sight ∷ []
 
--- what was met, without what was refused
+-- the meetings of a session that enter the agent's past: refused commands do not
 abbrev pub steps_met : List Meeting → List Meeting
 steps_met [] = []
 steps_met (Hears command glance ∷ met) = Hears command glance ∷ steps_met met

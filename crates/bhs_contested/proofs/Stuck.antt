@@ -40,7 +40,7 @@ pub record HasStopped (trial : Trial) (agent : ℕ) (position : Position) (histo
   pub is_at : position_of trial scene agent ≡ position
   pub same : scene.history agent ≡ history
 
--- after a deed of another one
+-- the property is stable under actions of other agents
 pub stays_by : (trial : Trial) (agent : ℕ) (position : Position) (history : History) (scene : Scene) (other : ℕ)
     (it : Action) → (agent == other) ≡ false → IsOwn other it → HasStopped trial agent position history scene
     → HasStopped trial agent position history (done trial scene other it)

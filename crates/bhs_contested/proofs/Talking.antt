@@ -1,18 +1,19 @@
 -- The talk of a client, oldest first, as the bytes that it said and heard.
-use Rattle.std.proofs.Common.{ℕ, ◌+◌, ◌≡◌, ◌∙◌, Some, false, List, [], ◌∷◌, ◌++◌, refl, sym, ap, subst}
-use Rattle.std.proofs.Common.{arith, append_assoc, append-nil}
+use Rattle.std.proofs.Common.{ℕ, ◌≤◌, ◌≡◌, ◌∙◌, Some, false, List, [], ◌∷◌, ◌++◌, refl, sym, ap, subst}
+use Rattle.std.proofs.Common.{append_assoc, append-nil}
 use Rattle.std.specs.List.{list_any}
 use Rattle.bhs_model.specs.declared.commands.Command.{Command}
 use Rattle.bhs_model.specs.declared.replies.Reply.{Reply}
+use Rattle.bhs_model.specs.declared.replies.Reply.TheVariants.{Over}
 use Rattle.bhs_wire.specs.Lines.{is_line_feed}
 use Rattle.bhs_schedules.specs.declared.answers.Step.{Step}
 use Rattle.bhs_schedules.specs.declared.answers.Step.TheVariants.{Says, Sleeps, Stops, Fails}
 use Rattle.bhs_schedules.specs.Strategies.{History, Observation, Heard, Woke, Strategy}
 use Rattle.bhs_searcher.specs.ReplyLines.{reply_on}
-use Rattle.bhs_searcher.specs.Talks.{IsLineOf, Says as SaysTo, Meets, speaks, sleeps, Talks, begins}
+use Rattle.bhs_searcher.specs.Talks.{IsLineOf, Says as SaysTo, Meets, speaks, sleeps, sleeps_on, Talks, begins}
 use Rattle.bhs_searcher.specs.Talks.{goes_on}
 use Rattle.bhs_searcher.specs.Transcripts.{Transcript, unused, Writes, Reads}
-use Rattle.bhs_contested.specs.Contests.{naps}
+use Rattle.bhs_searcher.specs.WakeUps.{wake_ups_in}
 
 -- what an agent says that does this next
 pub record IsLineSaid (key : List ℕ) (command : Command) (own : List ℕ) : Type 0 where
@@ -20,17 +21,18 @@ pub record IsLineSaid (key : List ℕ) (command : Command) (own : List ℕ) : Ty
   pub is_line : IsLineOf key command line
   pub is : own ≡ line ++ 10 ∷ []
 
-abbrev pub IsOwn : (key : List ℕ) → Step → (own : List ℕ) → Type 0
-IsOwn key (Says command) own = IsLineSaid key command own
-IsOwn key Stops own = own ≡ []
-IsOwn key Sleeps own = ⊥
-IsOwn key Fails own = ⊥
+-- the bytes that an agent writes before it hears this reply; one that sleeps hears only that the match is over
+abbrev pub IsOwn : (key : List ℕ) → Reply → Step → (own : List ℕ) → Type 0
+IsOwn key reply (Says command) own = IsLineSaid key command own
+IsOwn key reply Stops own = own ≡ []
+IsOwn key reply Sleeps own = (own ≡ []) × (reply ≡ Over)
+IsOwn key reply Fails own = ⊥
 
--- it says this and hears a reply, and then come the others
+-- one exchange of a talk: what the agent writes, the line that it reads, and the rest
 pub record IsAnswered (key : List ℕ) (step : Step) (reply : Reply) (said heard : List ℕ)
     (Others : (said heard : List ℕ) → Type 0) : Type 0 where
   pub own : List ℕ
-  pub is_own : IsOwn key step own
+  pub is_own : IsOwn key reply step own
   pub line : List ℕ
   pub flat : list_any is_line_feed line ≡ false
   pub reads : reply_on line ≡ Some reply
@@ -40,48 +42,43 @@ pub record IsAnswered (key : List ℕ) (step : Step) (reply : Reply) (said heard
   pub heard_is : heard ≡ line ++ 10 ∷ rest
   pub others : Others more rest
 
--- all this happens to an agent of this history, the oldest first, while it says and hears these bytes
-abbrev pub Speaks : Strategy → (key : List ℕ) → History → List Observation → (said heard : List ℕ) → Type 0
-Speaks strategy key history [] said heard = (said ≡ []) × (heard ≡ [])
-Speaks strategy key history (Woke ∷ items) said heard =
-    (strategy history ≡ Sleeps) × Speaks strategy key (Woke ∷ history) items said heard
-Speaks strategy key history (Heard reply ∷ items) said heard =
-    IsAnswered key (strategy history) reply said heard (Speaks strategy key (Heard reply ∷ history) items)
+-- the observations of an agent with this history, the oldest first, while it says and hears these bytes
+abbrev pub Speaks : (wakeups : ℕ) → Strategy → (key : List ℕ) → History → List Observation → (said heard : List ℕ)
+    → Type 0
+Speaks wakeups strategy key history [] said heard = (said ≡ []) × (heard ≡ [])
+Speaks wakeups strategy key history (Woke ∷ items) said heard =
+    (strategy history ≡ Sleeps) × ((wake_ups_in history).in_a_row ≤ wakeups)
+    × Speaks wakeups strategy key (Woke ∷ history) items said heard
+Speaks wakeups strategy key history (Heard reply ∷ items) said heard =
+    IsAnswered key (strategy history) reply said heard (Speaks wakeups strategy key (Heard reply ∷ history) items)
 
 abbrev pub after_all : History → List Observation → History
 after_all history [] = history
 after_all history (item ∷ items) = after_all (item ∷ history) items
-
-abbrev pub naps_among : List Observation → ℕ
-naps_among [] = 0
-naps_among (Heard reply ∷ items) = naps_among items
-naps_among (Woke ∷ items) = naps_among items + 1
-
-naps_after : (history : History) (items : List Observation) → naps (after_all history items)
-    ≡ naps history + naps_among items
-naps_after history [] = omega arith
-naps_after history (Heard reply ∷ items) = naps_after (Heard reply ∷ history) items
-naps_after history (Woke ∷ items) =
-    let rest : naps (after_all (Woke ∷ history) items) ≡ naps history + 1 + naps_among items =
-    naps_after (Woke ∷ history) items in
-    omega (arith, rest)
 
 after_more : (history : History) (items : List Observation) (item : Observation)
     → after_all history (items ++ item ∷ []) ≡ item ∷ after_all history items
 after_more history [] item = refl
 after_more history (first ∷ items) item = after_more (first ∷ history) items item
 
--- one thing more happens
-speaks_on : (strategy : Strategy) (key : List ℕ) (item : Observation) (own back : List ℕ) (items : List Observation)
-    (history : History) (said heard : List ℕ) → Speaks strategy key (after_all history items) (item ∷ []) own back
-    → Speaks strategy key history items said heard
-    → Speaks strategy key history (items ++ item ∷ []) (said ++ own) (heard ++ back)
-speaks_on strategy key item own back [] history said heard step spoken =
-    subst (λ (bytes : List ℕ). Speaks strategy key history (item ∷ []) (bytes ++ own) (heard ++ back)) (sym spoken.0)
-    (subst (λ (bytes : List ℕ). Speaks strategy key history (item ∷ []) own (bytes ++ back)) (sym spoken.1) step)
-speaks_on strategy key item own back (Woke ∷ items) history said heard step spoken =
-    (spoken.0, speaks_on strategy key item own back items (Woke ∷ history) said heard step spoken.1)
-speaks_on strategy key item own back (Heard reply ∷ items) history said heard step spoken = record {
+-- one more observation
+speaks_on : (wakeups : ℕ) (strategy : Strategy) (key : List ℕ) (item : Observation) (own back : List ℕ)
+    (items : List Observation)
+    (history : History) (said heard : List ℕ)
+    → Speaks wakeups strategy key (after_all history items) (item ∷ []) own back
+    → Speaks wakeups strategy key history items said heard
+    → Speaks wakeups strategy key history (items ++ item ∷ []) (said ++ own) (heard ++ back)
+speaks_on wakeups strategy key item own back [] history said heard step spoken =
+    subst (λ (bytes : List ℕ). Speaks wakeups strategy key history (item ∷ []) (bytes ++ own) (heard ++ back))
+    (sym spoken.0)
+    (subst (λ (bytes : List ℕ). Speaks wakeups strategy key history (item ∷ []) own (bytes ++ back)) (sym spoken.1)
+    step)
+speaks_on wakeups strategy key item own back (Woke ∷ items) history said heard step spoken = (
+  spoken.0,
+  spoken.1,
+  speaks_on wakeups strategy key item own back items (Woke ∷ history) said heard step spoken.2,
+)
+speaks_on wakeups strategy key item own back (Heard reply ∷ items) history said heard step spoken = record {
   own = spoken.own;
   is_own = spoken.is_own;
   line = spoken.line;
@@ -92,48 +89,49 @@ speaks_on strategy key item own back (Heard reply ∷ items) history said heard 
   said_is = ap (λ (bytes : List ℕ). bytes ++ own) spoken.said_is ∙ append_assoc spoken.own spoken.more own;
   heard_is = ap (λ (bytes : List ℕ). bytes ++ back) spoken.heard_is
       ∙ append_assoc spoken.line (10 ∷ spoken.rest) back;
-  others = speaks_on strategy key item own back items (Heard reply ∷ history) spoken.more spoken.rest step
+  others = speaks_on wakeups strategy key item own back items (Heard reply ∷ history) spoken.more spoken.rest step
       spoken.others;
 }
 
 -- ---- what one step adds
 
-record Adds (strategy : Strategy) (key : List ℕ) (history : History) (item : Observation) (here next : Transcript)
-    : Type 0 where
+record Adds (wakeups : ℕ) (strategy : Strategy) (key : List ℕ) (history : History) (item : Observation)
+    (here next : Transcript) : Type 0 where
   own : List ℕ
   back : List ℕ
   said : next.said ≡ here.said ++ own
   heard : next.heard ≡ here.heard ++ back
-  speaks_it : Speaks strategy key history (item ∷ []) own back
+  speaks_it : Speaks wakeups strategy key history (item ∷ []) own back
 
-record AddsOwn (key : List ℕ) (step : Step) (here told : Transcript) : Type 0 where
+record AddsOwn (key : List ℕ) (reply : Reply) (step : Step) (here told : Transcript) : Type 0 where
   own : List ℕ
-  is_own : IsOwn key step own
+  is_own : IsOwn key reply step own
   said : told.said ≡ here.said ++ own
   heard : told.heard ≡ here.heard
 
-adds_own : (key : List ℕ) (step : Step) (here told : Transcript) → SaysTo Writes key step here told
-    → AddsOwn key step here told
-adds_own key (Says command) here told says = record {
+adds_own : (key : List ℕ) (reply : Reply) (step : Step) (here told : Transcript) → SaysTo Writes key step here told
+    → AddsOwn key reply step here told
+adds_own key reply (Says command) here told says = record {
   own = says.0 ++ 10 ∷ [];
   is_own = record { line = says.0; is_line = says.1; is = refl };
   said = ap (λ (transcript : Transcript). transcript.said) says.2;
   heard = ap (λ (transcript : Transcript). transcript.heard) says.2;
 }
-adds_own key Stops here told says = record {
+adds_own key reply Stops here told says = record {
   own = [];
   is_own = refl;
   said = sym (ap (λ (transcript : Transcript). transcript.said) says) ∙ sym (append-nil here.said);
   heard = sym (ap (λ (transcript : Transcript). transcript.heard) says);
 }
-adds_own key Sleeps here told says = absurd says
-adds_own key Fails here told says = absurd says
+adds_own key reply Sleeps here told says = absurd says
+adds_own key reply Fails here told says = absurd says
 
-adds : (strategy : Strategy) (key : List ℕ) (history : History) (here : Transcript) (item : Observation)
+adds : (wakeups : ℕ) (strategy : Strategy) (key : List ℕ) (history : History) (here : Transcript) (item : Observation)
     (next : Transcript)
-    → Meets Writes Reads key (strategy history) here item next → Adds strategy key history item here next
-adds strategy key history here item next (speaks reply told new says hears) =
-    let spoken = adds_own key (strategy history) here told says in
+    → Meets Writes Reads key wakeups (wake_ups_in history).in_a_row (strategy history) here item next
+    → Adds wakeups strategy key history item here next
+adds wakeups strategy key history here item next (speaks reply told new says hears) =
+    let spoken = adds_own key reply (strategy history) here told says in
     record {
       own = spoken.own;
       back = hears.0 ++ 10 ∷ [];
@@ -153,42 +151,57 @@ adds strategy key history here item next (speaks reply told new says hears) =
         others = (refl, refl);
       };
     }
-adds strategy key history here item next (sleeps is) = record {
+adds wakeups strategy key history here item next (sleeps is few) = record {
   own = [];
   back = [];
   said = sym (append-nil here.said);
   heard = sym (append-nil here.heard);
-  speaks_it = (is, (refl, refl));
+  speaks_it = (is, few, (refl, refl));
+}
+adds wakeups strategy key history here item next (sleeps_on new is many hears) = record {
+  own = [];
+  back = hears.0 ++ 10 ∷ [];
+  said = ap (λ (transcript : Transcript). transcript.said) hears.2.1 ∙ sym (append-nil here.said);
+  heard = ap (λ (transcript : Transcript). transcript.heard) hears.2.1;
+  speaks_it = record {
+    own = [];
+    is_own = subst (λ (step : Step). IsOwn key Over step []) (sym is) (refl, refl);
+    line = hears.0;
+    flat = hears.2.0;
+    reads = hears.1;
+    more = [];
+    rest = [];
+    said_is = refl;
+    heard_is = refl;
+    others = (refl, refl);
+  };
 }
 
 -- ---- the whole talk
 
-pub record IsSpoken (strategy : Strategy) (key : List ℕ) (history : History) (transcript : Transcript) : Type 0 where
+pub record IsSpoken (wakeups : ℕ) (strategy : Strategy) (key : List ℕ) (history : History) (transcript : Transcript)
+    : Type 0 where
   pub items : List Observation
   pub is : after_all [] items ≡ history
-  pub speaks_all : Speaks strategy key [] items transcript.said transcript.heard
+  pub speaks_all : Speaks wakeups strategy key [] items transcript.said transcript.heard
 
-pub spoken : (strategy : Strategy) (key : List ℕ) (history : History) (transcript : Transcript)
-    → Talks Writes Reads strategy key unused history transcript → IsSpoken strategy key history transcript
-spoken strategy key history transcript begins = record { items = []; is = refl; speaks_all = (refl, refl) }
-spoken strategy key history transcript (goes_on old item here next talks meets) =
-    let before = spoken strategy key old here talks in
-    let step = adds strategy key old here item next meets in
+pub spoken : (wakeups : ℕ) (strategy : Strategy) (key : List ℕ) (history : History) (transcript : Transcript)
+    → Talks Writes Reads wakeups strategy key unused history transcript
+    → IsSpoken wakeups strategy key history transcript
+spoken wakeups strategy key history transcript begins = record { items = []; is = refl; speaks_all = (refl, refl) }
+spoken wakeups strategy key history transcript (goes_on old item here next talks meets) =
+    let before = spoken wakeups strategy key old here talks in
+    let step = adds wakeups strategy key old here item next meets in
     record {
       items = before.items ++ item ∷ [];
       is = after_more [] before.items item ∙ ap (λ (past : History). item ∷ past) before.is;
-      speaks_all = subst (λ (bytes : List ℕ). Speaks strategy key [] (before.items ++ item ∷ []) bytes next.heard)
+      speaks_all = subst (λ (bytes : List ℕ). Speaks wakeups strategy key [] (before.items ++ item ∷ []) bytes
+          next.heard)
           (sym step.said)
-          (subst (λ (bytes : List ℕ). Speaks strategy key [] (before.items ++ item ∷ []) (here.said ++ step.own) bytes)
+          (subst (λ (bytes : List ℕ). Speaks wakeups strategy key [] (before.items ++ item ∷ []) (here.said ++ step.own)
+          bytes)
           (sym step.heard)
-          (speaks_on strategy key item step.own step.back before.items [] here.said here.heard
-          (subst (λ (past : History). Speaks strategy key past (item ∷ []) step.own step.back) (sym before.is)
+          (speaks_on wakeups strategy key item step.own step.back before.items [] here.said here.heard
+          (subst (λ (past : History). Speaks wakeups strategy key past (item ∷ []) step.own step.back) (sym before.is)
           step.speaks_it) before.speaks_all));
     }
-
-pub naps_spoken : (strategy : Strategy) (key : List ℕ) (history : History) (transcript : Transcript)
-    (s : IsSpoken strategy key history transcript) → naps_among s.items ≡ naps history
-naps_spoken strategy key history transcript s =
-    let all : naps (after_all [] s.items) ≡ 0 + naps_among s.items = naps_after [] s.items in
-    let same : naps (after_all [] s.items) ≡ naps history = ap naps s.is in
-    omega (arith, all, same)

@@ -1,4 +1,4 @@
--- What an event of one agent leaves of another, and where those are who are no agents of the match.
+-- Events of one agent leave the others unchanged, and numbers without an agent never enter.
 use Rattle.std.proofs.Common.{ℕ, ◌≡◌, ◌∙◌, false, List, [], ◌∷◌, ◌==◌, nat_lt, refl, sym, ap, inl, inr}
 use Rattle.std.proofs.lemmas.Bool.{true≢false, and_parts, cond_both}
 use Rattle.std.proofs.lemmas.Bool.Decides.{eqb_tells}
@@ -11,7 +11,7 @@ use Rattle.bhs_model.specs.Runs.{delivered, next, run_from, run}
 use Rattle.bhs_model.proofs.StepLemmas.{changed_other}
 use Rattle.bhs_model.proofs.LegalLemmas.{either}
 
--- an agent is where it was, and nothing has happened to it
+-- the position and the past of an agent are unchanged
 pub record IsUntouched (agent : ℕ) (old new : State) : Type 0 where
   pub past : new.past agent ≡ old.past agent
   pub position : new.position agent ≡ old.position agent

@@ -1,5 +1,5 @@
 -- Contests whose agents were played by clients that follow their strategies.
-use Rattle.std.specs.Prelude.{ℕ, ◌+◌, ◌<◌, ◌≤◌, ◌≡◌, ◌≢◌, ◌⊎◌, false, List, [], ◌∷◌, ◌++◌, map, length}
+use Rattle.std.specs.Prelude.{ℕ, ◌<◌, ◌≤◌, ◌≡◌, ◌≢◌, ◌⊎◌, false, List, [], ◌∷◌, ◌++◌, map, length}
 use Rattle.std.specs.List.{AllByRecursion}
 use Rattle.bhs_net.specs.Network.{IsPortLabelled}
 use Rattle.bhs_model.specs.declared.commands.Command.{Command}
@@ -22,7 +22,7 @@ use Rattle.bhs_referee.specs.declared.verdicts.Outcome.TheVariants.{Wrong}
 use Rattle.bhs_referee.specs.declared.verdicts.Verdict.{Verdict}
 use Rattle.bhs_referee.specs.Verdicts.{verdict_of}
 use Rattle.bhs_schedules.specs.declared.answers.Step.TheVariants.{Says, Stops}
-use Rattle.bhs_schedules.specs.Strategies.{History, Heard, Woke, Strategy, Strategies}
+use Rattle.bhs_schedules.specs.Strategies.{History, Heard, Strategy, Strategies}
 use Rattle.bhs_schedules.specs.Schedules.{Trial, under, position_of}
 use Rattle.bhs_schedules.specs.Everywhere.{IsSolvedWithin, EveryScheduleSolves, step_after}
 use Rattle.bhs_schedules.specs.Endings.{EveryScheduleCanRest}
@@ -30,31 +30,24 @@ use Rattle.bhs_searcher.specs.Talks.{Talks}
 use Rattle.bhs_searcher.specs.Transcripts.{Transcript, unused, Writes, Reads}
 use Rattle.bhs_theorems.specs.ContestMet.{Attended, fed, TookPart}
 
--- how often an agent woke
-abbrev pub naps : History → ℕ
-naps [] = 0
-naps (Heard reply ∷ history) = naps history
-naps (Woke ∷ history) = naps history + 1
-
 -- ---- a session that a client played by a strategy
 
--- it ended by a Bye or an accusation; or it was told that the match is over, and its agent has not ended
+-- the session ended with Bye, with an accusation, or with Over while its agent had not ended
 abbrev pub IsPlayedOut : Attended → Type 0
 IsPlayedOut one = ((one.ended ≡ endings.Bye) ⊎ (one.ended ≡ endings.Noted))
     ⊎ ((one.ended ≡ endings.Over) × (standing ((state_of one.play).past one.pass.agent) ≢ Stopped))
 
--- The client of a session has said what this strategy says, line by line, and nothing else. The session read what the
--- client wrote, but perhaps the last lines, and the client read what the session wrote. It woke no more often than the
--- trial lets an agent wake in a row.
+-- The client of a session has said what this strategy says, line by line, and has woken at most `wakeups` + 1 times in
+-- a row (`Talks`). The session read what the client wrote, but perhaps not its last lines, and the client read all that
+-- the session wrote.
 pub record IsPlayedBy (wakeups : ℕ) (strategy : Strategy) (one : Attended) : Type 0 where
   pub key : List ℕ
   pub history : History
   pub transcript : Transcript
-  pub talks : Talks Writes Reads strategy key unused history transcript
+  pub talks : Talks Writes Reads wakeups strategy key unused history transcript
   pub unread : List Command
   pub read : fed one ++ unread ≡ map command_of (lines transcript.said)
   pub heard : transcript.heard ≡ one.written
-  pub few_naps : naps history ≤ wakeups + 1
   pub out : IsPlayedOut one
 
 -- ---- the match
@@ -75,9 +68,9 @@ AreOverFree held world state [] = Unit {0}
 AreOverFree held world state (event ∷ events) =
     IsOverFree held state event × AreOverFree held world (next world state event) events
 
--- What is asked of the match and its log. Its network is a graph with port labels, as each `Net` is, and its log is
--- what a match keeps, as each `Sealed` shows. Of a Write that was refused as too long a pass does not keep the text, so
--- there is none; and no arrival over a link that the trial holds.
+-- The premises on the match and its log. The network is a graph with port labels, as each `Net` is, and the log is what
+-- a match keeps, as each `Sealed` shows. No Write was refused as too long, since a pass does not keep the text of such
+-- a Write, and no agent arrived over a link that the trial holds.
 pub record IsPlainMatch (held : Held) (play : Play) : Type 0 where
   pub labelled : IsPortLabelled play.net
   pub kept : kept (world_in play) (events_of play.log) ≡ events_of play.log
@@ -86,7 +79,7 @@ pub record IsPlainMatch (held : Held) (play : Play) : Type 0 where
 
 -- ---- the team
 
--- An agent waits on its links in silence, and one that has not entered does not stop.
+-- An orderly team: an agent on a link waits, and an agent that has not entered does not stop.
 pub record IsOrderly (trial : Trial) : Type 0 where
   pub silent : (schedule : List ℕ) (agent node port : ℕ) → agent < trial.world.agents
       → position_of trial (under trial schedule) agent ≡ Bound node port → step_after trial schedule agent ≡ Stops

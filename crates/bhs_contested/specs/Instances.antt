@@ -45,7 +45,7 @@ HalvesSolveContests = (play : Play) (hole wakeups : ℕ) (clients : (agent : ℕ
     → IsPlainMatch none_held play → AreAllDone play
     → IsSolvedWithin (most_moves (nodes_of play.net)) 1 (verdict_of play)
 
--- The same of the shuttle, as in the theorem on it, within its moves.
+-- The same law for the search by the shuttle, within (n - 1)^2 moves.
 abbrev pub ShuttleSolvesContests : Type 0
 ShuttleSolvesContests = (play : Play) (hole wakeups : ℕ) (clients : (agent : ℕ) → Attended)
     → IsSetOn play.net play.setup hole → 4 ≤ play.setup.board
@@ -68,7 +68,7 @@ pub record IsSearchedInContests (net : Network) (home : ℕ) : Type 0 where
       → IsPlainMatch none_held play → AreAllDone play
       → IsSolvedWithin (ring_bounds (nodes_of net)).moves 1 (verdict_of play)
 
--- So it is on each network of a file, from each home base. The guide is chosen by both alone.
+-- Each network of a file has such a guide from each home base, which depends on these two alone.
 abbrev pub MapsSolveContests : Type 0
 MapsSolveContests = (net : Network) (home : ℕ) → IsNetwork net → home < nodes_of net → IsSearchedInContests net home
 

@@ -6,7 +6,8 @@ use Rattle.bhs_stream.specs.Streams.{Chunk, WriteAnswer}
 use Rattle.bhs_schedules.specs.declared.answers.Step.{Step}
 use Rattle.bhs_schedules.specs.declared.answers.Step.TheVariants.{Says as SaysIt, Sleeps, Stops, Fails}
 use Rattle.bhs_schedules.specs.Strategies.{History, Observation, Strategy}
-use Rattle.bhs_searcher.specs.Talks.{Says, Meets, speaks, sleeps, Talks, begins, goes_on}
+use Rattle.bhs_searcher.specs.Talks.{Says, Meets, speaks, sleeps, sleeps_on, Talks, begins, goes_on}
+use Rattle.bhs_searcher.specs.WakeUps.{wake_ups_in}
 use Rattle.bhs_searcher.specs.Transcripts.{Transcript, unused, Writes, Reads}
 use Rattle.bhs_player.specs.declared.wire.Wire.{Wire}
 use Rattle.bhs_player.specs.Wires.{ended, IsHeard, IsSaid}
@@ -31,7 +32,7 @@ module _ {R W : Type 0} (gives : R → Chunk → R → Type 0) (takes : W → Li
 
   -- ---- what is said, and what is heard
 
-  -- the agent that does this says it over both
+  -- the step's line is written to the wire and to the transcript
   record SaysBoth (key : List ℕ) (step : Step) (start : Wire R W) (transcript : Transcript) (told : Wire R W)
       : Type 0 where
     after : Transcript
@@ -84,17 +85,17 @@ module _ {R W : Type 0} (gives : R → Chunk → R → Type 0) (takes : W → Li
 
   -- ---- a talk
 
-  record HasTalked (strategy : Strategy) (key : List ℕ) (start : Wire R W) (history : History) (here : Wire R W)
-      : Type 0 where
+  record HasTalked (wakeups : ℕ) (strategy : Strategy) (key : List ℕ) (start : Wire R W) (history : History)
+      (here : Wire R W) : Type 0 where
     transcript : Transcript
-    talks : Talks Writes Reads strategy key unused history transcript
+    talks : Talks Writes Reads wakeups strategy key unused history transcript
     is : IsTranscript gives takes flushes start here transcript
 
-  meets_both : (strategy : Strategy) (key : List ℕ) (start : Wire R W) (history : History) (item : Observation)
-      (here next : Wire R W) → HasTalked strategy key start history here
-      → Meets (IsSaid takes flushes) (IsHeard gives) key (strategy history) here item next
-      → HasTalked strategy key start (item ∷ history) next
-  meets_both strategy key start history item here next talked (speaks reply told new says hears) =
+  meets_both : (wakeups : ℕ) (strategy : Strategy) (key : List ℕ) (start : Wire R W) (history : History)
+      (item : Observation) (here next : Wire R W) → HasTalked wakeups strategy key start history here
+      → Meets (IsSaid takes flushes) (IsHeard gives) key wakeups (wake_ups_in history).in_a_row (strategy history) here
+      item next → HasTalked wakeups strategy key start (item ∷ history) next
+  meets_both wakeups strategy key start history item here next talked (speaks reply told new says hears) =
       let said = says_both key (strategy history) start here told talked.transcript talked.is says in
       let line : List ℕ = hears.0 in
       let heard : IsHeard gives told line next = hears.2 in
@@ -105,16 +106,27 @@ module _ {R W : Type 0} (gives : R → Chunk → R → Type 0) (takes : W → Li
             (speaks reply said.after after said.says (line, hears.1, (heard.flat, refl)));
         is = hears_both start told next said.after line said.is heard;
       }
-  meets_both strategy key start history item here next talked (sleeps doing) = record {
+  meets_both wakeups strategy key start history item here next talked (sleeps doing few) = record {
     transcript = talked.transcript;
-    talks = goes_on history item talked.transcript talked.transcript talked.talks (sleeps doing);
+    talks = goes_on history item talked.transcript talked.transcript talked.talks (sleeps doing few);
     is = talked.is;
   }
+  meets_both wakeups strategy key start history item here next talked (sleeps_on new doing many hears) =
+      let line : List ℕ = hears.0 in
+      let heard : IsHeard gives here line next = hears.2 in
+      let after : Transcript = record talked.transcript { heard = talked.transcript.heard ++ ended line } in
+      record {
+        transcript = after;
+        talks = goes_on history item talked.transcript after talked.talks
+            (sleeps_on after doing many (line, hears.1, (heard.flat, refl)));
+        is = hears_both start here next talked.transcript line talked.is heard;
+      }
 
-  talked_both : (strategy : Strategy) (key : List ℕ) (start : Wire R W) (history : History) (here : Wire R W)
-      → start.held.items ≡ [] → Talks (IsSaid takes flushes) (IsHeard gives) strategy key start history here
-      → HasTalked strategy key start history here
-  talked_both strategy key start history here none begins = record {
+  talked_both : (wakeups : ℕ) (strategy : Strategy) (key : List ℕ) (start : Wire R W) (history : History)
+      (here : Wire R W) → start.held.items ≡ []
+      → Talks (IsSaid takes flushes) (IsHeard gives) wakeups strategy key start history here
+      → HasTalked wakeups strategy key start history here
+  talked_both wakeups strategy key start history here none begins = record {
     transcript = unused;
     talks = begins;
     is = record {
@@ -123,13 +135,13 @@ module _ {R W : Type 0} (gives : R → Chunk → R → Type 0) (takes : W → Li
       given = subst (λ (bytes : List ℕ). Gathers gives start.reader 0 bytes start.reader) (sym none) gathers_none;
     };
   }
-  talked_both strategy key start history here none (goes_on before item middle next talks meets) =
-      meets_both strategy key start before item middle next
-      (talked_both strategy key start before middle none talks) meets
+  talked_both wakeups strategy key start history here none (goes_on before item middle next talks meets) =
+      meets_both wakeups strategy key start before item middle next
+      (talked_both wakeups strategy key start before middle none talks) meets
 
   pub clients_talk : ClientsTalk gives takes flushes
-  clients_talk strategy key old how new none ends =
-      let talked = talked_both strategy key old (ends.item ∷ ends.history) new none ends.talks in (
+  clients_talk wakeups strategy key old how new none ends =
+      let talked = talked_both wakeups strategy key old (ends.item ∷ ends.history) new none ends.talks in (
         talked.transcript,
         record {
           history = ends.history;

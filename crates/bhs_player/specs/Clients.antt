@@ -25,12 +25,13 @@ pub record IsTranscript {R W : Type 0} (gives : R → Chunk → R → Type 0) (t
   pub reads : ℕ
   pub given : Gathers gives old.reader reads (transcript.heard ++ new.held.items) new.reader
 
--- A client has played an agent to its end over a wire that held nothing at first. Then the bytes that went over the
--- wire are a transcript of an agent that says what its strategy says, line by line, and ends so.
+-- Let a client have played an agent to its end over a wire that held nothing at first. Then the bytes that went over
+-- the wire are the transcript of an agent that says what its strategy says, line by line, wakes no more than `wakeups`
+-- + 1 times in a row, and ends in this way.
 abbrev pub ClientsTalk : {R W : Type 0} → (gives : R → Chunk → R → Type 0)
     → (takes : W → List ℕ → WriteAnswer → W → Type 0) → (flushes : W → Bool → W → Type 0) → Type 0
 ClientsTalk {R} {W} gives takes flushes =
-    (strategy : Strategy) (key : List ℕ) (old : Wire R W) (how : PlayEnd) (new : Wire R W) → old.held.items ≡ []
-    → Ends (IsSaid takes flushes) (IsHeard gives) strategy key old how new
-    → (transcript : Transcript) × Ends Writes Reads strategy key unused how transcript
+    (wakeups : ℕ) (strategy : Strategy) (key : List ℕ) (old : Wire R W) (how : PlayEnd) (new : Wire R W)
+    → old.held.items ≡ [] → Ends (IsSaid takes flushes) (IsHeard gives) wakeups strategy key old how new
+    → (transcript : Transcript) × Ends Writes Reads wakeups strategy key unused how transcript
     × IsTranscript gives takes flushes old new transcript

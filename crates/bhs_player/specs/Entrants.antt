@@ -1,6 +1,6 @@
 -- What the words of the command line say: where an agent plays, with which key, and what it runs.
 use Rattle.std.specs.Prelude.{ℕ, ◌==◌, List, [], ◌∷◌, Option, Some, None, option_map, option_and_then, codes}
-use Rattle.std.specs.Prelude.{if◌then◌else◌}
+use Rattle.std.specs.Prelude.{if◌then◌else◌, unwrap_or}
 use Rattle.std.specs.Str.{bytes_eq}
 use Rattle.bhs_net.specs.declared.faults.TheConstants.{MIN_NODES, MAX_NODES}
 use Rattle.bhs_command_line.specs.Arguments.{number_within}
@@ -19,10 +19,17 @@ pub record Entering : Type 0 where
   pub host : List ℕ
   pub port : ℕ
   pub key : List ℕ
+  pub spurious_wakeups : ℕ
   pub runs : AgentChoice
 
 abbrev pub seen : Entrant → Entering
-seen entrant = record { host = entrant.host.now; port = entrant.port; key = entrant.key.now; runs = entrant.runs }
+seen entrant = record {
+  host = entrant.host.now;
+  port = entrant.port;
+  key = entrant.key.now;
+  spurious_wakeups = entrant.spurious_wakeups;
+  runs = entrant.runs;
+}
 
 -- the protocol of this name
 abbrev pub protocol_in : List ℕ → Option Protocol
@@ -53,9 +60,33 @@ choice_in (option ∷ word ∷ []) =
     if bytes_eq option (codes "--module") then option_map (λ it. runs.Module it) (module_in word) else None
 choice_in words = None
 
--- HOST PORT KEY, and what the agent runs
+-- Splits off the option --spurious-wakeups: its number, if the option is given, and the remaining words; None if the
+-- number is not below 2^32.
+abbrev pub limit_in : List (List ℕ) → Option (Option ℕ × List (List ℕ))
+limit_in (option ∷ number ∷ words) =
+    if bytes_eq option (codes "--spurious-wakeups")
+    then option_map (λ limit. (Some limit, words)) (number_within 0 4294967295 number)
+    else Some (None, option ∷ number ∷ words)
+limit_in words = Some (None, words)
+
+-- A module has as many spurious wake-ups as `arena explore` tries by default. The theorems on protocols and charts hold
+-- for every number, as far as the quota suffices.
+abbrev pub default_limit : AgentChoice → ℕ
+default_limit (runs.Module it) = 2
+default_limit choice = 4294967295
+
+abbrev pub entrant_with : (host : List ℕ) → (port : ℕ) → (key : List ℕ) → (limit : Option ℕ) → AgentChoice → Entering
+entrant_with host port key limit runs = record {
+  host = host;
+  port = port;
+  key = key;
+  spurious_wakeups = unwrap_or limit (default_limit runs);
+  runs = runs;
+}
+
+-- HOST PORT KEY, how many spurious wake-ups the agent may have, and what it runs
 abbrev pub entrant_in : List (List ℕ) → Option Entering
 entrant_in (host ∷ port ∷ key ∷ what) =
-    option_and_then (λ port. option_map (λ runs. record { host = host; port = port; key = key; runs = runs })
-    (choice_in what)) (number_within 0 65535 port)
+    option_and_then (λ port. option_and_then (λ limited. option_map (entrant_with host port key limited.0)
+    (choice_in limited.1)) (limit_in what)) (number_within 0 65535 port)
 entrant_in words = None

@@ -1,4 +1,4 @@
--- What a line makes of a wire that is written to it or read from it.
+-- The states of a wire before and after a line is written or read.
 use Rattle.std.specs.Prelude.{◌≡◌, ℕ, Bool, true, false, ◌⊎◌, List, [], ◌∷◌, ◌++◌}
 use Rattle.std.specs.List.{list_any}
 use Rattle.bhs_stream.specs.Reading.{Gathers}
@@ -38,6 +38,6 @@ pub record IsHeard {R W : Type 0} (gives : R → Chunk → R → Type 0) (old : 
   pub gathered : Gathers gives old.reader reads bytes new.reader
   pub parts : old.held.items ++ bytes ≡ ended line ++ new.held.items
 
--- Nothing was written, where no line came. What was read is not said: a line may have been cut off.
+-- Nothing was written, where no line came. The definition says nothing of the input: a line may have been cut off.
 abbrev pub IsUnheard : {R W : Type 0} → (old new : Wire R W) → Type 0
 IsUnheard old new = new.writer ≡ old.writer

@@ -25,7 +25,7 @@ pub enum PlayedAgent {
     Module(ModuleAgent),
 }
 
-/// Why there is no agent of a module's file.
+/// Why a module's file yields no agent.
 #[derive(Debug, Drop, Error)]
 pub enum AgentFault {
     #[error("{0}")]

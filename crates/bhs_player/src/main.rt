@@ -51,7 +51,7 @@ fn started(rt: &HostRuntime) -> io::Result<u8> {
     }
 }
 
-// Tells what is wrong with an agent, behind the name of its module's file if it has one.
+// Prints a fault of an agent, after the name of its module's file if it runs one.
 fn tell_of_agent<D: Display + Drop>(
     rt: &HostRuntime,
     entrant: &Entrant<'_>,
@@ -84,7 +84,7 @@ fn entered(
             held: Vec::new(rt.alloc()),
             writer: io::writer(rt),
         };
-        return played(&mut wire, entrant.key, agent);
+        return played(&mut wire, entrant.key, entrant.spurious_wakeups, agent);
     }
     let Ok(stream) = connected(rt, entrant) else {
         return Err(PlayFault::Lost);
@@ -95,7 +95,7 @@ fn entered(
         held: Vec::new(rt.alloc()),
         writer: &stream,
     };
-    played(&mut wire, entrant.key, agent)
+    played(&mut wire, entrant.key, entrant.spurious_wakeups, agent)
 }
 
 fn connected(rt: &HostRuntime, entrant: &Entrant<'_>) -> io::Result<TcpStream> {

@@ -1,4 +1,4 @@
-//! Lines to a server and from it.
+//! A connection to a server, line by line.
 
 ghost use Rattle.std.specs.Prelude.{◌≡◌, ◌++◌, false, string_bytes, IfOk, IfSome, None};
 ghost use Rattle.std.specs.List.{list_any};
@@ -11,8 +11,11 @@ use bhs_wire::split_line;
 use std::thread;
 use std::time::Duration;
 
-// How many milliseconds an agent sleeps.
-const REST: u64 = 1_000;
+// The milliseconds that an agent sleeps at first. It sleeps twice as long each time that it wakes in a row.
+const FIRST_SLEEP: u64 = 1_000;
+
+// The most milliseconds that an agent sleeps.
+const LONGEST_SLEEP: u64 = 8_000;
 
 // By how many reads a line comes, at most.
 const MOST_READS: u32 = 16_777_216;
@@ -82,7 +85,24 @@ impl<R: Input + Drop, W: Output + Drop> ServerConnection for Wire<'_, R, W> {
         Err(Lost)
     }
 
-    fn sleep(&self) {
-        thread::sleep(self.rt, Duration::from_millis(REST));
+    fn sleep(&self, in_a_row: u64) {
+        thread::sleep(self.rt, Duration::from_millis(sleep_after(in_a_row)));
+    }
+
+    fn report_sleep(&self, in_a_row: u64) {
+        let _ = eprintln!(self.rt;
+            "bhs_player: the agent has woken {in_a_row} times in a row and read nothing new. It \
+            sleeps until its match is over. --spurious-wakeups lets it wake more often; explore it with the same number"
+        );
+    }
+}
+
+// The milliseconds that an agent sleeps which has woken this often in a row.
+fn sleep_after(in_a_row: u64) -> u64 {
+    match in_a_row {
+        0 => FIRST_SLEEP,
+        1 => 2 * FIRST_SLEEP,
+        2 => 4 * FIRST_SLEEP,
+        _ => LONGEST_SLEEP,
     }
 }

@@ -10,6 +10,9 @@ use bhs_protocols_charts::memories::{NetworkFacts, Told};
 use bhs_searcher::Protocol;
 use std::alloc::{AllocError, Global};
 
+/// The default of `arena explore --spurious-wakeups`.
+pub const MODULE_WAKEUPS: u32 = 2;
+
 /// Where an agent plays, with which key, and what it runs.
 #[derive(Drop)]
 pub struct Entrant<'w> {
@@ -17,6 +20,8 @@ pub struct Entrant<'w> {
     pub host: &'w str,
     pub port: u16,
     pub key: &'w str,
+    /// How many spurious wake-ups in a row the agent may have.
+    pub spurious_wakeups: u32,
     pub runs: AgentChoice,
 }
 
@@ -35,11 +40,11 @@ pub enum AgentChoice {
     Module(AgentModule),
 }
 
-/// What is told if the words are not fit.
+/// The usage text, printed for words that are not understood.
 pub const USAGE: &str = "\
-usage: bhs_player HOST PORT KEY PROTOCOL NODES SIDE
-       bhs_player HOST PORT KEY chart NODES LINKS
-       bhs_player HOST PORT KEY --module FILE[:N,..]
+usage: bhs_player HOST PORT KEY [--spurious-wakeups N] PROTOCOL NODES SIDE
+       bhs_player HOST PORT KEY [--spurious-wakeups N] chart NODES LINKS
+       bhs_player HOST PORT KEY [--spurious-wakeups N] --module FILE[:N,..]
 
 An agent as the client of a server: one that searches a ring by a protocol that is proved to solve every ring, one that
 draws a chart of an unknown network, or one that runs a WebAssembly module, as `arena explore --module` tries it. Run a
@@ -52,6 +57,8 @@ protocol twice, with the sides 0 and 1, and a chart once more than the black hol
   NODES     how many nodes the ring or the network has, 3 to 4096
   SIDE      0 or 1: the port of the home base behind which the agent begins
   LINKS     how many links the network has, or 0 if no node has more than three
+  N         how often in a row the agent may wake again though it reads nothing new, 0 to 4294967295; then it sleeps
+            until its match is over. The default is 2 for a module, as of `arena explore`, and else 4294967295
   FILE      the module's file, and behind a colon its arguments, numbers below 2^32 with commas between them";
 
 /// What the words say, if they are fit.
@@ -65,12 +72,39 @@ pub fn entrant_of<'w>(alloc: Global, words: &'w [String]) -> Result<Option<Entra
     let Some(port) = number_of(port.as_str(), 0, u16::MAX) else {
         return Ok(None);
     };
+    let Some((limit, what)) = limit_of(what) else {
+        return Ok(None);
+    };
     Ok(choice_of(alloc, what)?.map(|runs| Entrant {
         host: host.as_str(),
         port,
         key: key.as_str(),
+        spurious_wakeups: limit.unwrap_or(default_limit(&runs)),
         runs,
     }))
+}
+
+// Splits off the option --spurious-wakeups: its number, if the option is given, and the remaining words. Returns None
+// if the number is not below 2^32.
+fn limit_of(words: &[String]) -> Option<(Option<u32>, &[String])>
+    ensures { option_map (λ it. (it.0, map string_bytes it.1.now)) result
+        ≡ entrants.limit_in (map string_bytes words.now) }
+{
+    if let [option, number, rest @ ..] = words {
+        if option.as_str() == "--spurious-wakeups" {
+            return Some((Some(number_within(0, u32::MAX, number.as_str())?), rest));
+        }
+    }
+    Some((None, words))
+}
+
+fn default_limit(runs: &AgentChoice) -> u32
+    ensures { result ≡ entrants.default_limit runs.now }
+{
+    match runs {
+        AgentChoice::Module(_) => MODULE_WAKEUPS,
+        AgentChoice::Protocol { .. } | AgentChoice::Chart(_) => u32::MAX,
+    }
 }
 
 fn choice_of(alloc: Global, words: &[String]) -> Result<Option<AgentChoice>, AllocError>

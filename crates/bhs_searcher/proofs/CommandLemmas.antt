@@ -68,7 +68,7 @@ is_plain key (Accuse port) fits = (tt, (omega arith, tt))
 is_plain key Leave fits = (tt, tt)
 is_plain key Bad fits = tt
 
--- the text of such an object is not blank
+-- the text of a JSON object is not blank
 visible : (key : List ℕ) (command : Command) → list_all is_space (compact_text (data_of key command)) ≡ false
 visible key Enter = refl
 visible key Look = refl

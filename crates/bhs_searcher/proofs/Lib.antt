@@ -2,4 +2,5 @@ pub mod CommandLemmas
 mod ModuleLemmas
 mod ProtocolLemmas
 pub mod ReplyLemmas
+mod WakeUpLemmas
 mod TalkLemmas

@@ -15,7 +15,7 @@ use Rattle.bhs_searcher.specs.declared.module_agent.ModuleAgent.{ModuleAgent}
 use Rattle.bhs_searcher.specs.Modules.{Remembers, RunsTheSame, strategy_of_module}
 use Rattle.bhs_searcher.specs.Searchers.{KeepsTo}
 
--- what holds of the value, if there is one, and of anything, if there is one
+-- a property of all values of an option is a property of its value
 pub by_value : {T E A B : Type 0} (P Q : T → Type 0) (result : Result T E)
     → ((it : T) → P it → A → B → Q it) → IfOk result P → OnOk result A → OnOk result B → IfOk result Q
 by_value P Q (Ok it) more holds one other = more it holds one other
@@ -68,7 +68,7 @@ begun old between memory answered tells =
     subst (λ (role : ℕ). Tells old between (start_in old.roles old.fuel role) memory answered)
     (either_way (nat_le 0 (length old.roles.others.items)) 0) tells
 
--- it is asked of a memory that is the one after a history, and of what has happened then
+-- the team is asked about the memory after a history and the next observation
 pub asked : (old : ModuleAgent) (between : Agents) (memory : ℕ) (answered : Step) (history : History)
     (seen item : Observation) → Remembers old history → seen ≡ item
     → IsSomeAnd (saved_at old.agents.table.states.items old.memory) (λ role_memory.

@@ -1,4 +1,4 @@
--- What an agent of a protocol holds after its history, and what it does by that.
+-- The memory of an agent of a protocol after a history, and its next step.
 use Rattle.std.proofs.Common.{◌≡◌, ◌∙◌, ℕ, ◌∷◌, refl, ap}
 use Rattle.bhs_schedules.specs.declared.answers.Step.{Step}
 use Rattle.bhs_schedules.specs.Strategies.{History, Observation}

@@ -1,4 +1,4 @@
--- How an agent goes on and how its talk does, and how it breaks off.
+-- Lemmas on how a talk is extended by an observation, and how it breaks off.
 use Rattle.std.proofs.Common.{◌≡◌, ◌∙◌, ℕ, List, ◌∷◌, sym, ap, subst}
 use Rattle.std.proofs.Common.{Result, Ok, Err, IfErr, IsErrAnd, OnErr}
 use Rattle.bhs_model.specs.declared.replies.Reply.{Reply}
@@ -10,8 +10,10 @@ use Rattle.bhs_searcher.specs.declared.playing.PlayFault.TheVariants as fault
 use Rattle.bhs_searcher.specs.declared.searchers.SearcherFault.{SearcherFault}
 use Rattle.bhs_searcher.specs.declared.searchers.SearcherFault.TheVariants as searcher_fault
 use Rattle.bhs_searcher.specs.Searchers.{KeepsTo}
-use Rattle.bhs_searcher.specs.Talks.{Hears, Meets, speaks, sleeps, Talks, goes_on, HearsNone, stuck, BreaksOff}
-use Rattle.bhs_searcher.specs.Talks.{silent, unheard, Breaks, fault_by}
+use Rattle.bhs_searcher.specs.Talks.{Hears, Meets, speaks, sleeps, sleeps_on, Talks, goes_on, HearsNone, stuck}
+use Rattle.bhs_searcher.specs.Talks.{BreaksOff, silent, unheard, asleep, Breaks, fault_by}
+use Rattle.bhs_searcher.specs.declared.wake_ups.WakeUps.{WakeUps as WakeUpsInCode}
+use Rattle.bhs_searcher.proofs.WakeUpLemmas.{IsCounting, row_is}
 
 -- an agent that follows its strategy follows it still once more has happened
 pub follows_on : {S : Type 0} (strategy : S → Strategy) (has_met : S → History → Type 0) (start old new : S)
@@ -24,21 +26,27 @@ follows_on strategy has_met start old new history item step next before after = 
   is_next = after.is_next ∙ ap (λ (s : Strategy). s (item ∷ history)) before.same;
 }
 
--- what happens to it that does what its strategy says goes on with its talk
-pub talks_on : {W : Type 0} (says hears : W → List ℕ → W → Type 0) (strategy : Strategy) (key : List ℕ)
-    (start here next : W) (history : History) (item : Observation) (step : Step)
-    → Talks says hears strategy key start history here → step ≡ strategy history
-    → Meets says hears key step here item next → Talks says hears strategy key start (item ∷ history) next
-talks_on says hears strategy key start here next history item step talks does meets =
-    goes_on history item here next talks (subst (λ (s : Step). Meets says hears key s here item next) does meets)
+-- the talk of an agent goes on by the observation of its next step
+pub talks_on : {W : Type 0} (says hears : W → List ℕ → W → Type 0) (wakeups : ℕ) (wake_ups : WakeUpsInCode)
+    (strategy : Strategy) (key : List ℕ) (start here next : W) (history : History) (item : Observation) (step : Step)
+    → Talks says hears wakeups strategy key start history here → step ≡ strategy history
+    → IsCounting wakeups history wake_ups
+    → Meets says hears key wake_ups.limit wake_ups.in_a_row step here item next
+    → Talks says hears wakeups strategy key start (item ∷ history) next
+talks_on says hears wakeups wake_ups strategy key start here next history item step talks does counting meets =
+    goes_on history item here next talks
+    (subst (λ (n : ℕ). Meets says hears key wakeups n (strategy history) here item next)
+    (row_is wakeups history wake_ups counting)
+    (subst (λ (n : ℕ). Meets says hears key n wake_ups.in_a_row (strategy history) here item next) counting.same_limit
+    (subst (λ (s : Step). Meets says hears key wake_ups.limit wake_ups.in_a_row s here item next) does meets)))
 
--- it breaks off in what it does
-pub breaks_off : {W : Type 0} (says hears cuts : W → List ℕ → W → Type 0) (loses : W → W → Type 0)
+-- an agent that breaks off within its next step
+pub breaks_off : {W : Type 0} (says hears cuts : W → List ℕ → W → Type 0) (loses : W → W → Type 0) (wakeups : ℕ)
     (strategy : Strategy) (key : List ℕ) (start here new : W) (history : History) (step : Step) (why : PlayFault)
-    → Talks says hears strategy key start history here → step ≡ strategy history
+    → Talks says hears wakeups strategy key start history here → step ≡ strategy history
     → BreaksOff says hears cuts loses key step here new → (why ≡ fault.Failed → step ≡ steps.Fails)
-    → Breaks says hears cuts loses strategy key start why new
-breaks_off says hears cuts loses strategy key start here new history step why talks does off failed = record {
+    → Breaks says hears cuts loses wakeups strategy key start why new
+breaks_off says hears cuts loses wakeups strategy key start here new history step why talks does off failed = record {
   history = history;
   here = here;
   talks = talks;
@@ -46,18 +54,20 @@ breaks_off says hears cuts loses strategy key start here new history step why ta
   failed = λ is. sym does ∙ failed is;
 }
 
--- a reply that is heard may be one by which it does not go on
+-- hearing a reply is a case of hearing a line that ends the talk
 pub stuck_by : {W : Type 0} (hears : W → List ℕ → W → Type 0) (loses : W → W → Type 0) (reply : Reply) (told new : W)
     → Hears hears reply told new → HearsNone hears loses told new
 stuck_by hears loses reply told new heard = stuck heard.0 new heard.2
 
--- after whatever has happened to it it may break off
+-- an agent may break off after each observation
 pub then_off : {W : Type 0} (says hears cuts : W → List ℕ → W → Type 0) (loses : W → W → Type 0) (key : List ℕ)
-    (step : Step) (here new : W) (item : Observation) → Meets says hears key step here item new
-    → BreaksOff says hears cuts loses key step here new
-then_off says hears cuts loses key step here new item (speaks reply told next said heard) =
+    (wakeups woken : ℕ) (step : Step) (here new : W) (item : Observation)
+    → Meets says hears key wakeups woken step here item new → BreaksOff says hears cuts loses key step here new
+then_off says hears cuts loses key wakeups woken step here new item (speaks reply told next said heard) =
     unheard told next said (stuck_by hears loses reply told next heard)
-then_off says hears cuts loses key step here new item (sleeps is) = silent
+then_off says hears cuts loses key wakeups woken step here new item (sleeps is few) = silent
+then_off says hears cuts loses key wakeups woken step here new item (sleeps_on next is many heard) =
+    asleep next is (stuck heard.0 next heard.2)
 
 -- an agent that cannot go on does not fail by that
 pub not_failed : (P : Type 0) (why : SearcherFault) (given : PlayFault) → given ≡ fault_by why
@@ -72,7 +82,7 @@ pub by_fault : {T E : Type 0} (P Q : E → Type 0) (result : Result T E) → ((e
 by_fault P Q (Ok it) more holds = tt
 by_fault P Q (Err error) more holds = more error holds
 
--- the same of one that is an error anyway
+-- the same for a result that is known to be an error
 pub on_fault : {T E A : Type 0} (Q : E → Type 0) (result : Result T E) → ((error : E) → A → Q error) → OnErr result A
     → IfErr result Q
 on_fault Q (Ok it) more holds = tt

@@ -9,7 +9,7 @@ use Rattle.bhs_searcher.specs.declared.chart_agent.ChartAgent.{ChartAgent}
 abbrev pub program_of : ChartAgent → Program Memory
 program_of agent = charters agent.known.nodes (tells_of agent.known.told)
 
--- the strategy of an agent; all agents have the same, so that it is the one of agent 0
+-- the strategy of an agent: all agents have the strategy of agent 0
 abbrev pub strategy_of_charter : ChartAgent → Strategy
 strategy_of_charter agent = strategies_by (program_of agent) 0
 

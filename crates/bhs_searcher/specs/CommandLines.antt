@@ -25,7 +25,7 @@ data_of key (command.Accuse port) = does (codes "accuse") (by_port port)
 data_of key command.Leave = does (codes "leave") no_members
 data_of key command.Bad = null
 
--- what the server is to take that for
+-- the meaning of the line for the server
 abbrev pub meant : (key : List ℕ) → Command → First
 meant key command.Enter = Enter key
 meant key command = Tell command

@@ -1,4 +1,4 @@
--- The protocols that a client can run, as the strategies that the theorems on them speak of.
+-- The protocols that a client can run, as strategies.
 use Rattle.std.specs.Prelude.{◌≡◌, ℕ}
 use Rattle.bhs_schedules.specs.declared.answers.Step.{Step}
 use Rattle.bhs_schedules.specs.Strategies.{History, Observation, Strategies, Strategy}

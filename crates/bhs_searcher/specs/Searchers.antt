@@ -10,8 +10,8 @@ abbrev pub observation_of : AgentNews → Observation
 observation_of (news.Heard reply) = Heard reply
 observation_of news.Woke = Woke
 
--- The agent's strategy is what it was; with this history it is now in the new state, and does this next. `strategy`
--- and `has_met` say what its strategy and its history are in a state.
+-- The agent keeps its strategy. Its new state has this history, and its next step is the strategy's. `strategy` and
+-- `has_met` say what its strategy and its history are in a state.
 pub record KeepsTo {S : Type 0} (strategy : S → Strategy) (has_met : S → History → Type 0) (old : S) (history : History)
     (step : Step) (new : S) : Type 0 where
   pub same : strategy new ≡ strategy old

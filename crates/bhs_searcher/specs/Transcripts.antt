@@ -3,7 +3,7 @@ use Rattle.std.specs.Prelude.{◌≡◌, ℕ, List, [], ◌∷◌, ◌++◌, fal
 use Rattle.std.specs.List.{list_any}
 use Rattle.bhs_wire.specs.Lines.{is_line_feed}
 
--- the bytes that a client has written, and those that it has read
+-- the bytes that a client has written and the bytes that it has read
 pub record Transcript : Type 0 where
   pub said : List ℕ
   pub heard : List ℕ

@@ -13,7 +13,7 @@ use bhs_schedules::Step;
 use std::alloc::Global;
 use std::mem::replace;
 
-/// An agent that draws a chart, with what it knows of the network and what it holds.
+/// An agent that draws a chart: the facts that it was told of the network, and its memory.
 #[derive(Drop)]
 pub struct ChartAgent {
     pub alloc: Global,

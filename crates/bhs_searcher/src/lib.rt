@@ -9,12 +9,14 @@ mod playing;
 mod protocol_agent;
 mod replies;
 mod searchers;
+mod wake_ups;
 
 pub use chart_agent::ChartAgent;
 pub use commands::line_of;
 pub use laws::{replies_are_read, writes_have_this_length};
 pub use module_agent::ModuleAgent;
-pub use playing::{Lost, PlayEnd, PlayFault, ServerConnection, play};
+pub use playing::{Lost, PlayEnd, PlayFault, PlayLimits, ServerConnection, play};
 pub use protocol_agent::{Protocol, ProtocolAgent, ProtocolMemory};
 pub use replies::reply_of;
 pub use searchers::{AgentNews, Searcher, SearcherFault};
+pub use wake_ups::WakeUps;

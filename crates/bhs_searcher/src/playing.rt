@@ -1,13 +1,15 @@
 //! Playing an agent against a server.
 
-ghost use Rattle.std.specs.Prelude.{◌≡◌, ◌≢◌, ℕ, List, string_bytes, IfErr, IfOk, OnOk, OnErr};
+ghost use Rattle.std.specs.Prelude.{◌≡◌, ◌≢◌, ◌≤◌, ℕ, List, string_bytes, IfErr, IfOk, IsTrue, OnOk, OnErr};
 ghost use Rattle.bhs_searcher.specs.declared.playing.PlayFault.{PlayFault};
 ghost use Rattle.bhs_searcher.specs.Searchers.{observation_of};
 ghost use Rattle.bhs_searcher.specs.Talks.{Breaks, BreaksOff, Ends, Hears, HearsNone, Meets, Says, end_after, fault_by};
+ghost use Rattle.bhs_schedules.specs.Strategies.{Woke};
 
 use crate::commands::line_of;
 use crate::replies::reply_of;
 use crate::searchers::{AgentNews, Searcher, SearcherFault};
+use crate::wake_ups::WakeUps;
 use bhs_model::{Command, MAX_LINE, Reply, Why};
 use bhs_schedules::Step;
 use std::alloc::{AllocError, Global};
@@ -34,8 +36,11 @@ pub trait ServerConnection {
         ensures heard { IfOk result (λ line. hears self.old (string_bytes line) self.new) }
         ensures lost { OnErr result (loses self.old self.new) };
 
-    /// Waits as long as an agent sleeps.
-    fn sleep(&self);
+    /// Waits as long as an agent sleeps that has woken this often in a row.
+    fn sleep(&self, in_a_row: u64);
+
+    /// Reports that the agent, which has woken this often in a row, sleeps until its match is over.
+    fn report_sleep(&self, in_a_row: u64);
 }
 
 /// The connection is lost, or gives no line.
@@ -43,12 +48,21 @@ pub trait ServerConnection {
 #[error("the connection is lost")]
 pub struct Lost;
 
+/// How long an agent plays.
+#[derive(Clone, Copy, Debug, PartialEq, Eq, Drop)]
+pub struct PlayLimits {
+    /// The agent hears a reply or wakes at most this often.
+    pub turns: u64,
+    /// The spurious wake-ups in a row that the agent may have. One wake-up more, and the agent sleeps until the close.
+    pub spurious_wakeups: u32,
+}
+
 /// How an agent ended that has played to its end.
 #[derive(Clone, Copy, Debug, PartialEq, Eq, Drop)]
 pub enum PlayEnd {
     /// It has accused a link.
     Accused,
-    /// It was told that the match is over.
+    /// The server has said that the match is over.
     Over,
 }
 
@@ -101,26 +115,28 @@ impl From<SearcherFault> for PlayFault {
     }
 }
 
-/// Plays an agent until it has accused, or is told that its match is over. At most `turns` times it hears a reply or
-/// wakes.
+/// Plays an agent until it has accused a link or its match is over.
 ///
-/// The agent says what its strategy says of all that has happened to it, line by line, and nothing else. If it breaks
-/// off, what it had said by then is what its strategy says, and of its last line a front may have been written.
+/// The agent says what its strategy says of its history, line by line, and nothing else. It never wakes more often in a
+/// row than the limits allow. An agent that breaks off has written the lines of its strategy so far, and perhaps a
+/// prefix of the next one.
 pub fn play<C: ServerConnection, S: Searcher>(
     alloc: Global,
     connection: &mut C,
     searcher: &mut S,
     key: &str,
-    turns: u64,
+    limits: PlayLimits,
 ) -> Result<PlayEnd, PlayFault>
-    ensures ended { IfOk result (λ ended. Ends C.says C.hears (S.strategy searcher.old) key.now
-        connection.old ended connection.new) }
-    ensures broken { IfErr result (λ fault. Breaks C.says C.hears C.cuts C.loses (S.strategy searcher.old) key.now
-        connection.old fault connection.new) }
+    ensures ended { IfOk result (λ ended. Ends C.says C.hears limits.spurious_wakeups (S.strategy searcher.old)
+        key.now connection.old ended connection.new) }
+    ensures broken { IfErr result (λ fault. Breaks C.says C.hears C.cuts C.loses limits.spurious_wakeups
+        (S.strategy searcher.old) key.now connection.old fault connection.new) }
 {
     let mut step = searcher.begin()?;
-    for _ in 0..turns {
-        let news = meet(alloc, connection, key, &step)?;
+    let mut wake_ups = WakeUps::new(limits.spurious_wakeups);
+    for _ in 0..limits.turns {
+        let news = meet(alloc, connection, key, &step, &wake_ups)?;
+        wake_ups = wake_ups.after(alloc, &news)?;
         step = searcher.next(&news)?;
         if let Some(ended) = ended_by(&news) {
             return end_of(ended, &step);
@@ -129,15 +145,17 @@ pub fn play<C: ServerConnection, S: Searcher>(
     Err(PlayFault::Turns)
 }
 
-// What happens next to an agent that does this.
+// Takes the agent's next step: it says a command and hears the reply, or it sleeps and wakes.
 fn meet<C: ServerConnection>(
     alloc: Global,
     connection: &mut C,
     key: &str,
     step: &Step,
+    wake_ups: &WakeUps,
 ) -> Result<AgentNews, PlayFault>
-    ensures met { IfOk result (λ news. Meets C.says C.hears key.now step.now connection.old
-        (observation_of news) connection.new) }
+    ensures met { IfOk result (λ news. Meets C.says C.hears key.now wake_ups.now.limit wake_ups.now.in_a_row step.now
+        connection.old (observation_of news) connection.new) }
+    ensures woke { IfOk result (λ news. observation_of news ≡ Woke → wake_ups.now.in_a_row ≤ wake_ups.now.limit) }
     ensures broken { OnErr result (BreaksOff C.says C.hears C.cuts C.loses key.now step.now
         connection.old connection.new) }
     ensures failed { IfErr result (λ fault. fault ≡ PlayFault.Failed → step.now ≡ Step.Fails) }
@@ -149,11 +167,29 @@ fn meet<C: ServerConnection>(
         }
         Step::Stops => Ok(AgentNews::Heard(hear(alloc, connection)?)),
         Step::Sleeps => {
-            connection.sleep();
-            Ok(AgentNews::Woke)
+            if wake_ups.in_a_row <= u64::from(wake_ups.limit) {
+                connection.sleep(wake_ups.in_a_row);
+                return Ok(AgentNews::Woke);
+            }
+            connection.report_sleep(wake_ups.in_a_row);
+            hear_close(alloc, connection)?;
+            Ok(AgentNews::Heard(Reply::Over))
         }
         Step::Fails => Err(PlayFault::Failed),
     }
+}
+
+// Hears the reply Over. A server sends no other reply to an agent that sleeps.
+fn hear_close<C: ServerConnection>(alloc: Global, connection: &mut C) -> Result<(), PlayFault>
+    ensures heard { OnOk result (Hears C.hears Reply.Over connection.old connection.new) }
+    ensures broken { OnErr result (HearsNone C.hears C.loses connection.old connection.new) }
+    ensures fault { IfErr result (λ fault. fault ≢ PlayFault.Failed) }
+{
+    let reply = hear(alloc, connection)?;
+    if !is_over(&reply) {
+        return Err(PlayFault::Line);
+    }
+    Ok(())
 }
 
 // Says a command, unless its line is longer than a server takes.
@@ -188,7 +224,7 @@ fn hear<C: ServerConnection>(alloc: Global, connection: &mut C) -> Result<Reply,
     }
 }
 
-// How an agent ends that would then do this: one that fails breaks off.
+// The end of an agent whose next step is this one, or a fault if its strategy has failed.
 fn end_of(ended: PlayEnd, step: &Step) -> Result<PlayEnd, PlayFault>
     ensures ended { IfOk result (λ it. (it ≡ ended) × (step.now ≢ Step.Fails)) }
     ensures failed { OnErr result (step.now ≡ Step.Fails) }
@@ -199,7 +235,14 @@ fn end_of(ended: PlayEnd, step: &Step) -> Result<PlayEnd, PlayFault>
     }
 }
 
-// How an agent ends to which this has happened, if it ends.
+// Whether a reply says that the match is over.
+fn is_over(reply: &Reply) -> bool
+    ensures { IsTrue result → reply.now ≡ Reply.Over }
+{
+    matches!(reply, Reply::Over)
+}
+
+// The end of an agent after these news, if they end it.
 fn ended_by(news: &AgentNews) -> Option<PlayEnd>
     ensures { result ≡ end_after (observation_of news.now) }
 {

@@ -13,7 +13,7 @@ use bhs_protocols::{halves, shuttle};
 use bhs_schedules::Step;
 use std::alloc::Global;
 
-// The programs of the searches are proved for numbers below this one.
+// The proofs of both protocols need numbers below this bound.
 const MOST: u16 = 4094;
 
 /// How two agents search a ring that know its number of nodes. Each protocol is proved to solve every ring.
@@ -144,7 +144,7 @@ fn after(
     }
 }
 
-// What it holds after a reply.
+// The memory of an agent after a reply.
 fn after_reply(
     nodes: u16,
     held: ProtocolMemory,

@@ -9,7 +9,7 @@ use bhs_replay::reply_in;
 use serde_json::Value;
 use std::alloc::Global;
 
-/// The reply that a line of a server says, if it says one. Other keys of its object are not looked at.
+/// The reply that a line of a server says, if it says one. Further keys of its object are ignored.
 pub fn reply_of(alloc: Global, line: &str) -> Result<Option<Reply>, Memory>
     ensures { IfOk result (λ reply. reply ≡ reply_on line.now) }
 {

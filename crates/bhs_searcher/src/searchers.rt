@@ -9,12 +9,12 @@ use bhs_protocols_charts::charts::ChartFault;
 use bhs_schedules::{Step, TeamFault};
 use std::alloc::{AllocError, AllocFailed};
 
-/// What has happened to an agent.
+/// An observation of an agent.
 #[derive(Debug, PartialEq, Eq, Drop)]
 pub enum AgentNews {
-    /// It has heard a reply, also one by which it arrives.
+    /// The agent has read a reply; an arrival is one.
     Heard(Reply),
-    /// It has slept, and has woken.
+    /// The agent has woken from a sleep.
     Woke,
 }
 
@@ -25,7 +25,7 @@ pub trait Searcher {
     // In this state this has happened to it, the newest first.
     ghost has_met: { Self → History → Type 0 };
 
-    /// What it does first. What has happened to it before counts no more.
+    /// The first step. The agent forgets its history.
     fn begin(&mut self) -> Result<Step, SearcherFault>
         ensures { IfOk result (λ step. KeepsTo strategy has_met self.old [] step self.new) };
 

@@ -1,7 +1,7 @@
-use Rattle.std.proofs.Common.{refl, subst, sym}
+use Rattle.std.proofs.Common.{◌<◌, ◌≤◌, refl, rules, subst, sym}
 use Rattle.bhs_wire.proofs.Reading.{on_err}
 use Rattle.bhs_schedules.specs.declared.answers.Step.{Step}
-use Rattle.bhs_searcher.specs.Talks.{Says, speaks, sleeps, silent, unheard}
+use Rattle.bhs_searcher.specs.Talks.{Says, speaks, sleeps, sleeps_on, silent, unheard, asleep}
 use Rattle.bhs_searcher.proofs.playing.meet.Goals as goal
 
 pub returns-in_err-hear-in-Says-clause-broken : goal.returns-in_err-hear-in-Says-clause-broken
@@ -32,8 +32,19 @@ returns-in_ok-hear-in-Stops-clause-met g c =
     speaks c.in_ok-hear-in-Stops.field-0 c.args.connection.now c.hear-in-Stops.new.connection said
     c.in_ok-hear-in-Stops.ensures.heard
 
-pub returns-in-Sleeps-clause-met : goal.returns-in-Sleeps-clause-met
-returns-in-Sleeps-clause-met g c = sleeps c.in-Sleeps.is
-
 pub returns-in-Fails-clause-broken : goal.returns-in-Fails-clause-broken
 returns-in-Fails-clause-broken g c = silent
+
+pub returns-then-wake_ups-from-clause-met : goal.returns-then-wake_ups-from-clause-met
+returns-then-wake_ups-from-clause-met g c =
+    let few : c.args.wake_ups.now.in_a_row ≤ c.args.wake_ups.now.limit = search rules in sleeps c.in-Sleeps.is few
+
+pub returns-in_err-hear_close-in-Sleeps-clause-broken : goal.returns-in_err-hear_close-in-Sleeps-clause-broken
+returns-in_err-hear_close-in-Sleeps-clause-broken g c =
+    on_err c.from_residual-in_err-hear_close-in-Sleeps.result
+    (asleep c.hear_close.new.connection c.in-Sleeps.is c.in_err-hear_close-in-Sleeps.ensures.broken)
+
+pub returns-in_ok-hear_close-in-Sleeps-clause-met : goal.returns-in_ok-hear_close-in-Sleeps-clause-met
+returns-in_ok-hear_close-in-Sleeps-clause-met g c =
+    let many : c.args.wake_ups.now.limit < c.args.wake_ups.now.in_a_row = search rules in
+    sleeps_on c.hear_close.new.connection c.in-Sleeps.is many c.in_ok-hear_close-in-Sleeps.ensures.heard
