@@ -11,12 +11,12 @@ from tests.support.wasm_encoding import (
     Function,
     constant,
     in_memory,
-    joined,
+    join_sections,
     module,
     name,
     numeric,
     sections_of,
-    unsigned,
+    unsigned_leb128,
     vector,
 )
 
@@ -60,15 +60,15 @@ STORES = {
 
 
 class Body:
-    """The instructions of one function, drawn one after the other. It may call those
-    with lesser numbers."""
+    """Generates the instructions of a function at random. It may call functions with
+    lower numbers."""
 
     def __init__(
-        self, chance: random.Random, imports: Sequence[str], results: Sequence[int]
+        self, rng: random.Random, imports: Sequence[str], results: Sequence[int]
     ) -> None:
-        self.chance = chance
+        self.chance = rng
         self.imports = imports
-        # the results of the functions before
+        # result types of the earlier functions
         self.results = results
         self.loops = 0
 
@@ -76,92 +76,97 @@ class Body:
         return self.chance.choice(ways)()
 
     def local(self, value: int) -> bytes:
-        places = [place for place, it in enumerate(LOCALS) if it == value]
-        return unsigned(self.chance.choice(places))
+        places = [index for index, local in enumerate(LOCALS) if local == value]
+        return unsigned_leb128(self.chance.choice(places))
 
     def leaf(self, value: int) -> bytes:
-        """A value that is at hand."""
-        chance = self.chance
-        number = chance.choice((*CONSTANTS, *EDGES, chance.getrandbits(64)))
+        """Returns a constant or a variable."""
+        rng = self.chance
+        number = rng.choice((*CONSTANTS, *EDGES, rng.getrandbits(64)))
         return self.either(
             lambda: b"\x20" + self.local(value),
-            lambda: b"\x23" + unsigned(GLOBALS.index(value)),
-            lambda: constant(value, chance.choice((number, -number))),
+            lambda: b"\x23" + unsigned_leb128(GLOBALS.index(value)),
+            lambda: constant(value, rng.choice((number, -number))),
         )
 
     def expression(self, value: int, depth: int) -> bytes:
         """What pushes a value of a type."""
         if depth <= 0 or self.chance.random() < 0.15:
             return self.leaf(value)
-        one = [lambda: self.pure(value, depth)] * 4
+        first = [lambda: self.pure(value, depth)] * 4
         return self.either(
-            *one,
+            *first,
             lambda: self.load(value, depth),
             lambda: self.chosen(value, depth),
-            lambda: self.called(value, depth),
-            lambda: self.branched(value, depth),
+            lambda: self.call(value, depth),
+            lambda: self.branch(value, depth),
             lambda: self.expression(value, depth - 1) + b"\x22" + self.local(value),
             lambda: self.of_host() if value == I32 else self.leaf(value),
         )
 
     def pure(self, value: int, depth: int) -> bytes:
         instruction = self.chance.choice(PURE[value])
-        operands = [self.expression(it, depth - 1) for it in instruction.parameters]
+        operands = [
+            self.expression(parameter, depth - 1)
+            for parameter in instruction.parameters
+        ]
         return b"".join(operands) + instruction.body[-1:]
 
     def address(self, depth: int) -> bytes:
-        """A place in the memory; seldom one beyond it."""
-        found = self.expression(I32, depth - 1)
+        """Generates an address; about 2 % lie outside of the memory."""
+        result = self.expression(I32, depth - 1)
         is_wild = self.chance.random() < 0.02
-        return found if is_wild else found + constant(I32, 0x7FF8) + b"\x71"
+        return result if is_wild else result + constant(I32, 0x7FF8) + b"\x71"
 
-    def place(self) -> bytes:
-        return b"\0" + unsigned(self.chance.randrange(64))
+    def memory_place(self) -> bytes:
+        return b"\0" + unsigned_leb128(self.chance.randrange(64))
 
     def load(self, value: int, depth: int) -> bytes:
-        return self.address(depth) + self.chance.choice(LOADS[value]) + self.place()
+        return (
+            self.address(depth) + self.chance.choice(LOADS[value]) + self.memory_place()
+        )
 
     def chosen(self, value: int, depth: int) -> bytes:
         """A value by a condition."""
-        one, other = (self.expression(value, depth - 1) for _ in range(2))
+        first, second = (self.expression(value, depth - 1) for _ in range(2))
         test = self.expression(I32, depth - 1)
         kind = bytes([value])
         return self.either(
-            lambda: one + other + test + b"\x1b",
-            lambda: test + b"\x04" + kind + one + b"\x05" + other + END,
+            lambda: first + second + test + b"\x1b",
+            lambda: test + b"\x04" + kind + first + b"\x05" + second + END,
         )
 
-    def branched(self, value: int, depth: int) -> bytes:
+    def branch(self, value: int, depth: int) -> bytes:
         """A block that is left early by a condition, or by a table of branches."""
         kind = bytes([value])
-        one, other = (self.expression(value, depth - 1) for _ in range(2))
+        first, second = (self.expression(value, depth - 1) for _ in range(2))
         test = self.expression(I32, depth - 1)
         table = b"\x0e" + vector([b"\0", b"\1"]) + b"\0"
         return self.either(
-            lambda: b"\2" + kind + one + test + b"\x0d\0" + DROP + other + END,
-            lambda: b"\2" + kind + b"\2" + kind + one + test + table + END + END,
+            lambda: b"\2" + kind + first + test + b"\x0d\0" + DROP + second + END,
+            lambda: b"\2" + kind + b"\2" + kind + first + test + table + END + END,
         )
 
-    def called(self, value: int, depth: int) -> bytes:
-        """A call of a function before, by its number or by the table."""
-        places = [place for place, it in enumerate(self.results) if it == value]
+    def call(self, value: int, depth: int) -> bytes:
+        """Generates a call of an earlier function, direct or by the table."""
+        places = [index for index, result in enumerate(self.results) if result == value]
         if not places:
             return self.pure(value, depth)
-        place = self.chance.choice(places)
-        given = b"".join(self.leaf(it) for it in PARAMETERS)
-        number = unsigned(len(self.imports) + place)
-        indirect = constant(I32, place) + b"\x11" + number + b"\0"
-        return given + self.either(lambda: b"\x10" + number, lambda: indirect)
+        position = self.chance.choice(places)
+        conditions = b"".join(self.leaf(parameter) for parameter in PARAMETERS)
+        number = unsigned_leb128(len(self.imports) + position)
+        indirect = constant(I32, position) + b"\x11" + number + b"\0"
+        return conditions + self.either(lambda: b"\x10" + number, lambda: indirect)
 
     def of_host(self) -> bytes:
         """A call of a function of `arena`, or of the memory's size."""
-        place = self.chance.randrange(len(self.imports) + 2)
-        if place == len(self.imports):
+        index = self.chance.randrange(len(self.imports) + 2)
+        if index == len(self.imports):
             return b"\x3f\0"
-        if place > len(self.imports):
+        if index > len(self.imports):
             return constant(I32, self.chance.choice((0, 1, 70_000))) + b"\x40\0"
-        given = b"".join(self.leaf(I32) for _ in range(HOST[self.imports[place]]))
-        return given + b"\x10" + unsigned(place)
+        conditions = b"".join(self.leaf(I32) for _ in range(HOST[self.imports[index]]))
+        return conditions + b"\x10" + unsigned_leb128(index)
 
     def statement(self, depth: int) -> bytes:
         value = self.chance.choice(TYPES)
@@ -169,19 +174,19 @@ class Body:
             lambda: self.expression(value, DEPTH) + b"\x21" + self.local(value),
             lambda: self.expression(value, DEPTH)
             + b"\x24"
-            + unsigned(GLOBALS.index(value)),
-            lambda: self.stored(value),
+            + unsigned_leb128(GLOBALS.index(value)),
+            lambda: self.store(value),
             lambda: self.of_host() + DROP,
-            lambda: self.moved(),
-            lambda: self.tested(depth),
-            lambda: self.looped(depth),
+            lambda: self.memory_copy(),
+            lambda: self.condition(depth),
+            lambda: self.loop(depth),
         )
 
-    def stored(self, value: int) -> bytes:
-        given = self.address(2) + self.expression(value, 2)
-        return given + self.chance.choice(STORES[value]) + self.place()
+    def store(self, value: int) -> bytes:
+        conditions = self.address(2) + self.expression(value, 2)
+        return conditions + self.chance.choice(STORES[value]) + self.memory_place()
 
-    def moved(self) -> bytes:
+    def memory_copy(self) -> bytes:
         """Bytes that are copied or filled."""
         count = constant(I32, self.chance.randrange(80))
         return self.either(
@@ -189,22 +194,22 @@ class Body:
             lambda: self.address(1) + self.leaf(I32) + count + b"\xfc\x0b\0",
         )
 
-    def tested(self, depth: int) -> bytes:
-        """Statements by a condition, or a block that is left by one."""
+    def condition(self, depth: int) -> bytes:
+        """Generates conditional statements, or a block with a conditional exit."""
         if depth <= 0:
             return b"\x01"
         test = self.expression(I32, 2)
-        one, other = (self.statements(depth - 1) for _ in range(2))
+        first, second = (self.statements(depth - 1) for _ in range(2))
         return self.either(
-            lambda: test + b"\x04\x40" + one + b"\x05" + other + END,
-            lambda: b"\2\x40" + one + test + b"\x0d\0" + other + END,
+            lambda: test + b"\x04\x40" + first + b"\x05" + second + END,
+            lambda: b"\2\x40" + first + test + b"\x0d\0" + second + END,
         )
 
-    def looped(self, depth: int) -> bytes:
+    def loop(self, depth: int) -> bytes:
         """Statements that are done some times."""
         if depth <= 0 or self.loops == COUNTERS:
             return b"\x01"
-        counter = unsigned(len(LOCALS) + self.loops)
+        counter = unsigned_leb128(len(LOCALS) + self.loops)
         self.loops += 1
         body = self.statements(depth - 1)
         less = b"\x20" + counter + constant(I32, 1) + b"\x6b\x22" + counter
@@ -217,31 +222,33 @@ class Body:
         )
 
 
-def drawn_module(chance: random.Random) -> bytes:
+def drawn_module(rng: random.Random) -> bytes:
     """A module that exports `run` and its memory."""
-    imports = chance.sample(sorted(HOST), chance.randrange(1, len(HOST)))
+    imports = rng.sample(sorted(HOST), rng.randrange(1, len(HOST)))
     functions: List[Function] = []
-    for _ in range(chance.randrange(1, 5)):
-        result = chance.choice(TYPES)
-        body = Body(chance, imports, [it.results[0] for it in functions])
+    for _ in range(rng.randrange(1, 5)):
+        result = rng.choice(TYPES)
+        body = Body(rng, imports, [function.results[0] for function in functions])
         code = body.statements(DEPTH) + body.expression(result, DEPTH)
         functions.append(Function(PARAMETERS, [result], code))
-    begins = b"".join(constant(it, chance.getrandbits(64)) for it in PARAMETERS)
-    last = unsigned(len(imports) + len(functions) - 1)
+    begins = b"".join(
+        constant(parameter, rng.getrandbits(64)) for parameter in PARAMETERS
+    )
+    last = unsigned_leb128(len(imports) + len(functions) - 1)
     run = Function([], [], begins + b"\x10" + last + DROP, "run")
-    return with_state(chance, module([*functions, run], imports, data=DATA), imports)
+    return with_state(rng, module([*functions, run], imports, data=DATA), imports)
 
 
-def with_state(chance: random.Random, file: bytes, imports: Sequence[str]) -> bytes:
+def with_state(rng: random.Random, file: bytes, imports: Sequence[str]) -> bytes:
     """The module with a table of its functions, globals, and its memory exported."""
     sections: Dict[int, bytes] = sections_of(file)
     own = sections[3][0]
-    places = [unsigned(len(imports) + place) for place in range(own)]
-    sections[4] = vector([b"\x70\0" + unsigned(own)])
-    sections[5] = vector([b"\1\1" + unsigned(chance.choice((1, 2, 3)))])
+    places = [unsigned_leb128(len(imports) + index) for index in range(own)]
+    sections[4] = vector([b"\x70\0" + unsigned_leb128(own)])
+    sections[5] = vector([b"\1\1" + unsigned_leb128(rng.choice((1, 2, 3)))])
     sections[6] = vector(
-        bytes([it, 1]) + constant(it, chance.getrandbits(64)) + END for it in GLOBALS
+        bytes([it, 1]) + constant(it, rng.getrandbits(64)) + END for it in GLOBALS
     )
     sections[7] = vector([name("memory") + b"\2\0", name("run") + b"\0" + places[-1]])
     sections[9] = vector([b"\0" + constant(I32, 0) + END + vector(places)])
-    return joined(sections)
+    return join_sections(sections)

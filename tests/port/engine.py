@@ -14,13 +14,13 @@ LIMIT = 5_000
 
 
 class Machines(Protocol):
-    """Agents as machines: what they hold at the start and after an observation, and what
-    they do then."""
+    """Agents as state machines: initial memory, transitions by observations, and
+    actions."""
 
     def start(self, agent: int) -> Memory:
         ...
 
-    def after(self, memory: Memory, seen: Words) -> Memory:
+    def after(self, memory: Memory, words: Words) -> Memory:
         ...
 
     def does(self, memory: Memory) -> Words:
@@ -67,7 +67,7 @@ class State(NamedTuple):
     reached: frozenset
 
 
-class TooMany(Exception):
+class TooManyStatesError(Exception):
     """There are more states than are looked at."""
 
 
@@ -84,14 +84,14 @@ class Game(NamedTuple):
         )
         return State(agents, ("",) * len(self.match.far), frozenset())
 
-    def faced(self, agent: Agent) -> Optional[int]:
+    def node_in_front(self, agent: Agent) -> Optional[int]:
         """The node whose whiteboard the agent has in front of it."""
         if agent.position == BEFORE:
             return self.match.home
         return agent.position[1] if agent.position[0] == "at" else None
 
-    def deed(self, agent: Agent) -> Optional[Words]:
-        """What the agent does at its turn; None if that is no move."""
+    def next_words(self, agent: Agent) -> Optional[Words]:
+        """Returns the agent's action in its turn; None for a move."""
         if agent.position[0] == "bound":
             end = agent.position[1:]
             is_stuck = end in self.match.held or self.match.dooms(end)
@@ -104,46 +104,49 @@ class Game(NamedTuple):
         return step
 
     def turn(self, state: State, number: int) -> Tuple[State, bool]:
-        """The state after the turn of an agent that can move, and whether it departs."""
+        """Returns the state after a turn of an agent, and whether it departs."""
         agent = state.agents[number]
-        deed = self.deed(agent)
-        assert deed is not None
+        words = self.next_words(agent)
+        assert words is not None
         boards = state.boards
-        reached = state.reached
-        if deed[0] == "arrives":
+        visits = state.reached
+        if words[0] == "arrives":
             node, port = self.match.far[agent.position[1]][agent.position[2]]
-            seen = ("here", len(self.match.far[node]), port, boards[node])
-            changed = agent._replace(position=("at", node, port))
-            reached |= {node}
-        elif deed[0] == "sleeps":
-            seen = ("woke",)
-            changed = agent._replace(woken=agent.woken + 1)
+            observations = ("here", len(self.match.far[node]), port, boards[node])
+            changes = agent._replace(position=("at", node, port))
+            visits |= {node}
+        elif words[0] == "sleeps":
+            observations = ("woke",)
+            changes = agent._replace(woken=agent.woken + 1)
         else:
-            changed, seen, boards = self.told(agent, deed, boards)
-        changed = changed._replace(memory=self.machines.after(agent.memory, seen))
+            changes, observations, boards = self.after_command(agent, words, boards)
+        changes = changes._replace(
+            memory=self.machines.after(agent.memory, observations)
+        )
         agents = list(state.agents)
-        agents[number] = changed
-        for place, other in enumerate(agents):
-            faced = self.faced(other)
-            was = self.faced(state.agents[place])
-            is_same = faced == was and (
-                faced is None or boards[faced] == state.boards[faced]
+        agents[number] = changes
+        for index, second in enumerate(agents):
+            faced_value = self.node_in_front(second)
+            was = self.node_in_front(state.agents[index])
+            is_same = faced_value == was and (
+                faced_value is None or boards[faced_value] == state.boards[faced_value]
             )
             if not is_same:
-                agents[place] = other._replace(woken=0)
-        return State(tuple(agents), boards, reached), seen == ("gone",)
+                agents[index] = second._replace(woken=0)
+        return State(tuple(agents), boards, visits), observations == ("gone",)
 
-    def told(
+    def after_command(
         self, agent: Agent, command: Words, boards: Tuple[str, ...]
     ) -> Tuple[Agent, Words, Tuple[str, ...]]:
-        """What comes of a command of an agent that is on no link."""
+        """Returns the result of a command by an agent at a node: agent, reply and
+        whiteboards."""
         do = command[0]
         if agent.position == BEFORE:
             assert do == "enter"
             ports = len(self.match.far[self.match.home])
-            entered = agent._replace(position=("at", self.match.home, None))
-            return entered, ("here", ports, None, boards[self.match.home]), boards
-        node, came = agent.position[1:]
+            entered_value = agent._replace(position=("at", self.match.home, None))
+            return entered_value, ("here", ports, None, boards[self.match.home]), boards
+        node, outcome = agent.position[1:]
         if do == "enter":
             return agent, ("no", "Twice"), boards
         if do == "leave":
@@ -155,9 +158,9 @@ class Game(NamedTuple):
         if do == "bad":
             return agent, ("no", "Line"), boards
         if do == "look":
-            return agent, ("here", ports, came, boards[node]), boards
+            return agent, ("here", ports, outcome, boards[node]), boards
         if do == "write":
-            return agent, *self.written(node, command, boards)
+            return agent, *self.after_write(node, command, boards)
         if command[1] >= ports:
             return agent, ("no", "Port"), boards
         end = (node, command[1])
@@ -165,16 +168,16 @@ class Game(NamedTuple):
             return agent._replace(position=("bound", *end)), ("gone",), boards
         return agent._replace(position=AFTER, accused=end), ("noted",), boards
 
-    def written(
+    def after_write(
         self, node: int, command: Words, boards: Tuple[str, ...]
     ) -> Tuple[Words, Tuple[str, ...]]:
         """What comes of a write at a node."""
-        _, expect, put = command
-        if len(str(put)) > self.match.board:
+        _, expect, text = command
+        if len(str(text)) > self.match.board:
             return ("no", "Long"), boards
         if boards[node] != expect:
             return ("changed", boards[node]), boards
-        return ("written",), (*boards[:node], str(put), *boards[node + 1 :])
+        return ("written",), (*boards[:node], str(text), *boards[node + 1 :])
 
     def failure(self, state: State, number: int) -> Optional[str]:
         """How an agent has failed, though the match may go on."""
@@ -195,14 +198,14 @@ class Game(NamedTuple):
         return "asleep" if agent.position == BEFORE and sleeps else None
 
     def outcome(self, state: State) -> str:
-        """The outcome of the match, if it is closed so."""
+        """Returns the outcome if the match closed in this state."""
         match = self.match
         links = [it.accused for it in state.agents if it.accused is not None]
         ends = {end for link in links for end in (link, match.far[link[0]][link[1]])}
         if not all(match.dooms(link) for link in links):
             return "wrong"
-        named = {match.far[node][port][0] for node, port in links}
-        if not (links and named >= {*match.holes} and {*match.dark} <= ends):
+        names = {match.far[node][port][0] for node, port in links}
+        if not (links and names >= {*match.holes} and {*match.dark} <= ends):
             return "silent"
         if any(it.position[0] == "at" for it in state.agents):
             return "unfinished"
@@ -213,7 +216,7 @@ class Game(NamedTuple):
         return "solved"
 
     def lost(self, state: State) -> int:
-        """How many agents are on links that destroy them."""
+        """Returns how many agents are on links that destroy them."""
         return sum(
             it.position[0] == "bound" and self.match.dooms(it.position[1:])
             for it in state.agents
@@ -224,19 +227,19 @@ class Game(NamedTuple):
         return [
             number
             for number, agent in enumerate(state.agents)
-            if self.deed(agent) is not None
+            if self.next_words(agent) is not None
         ]
 
 
 def again(state: State) -> Tuple[object, ...]:
-    """What is the same of two states where a cycle leads from the one to the other."""
+    """Returns the part of a state that recurs in a cycle."""
     return (
         tuple((it.position, it.memory, it.woken) for it in state.agents),
         state.boards,
     )
 
 
-class Spent(NamedTuple):
+class SpentMost(NamedTuple):
     """The most that schedules still spend: moves, turns, and commands of each agent; and
     the most agents that are lost."""
 
@@ -253,7 +256,7 @@ class All:
     def __init__(self, game: Game) -> None:
         self.game = game
         self.failures: Set[str] = set()
-        self.spent: Dict[State, Spent] = {}
+        self.spent: Dict[State, SpentMost] = {}
         self._open: Set[Tuple[object, ...]] = set()
         self.look()
 
@@ -264,16 +267,18 @@ class All:
         self.enter(first, work)
         while work:
             state, nexts = work[-1]
-            left = [it[0] for it in nexts if it[0] not in self.spent]
-            if not left:
+            remaining = [it[0] for it in nexts if it[0] not in self.spent]
+            if not remaining:
                 work.pop()
                 self._open.discard(again(state))
                 self.spent[state] = self.sum(state, nexts)
-            elif again(left[0]) in self._open:
+            elif again(remaining[0]) in self._open:
                 self.failures.add("endless")
-                self.spent[left[0]] = Spent(0, 0, (0,) * self.game.match.agents, 0)
+                self.spent[remaining[0]] = SpentMost(
+                    0, 0, (0,) * self.game.match.agents, 0
+                )
             else:
-                self.enter(left[0], work)
+                self.enter(remaining[0], work)
         self.whole = self.spent[first]
 
     def enter(
@@ -281,7 +286,7 @@ class All:
     ) -> None:
         """Goes on to a state, unless an agent has failed in it."""
         if len(self.spent) + len(work) > LIMIT:
-            raise TooMany
+            raise TooManyStatesError
         agents = range(self.game.match.agents)
         failures = {self.game.failure(state, agent) for agent in agents} - {None}
         movers = [] if failures else self.game.movers(state)
@@ -290,34 +295,34 @@ class All:
             failures -= {None}
             if self.game.outcome(state) != "solved":
                 failures.add("unsolved")
-        self.failures |= {str(it) for it in failures}
+        self.failures |= {str(failure) for failure in failures}
         self._open.add(again(state))
         work.append(
             (state, [(*self.game.turn(state, agent), agent) for agent in movers])
         )
 
-    def sum(self, state: State, nexts: List[Tuple[State, bool, int]]) -> Spent:
+    def sum(self, state: State, nexts: List[Tuple[State, bool, int]]) -> SpentMost:
         """The most that schedules spend from a state on, from the same of the next
         states."""
         agents = range(self.game.match.agents)
         behind = [(self.spent[it[0]], it) for it in nexts]
-        return Spent(
-            max((spent.moves + it[1] for spent, it in behind), default=0),
-            max((spent.turns + 1 for spent, _ in behind), default=0),
+        return SpentMost(
+            max((usage.moves + it[1] for usage, it in behind), default=0),
+            max((usage.turns + 1 for usage, _ in behind), default=0),
             tuple(
                 max(
                     (
-                        spent.commands[agent]
+                        usage.commands[agent]
                         + it[0].agents[agent].used
                         - state.agents[agent].used
-                        for spent, it in behind
+                        for usage, it in behind
                     ),
                     default=0,
                 )
                 for agent in agents
             ),
             max(
-                (spent.lost for spent, _ in behind),
+                (usage.lost for usage, _ in behind),
                 default=self.game.lost(state),
             ),
         )

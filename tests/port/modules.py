@@ -3,7 +3,7 @@ modules by chance.
 
     python3 -m tests.port.modules [--modules N] [--damaged N] [--seed S]
 
-The interpreter is that of bhs_wasm, compiled as plain Rust (tests/port/stripped.py). A
+The interpreter is that of bhs_wasm, compiled as plain Rust (tools/port). A
 drawn module says commands, and ends or traps: what it says, how it ends and what its
 memory is then are the same by node. A damaged one has some bytes drawn anew, or is cut:
 node refuses what the reader refuses as not valid, takes what the reader takes, and runs
@@ -18,9 +18,9 @@ import sys
 import tempfile
 from typing import Dict, List, NamedTuple, Sequence
 
-from tests.port import stripped
+from tests.port import searching
 from tests.port.drawn_modules import drawn_module
-from tests.support.counts import concluded
+from tests.support.counts import report_counts
 
 HERE = pathlib.Path(__file__).resolve().parent
 RING = HERE.parents[1] / "examples" / "agents" / "wasm" / "ring.wasm"
@@ -44,24 +44,24 @@ OWN = (
 
 
 class Case(NamedTuple):
-    """A module, by the seed that draws it, and whether it is damaged."""
+    """A module by its seed, and whether it is damaged."""
 
     seed: int
     is_damaged: bool
 
     def file(self) -> bytes:
-        chance = random.Random(f"module {self.seed}")
+        rng = random.Random(f"module {self.seed}")
         if not self.is_damaged:
-            return drawn_module(chance)
-        chance = random.Random(f"damaged {self.seed}")
-        whole = chance.choice((RING.read_bytes, lambda: drawn_module(chance)))()
+            return drawn_module(rng)
+        rng = random.Random(f"damaged {self.seed}")
+        whole = rng.choice((RING.read_bytes, lambda: drawn_module(rng)))()
         file = bytearray(whole)
-        for _ in range(chance.randrange(1, 4)):
-            file[chance.randrange(len(file))] = chance.choice(
-                (chance.randrange(256), chance.choice(file), chance.randrange(12))
+        for _ in range(rng.randrange(1, 4)):
+            file[rng.randrange(len(file))] = rng.choice(
+                (rng.randrange(256), rng.choice(file), rng.randrange(12))
             )
-        is_cut = chance.random() < 0.1
-        return bytes(file[: chance.randrange(len(file))] if is_cut else file)
+        is_cut = rng.random() < 0.1
+        return bytes(file[: rng.randrange(len(file))] if is_cut else file)
 
     def __str__(self) -> str:
         return f"{'damaged' if self.is_damaged else 'module'} {self.seed}"
@@ -69,18 +69,18 @@ class Case(NamedTuple):
 
 def come_of(words: Sequence[object], files: Sequence[pathlib.Path]) -> List[List[str]]:
     """What a command prints of each file."""
-    ran = subprocess.run(
+    result = subprocess.run(
         [str(word) for word in words],
         input="".join(f"{file}\n" for file in files),
         text=True,
         check=True,
         stdout=subprocess.PIPE,
     )
-    return [part.splitlines() for part in ran.stdout.split("====\n")[:-1]]
+    return [part.splitlines() for part in result.stdout.split("====\n")[:-1]]
 
 
 def agrees(case: Case, ours: List[str], nodes: List[str]) -> bool:
-    """Whether node says the same of a module, as far as it must."""
+    """Returns whether node says the same of a module, as far as it must."""
     kind, *reason = ours[-1].split()
     is_taken_by_node = nodes != ["refused"]
     if kind == "refused":
@@ -94,29 +94,33 @@ def agrees(case: Case, ours: List[str], nodes: List[str]) -> bool:
     return ours[:-1] == nodes[:-1] if is_blind else ours == nodes
 
 
-def compared(program: pathlib.Path, cases: Sequence[Case]) -> List[str]:
-    """A line for each of these modules that differs."""
+def compare(program: pathlib.Path, cases: Sequence[Case]) -> List[str]:
+    """Returns a line for each module on which the programs differ."""
     with tempfile.TemporaryDirectory(prefix="modules-") as folder:
-        files = [pathlib.Path(folder) / str(place) for place in range(len(cases))]
+        files = [pathlib.Path(folder) / str(index) for index in range(len(cases))]
         for case, file in zip(cases, files):
             file.write_bytes(case.file())
         ours = come_of([program, "modules"], files)
-        endless = [file for file, said in zip(files, ours) if said[-1] == "fuel"]
+        endless = [
+            file
+            for file, message_text in zip(files, ours)
+            if message_text[-1] == "fuel"
+        ]
         run = [file for file in files if file not in endless]
         by_node = come_of(["node", HERE / "modules.js"], run)
-    told: Dict[pathlib.Path, List[str]] = dict(zip(run, by_node))
+    text_sent: Dict[pathlib.Path, List[str]] = dict(zip(run, by_node))
     return [
-        f"FAILED {case}: {first_difference(said, told[file])}"
-        for case, file, said in zip(cases, files, ours)
-        if file in told and not agrees(case, said, told[file])
+        f"FAILED {case}: {first_difference(message_text, text_sent[file])}"
+        for case, file, message_text in zip(cases, files, ours)
+        if file in text_sent and not agrees(case, message_text, text_sent[file])
     ]
 
 
 def first_difference(ours: List[str], nodes: List[str]) -> str:
     """The first lines in which they differ."""
     pairs = zip([*ours, "nothing more"], [*nodes, "nothing more"])
-    one, other = next((pair for pair in pairs if pair[0] != pair[1]), ("", ""))
-    return f"{one}; node: {other}"
+    first, second = next((pair for pair in pairs if pair[0] != pair[1]), ("", ""))
+    return f"{first}; node: {second}"
 
 
 def main() -> int:
@@ -129,18 +133,18 @@ def main() -> int:
     parser.add_argument("--damaged", metavar="N", type=int, default=DAMAGED)
     parser.add_argument("--seed", metavar="S", type=int, default=0, help="the first")
     words = parser.parse_args()
-    program = stripped.program()
+    program = searching.program()
     first = words.seed
     cases = [
         *(Case(seed, False) for seed in range(first, first + words.modules)),
         *(Case(seed, True) for seed in range(first, first + words.damaged)),
     ]
-    failed = 0
+    failure_count = 0
     for begin in range(0, len(cases), BATCH):
-        lines = compared(program, cases[begin : begin + BATCH])
+        lines = compare(program, cases[begin : begin + BATCH])
         print(*lines, sep="\n", end="\n" * len(lines), flush=True)
-        failed += len(lines)
-    return concluded(len(cases) - failed, failed)
+        failure_count += len(lines)
+    return report_counts(len(cases) - failure_count, failure_count)
 
 
 if __name__ == "__main__":

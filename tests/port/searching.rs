@@ -1,9 +1,7 @@
-//! What tests/port/modules.py and tests/port/teams.py ask of the crates that stripped.py compiles.
+//! What tests/port/modules.py and tests/port/teams.py ask of crates as plain Rust (tools/port).
 //!
 //! `searching modules` reads names of files, and prints what comes of each as a module of an agent whose commands all
 //! succeed. `searching teams` reads matches whose agents its host plays, and prints what is found of all schedules.
-#![feature(let_else)]
-
 use bhs_explore::{Explored, Explorer};
 use bhs_schedules::{Failure, Finding, Latest, Step, Team, TeamAnswer, TeamFault};
 use bhs_model::{Command, DarkLinks, Holes, Mark, Setup, Text};
@@ -67,7 +65,7 @@ fn come_of(file: &[u8]) -> Vec<String> {
         found.push(said(&agent, function));
         agent.last_reply.ports = number;
         agent.last_reply.came = number + 1;
-        agent.last_reply.board = List::of(format!("board {number}").into_bytes());
+        agent.last_reply.board = List::from_std(Global, format!("board {number}").into_bytes());
         progress = agent.answer(function.parameters(), number * 7 % 11).unwrap();
     }
     found.push(match progress {
@@ -179,7 +177,7 @@ fn numbers(group: &str) -> Vec<u16> {
 }
 
 fn ends(group: &[u16]) -> List<(u16, u16)> {
-    List::of(group.chunks(2).map(|end| (end[0], end[1])).collect())
+    List::from_std(Global, group.chunks(2).map(|end| (end[0], end[1])).collect())
 }
 
 fn explored(groups: &[Vec<u16>]) -> Result<Explored, String> {
@@ -201,7 +199,7 @@ fn explored(groups: &[Vec<u16>]) -> Result<Explored, String> {
     let net = Net::try_new(Global, nodes, &links).map_err(|fault| format!("{fault:?}"))?;
     let setup = Setup {
         home,
-        holes: Holes::from(List::of(holes.clone())),
+        holes: Holes::from(List::from_std(Global, holes.clone())),
         dark: DarkLinks::from(ends(dark)),
         agents,
         quota,
