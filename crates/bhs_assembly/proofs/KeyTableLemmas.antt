@@ -1,4 +1,4 @@
--- Adding the keys of a tournament one after the other, as loops do.
+-- Loop invariant: adding the keys of a tournament in order.
 use Rattle.std.proofs.Common.{◌≡◌, ℕ, ◌+◌, ◌<◌, Bool, true, false, cond, List, [], ◌∷◌, ◌++◌, length, map, drop}
 use Rattle.std.proofs.Common.{get_or, Result, Ok, Err, refl, sym, ap, ◌∙◌}
 use Rattle.std.proofs.lemmas.List.{drop_more}

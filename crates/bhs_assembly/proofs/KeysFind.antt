@@ -11,7 +11,7 @@ use Rattle.bhs_files.specs.declared.faults.FileFault.TheVariants.{KeyTwice}
 use Rattle.bhs_lineup.specs.KeyTable.{Seat, same_key, seat_at}
 use Rattle.bhs_assembly.specs.KeyTable.{seats_of_match, seats_from, distinct, key_table, key_of, LetsIn}
 
--- the seat is one of these
+-- The seat is one of these.
 abbrev Has : List Seat → Seat → Type 0
 Has [] seat = ⊥
 Has (x ∷ xs) seat = (x ≡ seat) ⊎ Has xs seat
@@ -30,7 +30,7 @@ Has-either [] ys s h = inr h
 Has-either (x ∷ xs) ys s (inl e) = inl (inl e)
 Has-either (x ∷ xs) ys s (inr h) = elim (Has-either xs ys s h) [ inl a ↦ inl (inr a) | inr b ↦ inr b ]
 
--- ---- the seats of a tournament are those of its agents
+-- ---- the seats of a tournament belong to its agents
 
 in_match : (game first : ℕ) (keys : List (List ℕ)) (i agent : ℕ) (key : List ℕ) → slice_get keys i ≡ Some key
     → agent ≡ first + i → Has (seats_of_match game first keys) (key, (game, agent))

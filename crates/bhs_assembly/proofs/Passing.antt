@@ -21,7 +21,7 @@ use Rattle.bhs_assembly.specs.Lineups.{held_fault, first_of, unless}
 use Rattle.bhs_assembly.specs.Passes.{each_in, begun, readied}
 use Rattle.bhs_files.proofs.Failing.{fails_with}
 
--- what was made before, and what is still to be made
+-- the results so far, followed by the result for the remaining items
 abbrev pub then : {A : Type 0} → List A → Result (List A) FileFault → Result (List A) FileFault
 then done rest = rest >>= λ others. Ok (done ++ others)
 

@@ -8,7 +8,7 @@ use Rattle.bhs_files.specs.declared.fixtures.Fixture.{Fixture}
 use Rattle.bhs_files.specs.Names.{same_name, is_among}
 use Rattle.bhs_files.proofs.NamesLemmas.{name_of}
 
--- where a name is among names that are borrowed
+-- the index of a name among borrowed names
 place_among : (ks : List (Bor (List ℕ))) (name : List ℕ)
     → position_or_len (λ (y : Bor (List ℕ)). pointwise nat_eq name y.now) ks ≡ position_or_len (same_name name)
     (map (λ y. y.now) ks)
@@ -27,7 +27,7 @@ place_named ks name place is = go (nat_lt (position_or_len (λ (y : Bor (List �
     go true e = cc
     go false e = absurd cc
 
--- the name of a match is one of the names of the matches
+-- The network name of each match is one of the collected names.
 pub among_names : (fs : List Fixture) (i : ℕ) (x : Fixture) → i < length fs → x ≡ get_or fs i x
     → is_among (map name_of fs) x.network ≡ true
 among_names [] i x lt is = absurd (omega arith)

@@ -5,7 +5,7 @@ use Rattle.bhs_lineup.specs.KeyTable.{Seat, seat_at, has_key}
 use Rattle.bhs_files.specs.declared.faults.FileFault.{FileFault}
 use Rattle.bhs_files.specs.declared.faults.FileFault.TheVariants.{KeyTwice}
 
--- the keys of a match, from an agent on
+-- the keys of a match, from this agent on
 abbrev pub seats_of_match : ℕ → ℕ → List (List ℕ) → List Seat
 seats_of_match game agent [] = []
 seats_of_match game agent (key ∷ keys) = (key, (game, agent)) ∷ seats_of_match game (agent + 1) keys
@@ -15,7 +15,7 @@ abbrev pub seats_from : ℕ → List (List (List ℕ)) → List Seat
 seats_from game [] = []
 seats_from game (keys ∷ matches) = seats_of_match game 0 keys ++ seats_from (game + 1) matches
 
--- the earlier seats and then these, or the first of these whose key an earlier one has
+-- Appends seats to earlier ones, or refuses the first seat whose key occurs earlier.
 abbrev pub distinct : List Seat → List Seat → Result (List Seat) FileFault
 distinct earlier [] = Ok earlier
 distinct earlier (seat ∷ seats) =

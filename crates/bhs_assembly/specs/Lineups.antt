@@ -27,7 +27,7 @@ use Rattle.bhs_files.specs.Reading.{◌>>=◌}
 abbrev pub names_of : List Planned → List (List ℕ)
 names_of matches = first_seen (map (λ planned. planned.network) matches)
 
--- the network at the place that a name has among the names
+-- the network whose index is that of the name
 abbrev pub network_named : (names : List (List ℕ)) → List Network → (name : List ℕ) → Network
 network_named names networks name = slice_index_or networks (position_or_len (same_name name) names) []
 
@@ -49,13 +49,13 @@ begins net setup = record { net = net; setup = normal net setup; log = [] }
 abbrev pub start_of : Network → Planned → Play
 start_of net planned = begins net (setup_of planned)
 
--- a match that can be played
+-- a match that is ready to be played
 abbrev pub ready_of : Network → Planned → Ready
 ready_of net planned = record { team = planned.team; game = start_of net planned; held = planned.held }
 
 -- ---- faults
 
--- what a fault of a setup is in a tournament
+-- a fault of a setup as a fault of its tournament
 abbrev pub of_setup : (game : ℕ) → SetupFault → FileFault
 of_setup game setup_faults.Memory = faults.Memory
 of_setup game fault = faults.Setup game fault
@@ -96,7 +96,7 @@ unless (Some fault) rest = Err fault
 
 -- ---- the tournament
 
--- the network that a match of these is played on
+-- the network of a planned match
 abbrev pub network_for : (matches : List Planned) → List Network → Planned → Network
 network_for matches networks planned = network_named (names_of matches) networks planned.network
 

@@ -19,7 +19,7 @@ abbrev pub begun : (Planned → Network) → (game : ℕ) → Planned → Result
 begun network game planned = unless (setup_fault (network planned) game planned)
     (Ok (start_of (network planned) planned))
 
--- the match with its held links, or the first of them that is no port of a node
+-- The match with its held links, or the fault of the first held link that names no existing port.
 abbrev pub readied : (game : ℕ) → Fixture × Play → Result Ready FileFault
 readied game one = unless (held_fault one.1.net game (planned one.0))
     (Ok (record { team = one.0.team; game = one.1; held = one.0.held.items }))

@@ -132,7 +132,7 @@ fn begun(alloc: Global, game: u32, net: &Net, fixture: &Fixture) -> Result<Match
     started(alloc, game, net, setup, excess(fixture))
 }
 
-// What the match has too much of for the version of its file.
+// Returns the fault of a match that needs a later version of the file, if any.
 fn excess(fixture: &Fixture) -> Option<SetupFault>
     ensures { result ≡ excess (planned fixture.now) }
 {
@@ -147,7 +147,7 @@ fn excess(fixture: &Fixture) -> Option<SetupFault>
     }
 }
 
-// The match that is set up so, unless it has this excess.
+// Starts the match with this setup, unless there is an excess fault.
 fn started(
     alloc: Global,
     number: u32,
@@ -168,7 +168,7 @@ fn started(
     }
 }
 
-// The first fault of a setup that has this one and this excess.
+// Returns the earlier of the two faults of a setup.
 fn fault_with(excess: Option<SetupFault>, fault: SetupFault) -> SetupFault
     ensures { with_excess excess (Some fault) ≡ Some result }
 {

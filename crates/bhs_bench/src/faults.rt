@@ -25,7 +25,7 @@ pub enum BenchFault {
     /// A write failed.
     #[error("write")]
     Write,
-    /// The clock could not be read.
+    /// Reading the clock failed.
     #[error("clock")]
     Clock,
     /// Memory ran out.

@@ -22,7 +22,7 @@ lines; and it prints these replies as those of a rehearsed connection. A line sa
          of one line or event
 ";
 
-/// What the program is to do.
+/// The task of the program.
 #[derive(Clone, Copy)]
 pub enum BenchOrder {
     /// Shows the usage.

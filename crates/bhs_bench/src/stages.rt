@@ -9,7 +9,7 @@ use bhs_wire::{First, LentReply, LineReader, push_line};
 use std::alloc::Global;
 use std::time::{Clock, Duration, Instant};
 
-/// What is done with a line.
+/// How a line is processed.
 #[derive(Clone, Copy)]
 pub enum BenchMatch {
     /// The line is read.
@@ -39,7 +39,7 @@ const LINES: [&[u8]; 4] = [
     b"{\"do\":\"loook\"}                   ",
 ];
 
-// What is printed in a round.
+// The lines that are printed in each round.
 const PRINTED: [&[u8]; 4] = [
     b"{\"board\":\"been here\",\"from\":1,\"ok\":\"here\",\"ports\":4}\n",
     b"{\"ok\":\"gone\"}\n",

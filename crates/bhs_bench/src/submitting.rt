@@ -30,7 +30,7 @@ fn commands() -> u64 {
 /// Who tells the commands of a run.
 #[derive(Clone, Copy)]
 pub enum Sharing {
-    /// One thread tells them to one match that is under no lock.
+    /// A single thread submits them to one match without a lock.
     Unlocked,
     /// Threads share one match.
     One { threads: u16 },
@@ -38,7 +38,7 @@ pub enum Sharing {
     Many { threads: u16 },
 }
 
-/// The runs, in the order in which they are printed.
+/// The runs in the order of printing.
 pub const RUNS: [Sharing; 6] = [
     Sharing::Unlocked,
     Sharing::One { threads: 1 },
@@ -48,12 +48,12 @@ pub const RUNS: [Sharing; 6] = [
     Sharing::Many { threads: 16 },
 ];
 
-/// What was measured in a run.
+/// The measurements of a run.
 #[derive(Clone, Copy)]
 pub struct Measured {
     /// The commands that were told.
     pub commands: u64,
-    /// Those that were kept in the logs.
+    /// The number of commands that the logs keep.
     pub kept: u64,
     /// How long telling them took.
     pub time: Duration,
@@ -69,8 +69,7 @@ impl Measured {
         }
     }
 
-    /// This and what was measured in one run more. A count that would need more than its bits stays at the most that
-    /// they hold.
+    /// Adds the measurements of another run. Counters saturate.
     pub fn with(self, other: Measured) -> Measured {
         Measured {
             commands: self.commands.saturating_add(other.commands),

@@ -11,13 +11,13 @@ use std::alloc::Global;
 // How many nodes a row has, and a column.
 const SIDE: u16 = 16;
 
-/// How many nodes there are: the most that a network may have.
+/// The number of nodes: a network's largest.
 pub const NODES: u16 = 256;
 
 /// How many commands an agent may use.
 pub const QUOTA: u16 = 1000;
 
-/// How many ports each node has: to the right, to the left, down and up.
+/// The number of ports of each node: right, left, down and up.
 pub const PORTS: u16 = 4;
 
 // The node of a row and a column, which go on at the first behind the last.
@@ -27,7 +27,7 @@ fn node_at(row: u16, column: u16) -> u16
     row % SIDE * SIDE + column % SIDE
 }
 
-/// The links of the torus: of each node those to the right and down.
+/// Returns the links of the torus: for each node the links to the right and down.
 pub fn links(alloc: Global) -> Result<Vec<Link>, BenchFault> {
     let mut links = Vec::new(alloc);
     for row in 0..SIDE {

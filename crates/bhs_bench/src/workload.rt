@@ -33,7 +33,7 @@ pub struct Counts {
 }
 
 impl Counts {
-    // These and those of one match more.
+    // Adds the counts of one match.
     fn with(self, game: &Match) -> Counts {
         let mut arrivals = self.arrivals;
         for agent in 0..AGENTS {
@@ -47,7 +47,7 @@ impl Counts {
     }
 }
 
-/// A match that is played, and what was counted in those before it.
+/// The match in progress, and the counts of earlier matches.
 #[derive(Drop)]
 pub struct Workload {
     net: Net,

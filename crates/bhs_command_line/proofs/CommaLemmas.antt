@@ -15,7 +15,7 @@ unfolding arguments_within
 more zero word first others is _ _ _ = absurd (is refl)
 more (suc most) word first others is within begins ends = rw (begins, ends, lt-ltb _ _ within) (simp unary_clauses refl)
 
--- it stands in front of the others
+-- The item precedes the others.
 pub in_front : (most : ℕ) (word first others : Text) → most ≢ 0
     → position_or_len is_comma word < length word → first ≡ before_first is_comma word
     → others ≡ after_first is_comma word → (number : ℕ) (numbers all : List ℕ)

@@ -9,7 +9,7 @@ use Rattle.clap.specs.declared.parser.matches.Found.{Found}
 use Rattle.clap.proofs.WalkLemmas.{first_value-rows, raw_values-rows}
 use Rattle.bhs_command_line.specs.Arguments.{all_said, text_in, texts_in}
 
--- the text of what is borrowed, or none
+-- the text of an optional borrowed word, empty without one
 unwrapped : (o : Option (Bor Text)) (d : Bor Text) → d.now ≡ []
     → (unwrap_or o d).now ≡ unwrap_or (option_map (λ s. s.now) o) []
 unwrapped None d is = is
@@ -23,7 +23,7 @@ text_found found id o name d is none same =
     ap (λ (b : Bor Text). b.now) same ∙ unwrapped o d none ∙ ap (λ (text : Option Text). unwrap_or text [])
     (is ∙ first_value-rows found id)
 
--- what is read of the words so far, in front of what the others say
+-- the results of the words so far, followed by those of the remaining words
 abbrev pub joined : {T : Type 0} → List T → Option (List T) → Option (List T)
 joined done rest = option_map (λ more. done ++ more) rest
 
@@ -62,7 +62,7 @@ module _ {T : Type 0} (says : Text → Option T) (words : List (Bor Text)) (plac
         ∙ (sym (ap (λ (it : Option T). joined done (then_one it (all_said says (texts_from (place + 1) words)))) some)
         ∙ (sym (ap (joined done) next_said) ∙ so_far))
 
--- a name and what stands behind it, if something is there
+-- a name and the text after it, if both exist
 pub both_found : {X N R : Type 0} (first : X → N) (second : X → R) (found : Option X) (name : N) (rest : R)
     → Some name ≡ option_map first found
     → Some rest ≡ option_map (λ (one : N × R). one.1) (option_map {U = N × R} (λ one. (first one, second one)) found)

@@ -21,7 +21,7 @@ same_test : (word : List ℕ) → all_ascii_digits word ≡ list_all is_ascii_di
 same_test [] = refl
 same_test (byte ∷ bytes) = ap (λ (b : Bool). is_ascii_digit byte && b) (same_test bytes)
 
--- digits that are not read as a number of 32 bits are no number below that
+-- Digits that do not parse as a 32-bit number spell no number within a smaller bound.
 unread : {E : Type 0} (least most : ℕ) (word : List ℕ) (r : Result ℕ E) → most < 2 ^ 32
     → list_all is_ascii_digit word ≡ true → result_ok r ≡ None
     → OkIff r ((0 < length word) × (digits_value 10 word < 2 ^ 32)) (digits_value 10 word)
@@ -29,7 +29,7 @@ unread : {E : Type 0} (least most : ℕ) (word : List ℕ) (r : Result ℕ E) �
 unread least most word (Ok n) small digits none given = absurd (true≢false (ap is_some none))
 unread least most word (Err e) small digits none given = grind (arith, nat_tests, digits)
 
--- a word of digits that is not read is none
+-- A word of digits that does not parse is no number.
 pub no_number : {E : Type 0} (least most : ℕ) (word : List ℕ) (r : Result ℕ E) → most < 2 ^ 32
     → list_all is_ascii_digit word ≡ true → ParsesUnsigned 32 10 word r → result_ok r ≡ None
     → (let one : Option ℕ = None in one ≡ number_within least most word)
@@ -125,7 +125,7 @@ pub record ArePlain (port sessions turns pause : List ℕ) : Type 0 where
   pub third : is_dashed turns ≡ false
   pub fourth : is_dashed pause ≡ false
 
--- what holds of each of these
+-- a conjunction implies both of its parts
 both_true : (a b : Bool) → (a && b) ≡ true → (a ≡ true) × (b ≡ true)
 both_true true true e = (refl, refl)
 both_true true false e = absurd (true≢false (sym e))

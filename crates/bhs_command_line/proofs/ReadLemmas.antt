@@ -1,4 +1,4 @@
--- What a command of the line makes of its words, read one after the other.
+-- How a command of the command line consumes its words in order.
 use Rattle.std.proofs.Common.{◌≡◌, ◌∙◌, ap, ap₂, sym, refl, false, ℕ, List, [], ◌∷◌, ◌++◌, append_assoc, fold}
 use Rattle.std.proofs.Common.{None, Option, Some, append-nil, is_some}
 use Rattle.std.specs.Prelude.{option_and_then}
@@ -18,7 +18,7 @@ use Rattle.bhs_command_line.specs.declared.orders.Order.{Order}
 abbrev entered_walk : Walk → Text → List Text → Walk
 entered_walk w name words = record w { stopped = Some (name, words) }
 
--- the other words are passed on to the command
+-- The remaining words are passed on to the command.
 passed_on : (s : Shape) (names : Names) (w : Walk) (name : Text) (before rest : List Text)
     → fold (walked s.rules names) (entered_walk w name before) rest ≡ entered_walk w name (before ++ rest)
 unfolding walked
@@ -34,7 +34,7 @@ passed_faultless s names w name before [] = refl
 passed_faultless s names w name before (word ∷ rest) =
     passed_faultless s names w name (before ++ word ∷ []) rest
 
--- the command line, and a command of it, as they are when words are read
+-- the command line, and one of its commands, while words are parsed
 abbrev pub line : App
 line = built arena
 
@@ -62,7 +62,7 @@ pub record Enters (name : Text) (leaf : Shape) : Type 0 where
   pub takes : (rest : List Text) → level_fault leaf [] nothing_held rest false [] ≡ [] → faults (name ∷ rest) ≡ []
   pub finds : (rest : List Text) → command_in (name ∷ rest) ≡ Some (name, rows_after leaf.rules [] rest)
 
--- ---- words that are read one after the other
+-- ---- parsing words in order
 
 -- where a walk stands between two words
 abbrev pub between : Held → Waiting → ℕ → Walk

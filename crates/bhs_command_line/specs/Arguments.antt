@@ -21,14 +21,14 @@ program name = on_top (λ s. record s {
   subcommand_required = true;
 }) (new_app name)
 
--- a word that a command may take, and one that it must have
+-- an optional word of a command, and a required one
 abbrev pub may_have : (id : Text) → Rule
 may_have id = record (new_rule id) { value_names = 1 }
 
 abbrev pub must_have : (id : Text) → Rule
 must_have id = record (new_rule id) { required = true; value_names = 1 }
 
--- a word that a command may take, and which it has where it takes none
+-- an optional word of a command, with its default
 abbrev pub has_default : (id word : Text) → Rule
 has_default id word = record (may_have id) { defaults = word ∷ [] }
 
@@ -81,7 +81,7 @@ text_in id rows = unwrap_or (first_of id rows) []
 abbrev pub texts_in : (id : Text) → List Row → List Text
 texts_in id rows = unwrap_or (all_of id rows) []
 
--- what each of these words says, in their order; None if one of them says nothing
+-- The meaning of all these words, in order; None if one of them has none.
 abbrev pub all_said : {T : Type 0} → (says : Text → Option T) → List Text → Option (List T)
 all_said says [] = Some []
 all_said says (word ∷ words) =

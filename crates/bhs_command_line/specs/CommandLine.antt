@@ -68,7 +68,7 @@ arena =
 
 -- ---- what clap makes of the words that stand after the program's name
 
--- why the words are no use of the command line; empty where they are one
+-- The reasons to refuse the words as a command line; empty if they are accepted.
 abbrev pub faults : List Text → Kinds
 faults words = fault_of arena words
 
@@ -88,7 +88,7 @@ entry_in word =
     if nat_lt (position_or_len is_equals word) (length word) && is_team (before_first is_equals word)
     then Some (record { team = before_first is_equals word; replay = after_first is_equals word }) else None
 
--- the entries that words say; None if one of them says none
+-- The entries that the words describe; None if a word describes no entry.
 abbrev pub entries_in : List Text → Option (List TableEntry)
 entries_in = all_said entry_in
 
@@ -99,7 +99,7 @@ abbrev pub rehearsal_of : (is_interactive : Bool) → (tournament prefix : Optio
 rehearsal_of true tournament prefix = RehearseInteractively tournament prefix
 rehearsal_of false tournament prefix = Rehearse tournament prefix
 
--- the appeal on the match of this number, if there is one
+-- the appeal on the match with this number, if there is one
 abbrev pub appeal_of : (turns tournament : Text) → (game : Option ℕ) → Option Appeal
 appeal_of turns tournament (Some game) = Some (record { turns = turns; tournament = tournament; game = game })
 appeal_of turns tournament None = None
@@ -125,7 +125,7 @@ abbrev pub contest_table_by : (prefix : Text) → List Row → Option Order
 contest_table_by prefix rows =
     if is_one_word rows then Some (ContestTable (text_in (codes "entry") rows) prefix) else None
 
--- the table of entries, or with a prefix that of a contest
+-- the table of entries or, with a prefix, the table of a contest
 abbrev pub tabling_of : (prefix : Option Text) → List Row → Option Order
 tabling_of None rows = option_map Table (entries_in (texts_in (codes "entry") rows))
 tabling_of (Some prefix) rows = contest_table_by prefix rows
@@ -134,7 +134,7 @@ tabling_of (Some prefix) rows = contest_table_by prefix rows
 abbrev pub tabling_by : List Row → Option Order
 tabling_by rows = tabling_of (first_of (codes "prefix") rows) rows
 
--- the recovery of the match of a part, or with a prefix that of the contest of a tournament
+-- the recovery of a match from its part or, with a prefix, of a tournament's contest
 abbrev pub recovery_of : (file : Text) → (prefix : Option Text) → Order
 recovery_of file None = Recover file
 recovery_of file (Some prefix) = RecoverContest file prefix
@@ -143,7 +143,7 @@ recovery_of file (Some prefix) = RecoverContest file prefix
 abbrev pub recovery_by : List Row → Order
 recovery_by rows = recovery_of (text_in (codes "file") rows) (first_of (codes "prefix") rows)
 
--- the exploration of a match whose agents a host plays, with the black holes of the match: with all others it is none
+-- The exploration of a match by a host, with the match's own black holes; with all holes there is none.
 abbrev pub exploring_host : (tournament : Text) → (is_all : Bool) → Option Exploration → Option Order
 exploring_host tournament is_all exploration = if is_all then None else option_map (Explore tournament) exploration
 
@@ -182,7 +182,7 @@ order_by (name, rows) =
     then option_map (Serve (text_in (codes "tournament") rows)) (hosting_by rows)
     else None))))))))
 
--- the order that the words give, and None if they give none
+-- the order that the words describe, or None
 abbrev pub order_in : List Text → Option Order
 order_in words =
     if is_empty (faults words) then option_and_then order_by (command_in words) else None
@@ -265,8 +265,8 @@ is_asked _ = false
 abbrev pub AreFaulty : List Text → Type 0
 AreFaulty words = IsTrue (list_any (λ kind. not (is_asked kind)) (faults words))
 
--- the words are a use of the command line, and one of them is no number, or no entry of a table, or they do not go
--- together
+-- The words have the form of a command line, but a number or a table entry among them is invalid, or they do not go
+-- together.
 abbrev pub AreUnfit : List Text → Type 0
 AreUnfit words = (faults words ≡ []) × (order_in words ≡ None)
 

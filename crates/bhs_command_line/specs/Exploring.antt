@@ -45,7 +45,7 @@ is_colon byte = byte == 58
 abbrev pub is_comma : ℕ → Bool
 is_comma byte = byte == 44
 
--- the text has such a character
+-- The text contains a character with this property.
 abbrev pub has : (ℕ → Bool) → Text → Bool
 has is text = nat_lt (position_or_len is text) (length text)
 
@@ -53,7 +53,7 @@ has is text = nat_lt (position_or_len is text) (length text)
 abbrev pub argument_in : Text → Option ℕ
 argument_in = number_within 0 4294967295
 
--- an argument, and others behind it, if all are there
+-- prepends an argument to others, if all are valid
 abbrev pub before_arguments : Option ℕ → Option (List ℕ) → Option (List ℕ)
 before_arguments (Some argument) (Some arguments) = Some (argument ∷ arguments)
 before_arguments _ _ = None
@@ -75,7 +75,7 @@ module_in word =
     (arguments_within MAX_ARGUMENTS (after_first is_colon word))
     else Some (record { file = word; arguments = [] })
 
--- the modules that words say; None if one of them says none
+-- The modules that the words describe; None if a word describes no module.
 abbrev pub modules_in : List Text → Option (List AgentModule)
 modules_in = all_said module_in
 
@@ -96,7 +96,7 @@ objective_in word =
     if bytes_eq word (codes "moves") then Some objectives.Moves
     else (if bytes_eq word (codes "lost") then Some objectives.Lost else None)
 
--- the same of a word that need not be given: the seed is 0, all agents are as likely, and there is no objective
+-- The value of an optional word: without it, the seed is 0, all agents are equally likely, and there is no objective.
 abbrev pub seed_in : Option Text → Option ℕ
 seed_in (Some word) = number_within 0 4294967295 word
 seed_in None = Some 0
@@ -109,14 +109,14 @@ abbrev pub objective_by : Option Text → Option (Option Objective)
 objective_by (Some word) = option_map Some (objective_in word)
 objective_by None = Some None
 
--- what is drawn by these, if all are there
+-- the drawing with these parameters, if all are valid
 abbrev pub drawing_of : (schedules seed : Option ℕ) → Option Scheduler → (objective : Option (Option Objective))
     → Option Drawing
 drawing_of (Some schedules) (Some seed) (Some scheduler) (Some objective) =
     Some (record { schedules = schedules; seed = seed; scheduler = scheduler; objective = objective })
 drawing_of _ _ _ _ = None
 
--- what is drawn by these words: nothing if there is none, and the others need one of how many schedules
+-- The drawing that the words describe: none without words; the other words require the number of schedules.
 unfoldable pub drawing_in : (draws seed scheduler objective : Option Text) → Option (Option Drawing)
 drawing_in None None None None = Some None
 drawing_in (Some draws) seed scheduler objective =
@@ -124,7 +124,7 @@ drawing_in (Some draws) seed scheduler objective =
     (drawing_of (number_within 1 4294967295 draws) (seed_in seed) (scheduler_by scheduler) (objective_by objective))
 drawing_in None seed scheduler objective = None
 
--- an exploration by these, if all are there
+-- the exploration with these parameters, if all are valid
 abbrev pub exploration_of : (game states wakeups : Option ℕ) → (drawing : Option (Option Drawing)) → Option Exploration
 exploration_of (Some game) (Some states) (Some wakeups) (Some drawing) =
     Some (record { game = game; states = states; wakeups = wakeups; drawing = drawing })

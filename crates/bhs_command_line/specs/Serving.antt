@@ -41,7 +41,7 @@ serve = command (codes "serve") (must_have (codes "tournament") ∷ numbered por
     ∷ behind (codes "address") (has_default (codes "address") default_address)
     ∷ behind (codes "log") (flag (codes "log")) ∷ [])
 
--- the words of the options of `serve`, and whether those are given that take none
+-- the words of the options of `serve`, and which of its flags are given
 pub record ServeWords : Type 0 where
   pub port : Text
   pub sessions : Text
@@ -54,7 +54,7 @@ pub record ServeWords : Type 0 where
   pub address : Text
   pub prefix : Text
 
--- each word that should be a number is one, and within its range
+-- Each numeric word is a number in its range.
 abbrev pub are_numbers : ServeWords → Bool
 are_numbers words =
     is_some (number_of port_option words.port) && (is_some (number_of sessions_option words.sessions)

@@ -13,7 +13,7 @@ use Rattle.bhs_command_line.specs.declared.commands.Subcommand.{Subcommand}
 use Rattle.bhs_command_line.specs.declared.commands.Takes.{Takes}
 use Rattle.bhs_command_line.specs.declared.commands.Takes.TheVariants.{Number}
 
--- a word, by whether it must be given
+-- a word, required or optional
 abbrev pub needed_by : (id : Text) → Need → Rule
 needed_by id Required = must_have id
 needed_by id OneOrMore = record (must_have id) { action = Some Append }
@@ -22,7 +22,7 @@ needed_by id AnyNumber = record (may_have id) { action = Some Append }
 needed_by id (Default word) = has_default id word.now
 needed_by id Switch = flag id
 
--- it stands behind this option, if there is one
+-- the rule of a word that follows an option, if there is one
 abbrev pub placed : Option (Bor Text) → Rule → Rule
 placed None rule = rule
 placed (Some option) rule = behind option.now rule
@@ -35,7 +35,7 @@ rule_by row = placed row.option (needed_by row.id.now row.need)
 abbrev pub shape_by : Subcommand → Shape
 shape_by row = command row.name.now (map rule_by row.arguments.now)
 
--- the number that a word spells, by what it may be
+-- the number that a word spells, if it is in the range of its kind
 abbrev pub number_by : Takes → Text → Option ℕ
 number_by (Number least most) word = number_within least most word
 number_by _ word = None
@@ -44,7 +44,7 @@ number_by _ word = None
 abbrev pub row_number : Argument → List Row → Option ℕ
 row_number row rows = number_by row.takes (text_in row.id.now rows)
 
--- the most that the number may be
+-- the largest admissible number
 abbrev pub most_of : Takes → ℕ
 most_of (Number least most) = most
 most_of _ = 0

@@ -1,5 +1,5 @@
-//! The commands of the program, and a row for each word and option that one takes: its name, its range, its default
-//! and its help. All that the program does with its words goes by these rows.
+//! The commands of the program. Each command has a row for each of its words and options, with name, range, default and
+//! help; the whole command line is derived from these rows.
 
 pub(crate) mod check;
 pub(crate) mod explain;
@@ -36,7 +36,7 @@ pub(crate) struct Argument {
     pub(crate) help: &'static str,
 }
 
-/// Whether a word must be given.
+/// Whether a word is required.
 #[derive(Clone, Copy)]
 pub(crate) enum Need {
     Required,
@@ -45,7 +45,7 @@ pub(crate) enum Need {
     Optional,
     /// No word, one or more may be given.
     AnyNumber,
-    /// Where none is given, it is this one.
+    /// The default, if the word is omitted.
     Default(&'static str),
     /// The option takes no word.
     Switch,
@@ -80,7 +80,7 @@ pub(crate) const COMMANDS: [Subcommand; 9] = [
     serve::COMMAND,
 ];
 
-/// The tournament that a command is about.
+/// The tournament that a command works on.
 pub(crate) const TOURNAMENT: Argument = Argument {
     id: "tournament",
     option: None,
@@ -90,7 +90,7 @@ pub(crate) const TOURNAMENT: Argument = Argument {
     help: "The tournament's file, as a path from the working directory",
 };
 
-/// The replay that a command is about.
+/// The replay that a command works on.
 pub(crate) const REPLAY: Argument = Argument {
     id: "replay",
     option: None,

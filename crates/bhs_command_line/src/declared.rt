@@ -15,7 +15,7 @@ use std::alloc::{AllocError, Global};
 // The version of the project, as the file VERSION has it.
 const VERSION: &str = "0.9.0";
 
-/// All the commands of the program. The words begin after the program's name.
+/// Returns the declaration of all commands of the program. The words start after the program's name.
 pub(crate) fn command_line<'a>(alloc: Global) -> Result<Command<'a>, AllocError>
     ensures { IfOk result (λ command. app_of command ≡ arena) }
 {
@@ -105,7 +105,7 @@ fn arg<'a>(alloc: Global, argument: &Argument) -> Arg<'a>
     }
 }
 
-// A word by whether it must be given, before it is known where it stands.
+// Declares a required or optional word, before its position is known.
 fn needed<'a>(alloc: Global, argument: &Argument) -> Arg<'a>
     ensures rule { rule_of result ≡ needed_by argument.now.id.now argument.now.need }
     ensures local { result.global ≡ false }

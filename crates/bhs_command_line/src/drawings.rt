@@ -11,7 +11,7 @@ use crate::orders::Drawing;
 use bhs_model::{Objective, Scheduler};
 use bhs_text::Text;
 
-/// The schedules that these words have drawn: none if there is no word.
+/// Returns the drawing that these words describe, or None without words.
 #[tactic(auto, unfolding(crate::specs::Exploring::drawing_in))]
 pub(crate) fn drawing(
     draws: Option<Text>,
@@ -55,7 +55,7 @@ fn drawn_by(
     })
 }
 
-// The seed of this word; 0 if there is none.
+// Returns the seed, 0 by default.
 fn seed_in(word: &Option<Text>) -> Option<u32>
     ensures { result ≡ seed_in word.now }
 {
@@ -65,7 +65,7 @@ fn seed_in(word: &Option<Text>) -> Option<u32>
     }
 }
 
-// The scheduler of this word; each agent is as likely if there is none.
+// Returns the scheduler; by default all agents are equally likely.
 fn scheduler_by(word: &Option<Text>) -> Option<Scheduler>
     ensures { result ≡ scheduler_by word.now }
 {
@@ -89,7 +89,7 @@ pub(crate) fn scheduler_in(word: &str) -> Option<Scheduler>
     }
 }
 
-// The objective of this word; nothing if there is none.
+// Returns the objective, none by default.
 fn objective_by(word: &Option<Text>) -> Option<Option<Objective>>
     ensures { result ≡ objective_by word.now }
 {

@@ -22,7 +22,7 @@ use bhs_text::Text;
 use clap::ArgMatches;
 use std::alloc::{AllocError, Global};
 
-/// The order, or None if its command does not take one of the words.
+/// Returns the order, or None if its command does not accept one of the words.
 pub(crate) fn order_given(
     alloc: Global,
     matches: &ArgMatches<'_>,
@@ -225,8 +225,8 @@ fn exploring_given(alloc: Global, words: &ArgMatches<'_>) -> Result<Option<Order
     }
 }
 
-// The order to explore with the modules that words say, with all black holes or those of the match; or with a host if
-// there are no words, which must then be with those of the match.
+// Returns the order to explore with the modules that the words describe, for all black holes or the match's own.
+// Without modules a host plays, which is possible for the match's own black holes only.
 fn exploring(
     alloc: Global,
     tournament: Text,
@@ -380,7 +380,7 @@ fn hosting_given(alloc: Global, words: &ArgMatches<'_>) -> Result<Option<Hosting
     }))
 }
 
-// The text that a command may have.
+// Returns the text of an optional word.
 fn text_if_any(
     alloc: Global,
     words: &ArgMatches<'_>,
@@ -394,7 +394,7 @@ fn text_if_any(
     }
 }
 
-// The text that a command must have. Clap refuses words without it.
+// Returns the text of a required word. Clap refuses a command line without it.
 fn text_given(
     alloc: Global,
     words: &ArgMatches<'_>,
@@ -405,7 +405,7 @@ fn text_given(
     text(alloc, words.get_str(argument.id).unwrap_or(""))
 }
 
-// The number that a command must have.
+// Returns the number of a required word.
 fn number_given(words: &ArgMatches<'_>, argument: &Argument) -> Option<u32>
     ensures { result ≡ row_number argument.now (rows_of (found_of words.now)) }
 {
@@ -423,7 +423,7 @@ fn short_given(words: &ArgMatches<'_>, argument: &Argument) -> Option<u16>
     }
 }
 
-/// The number that a word spells, if it should be one.
+/// Returns the number that a word spells, if the word is a number.
 pub(crate) fn number_by(takes: Takes, word: &str) -> Option<u32>
     ensures { result ≡ number_by takes word.now }
 {

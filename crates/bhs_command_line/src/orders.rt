@@ -1,4 +1,4 @@
-//! What the program may be told to do.
+//! The orders that the program can carry out.
 
 ghost use Rattle.std.specs.Prelude.{◌≡◌};
 
@@ -6,11 +6,12 @@ use bhs_model::{Objective, Scheduler};
 use bhs_text::Text;
 use std::marker::Model;
 
-/// What the program is to do.
+/// An order to the program.
 #[derive(Drop)]
 pub enum Order {
-    /// Plays the script on standard input on the tournament of this file; None is the built-in one. Where there is a
-    /// prefix, the replays of the matches that have ended are then written to files whose names begin with it.
+    /// Plays the script on standard input with the tournament of this file, or with the built-in one if it is None.
+    /// With a prefix, the replays of the matches that have ended are then written to files whose names begin with the
+    /// prefix.
     Rehearse {
         tournament: Option<Text>,
         prefix: Option<Text>,
@@ -68,7 +69,7 @@ pub enum Order {
         tournament: Text,
         exploration: Exploration,
     },
-    /// The same, but the agents run modules: one for all of them, or one for each.
+    /// The same with agents that run modules: one module for all agents, or one for each.
     ExploreModules {
         tournament: Text,
         modules: AgentModules,
@@ -93,7 +94,7 @@ pub const MAX_SESSIONS: u32 = 1024;
 /// How a contest is served.
 #[derive(Drop)]
 pub struct Hosting {
-    /// The port to listen on, from 1.
+    /// The TCP port to listen on, from 1.
     pub port: u16,
     /// How many sessions are served, 1 to 1024.
     pub sessions: u32,
@@ -131,15 +132,15 @@ pub struct Appeal {
 pub struct Drawing {
     /// How many schedules, 1 or more.
     pub schedules: u32,
-    /// The seed from which they are drawn.
+    /// The seed of the random schedules.
     pub seed: u32,
     /// Whose turn it is.
     pub scheduler: Scheduler,
-    /// What schedules that do not fail shall have most of, if anything.
+    /// The quantity to maximise over schedules that do not fail, if any.
     pub objective: Option<Objective>,
 }
 
-/// Which schedules are tried: those that are drawn, or all.
+/// Which schedules are tried: drawn ones, or all.
 #[derive(Clone, Copy, Debug, PartialEq, Eq)]
 pub struct Exploration {
     /// The match, by its number in the tournament.
@@ -148,7 +149,7 @@ pub struct Exploration {
     pub states: u32,
     /// How often an agent that sleeps may wake again though nothing has changed in front of it.
     pub wakeups: u16,
-    /// The schedules that are drawn; None if all are tried.
+    /// The parameters of drawn schedules; None to try all schedules.
     pub drawing: Option<Drawing>,
 }
 

@@ -1,4 +1,4 @@
-//! What is told of a word that its command does not take.
+//! The message on a word that its command does not accept.
 
 use crate::commands::{Argument, COMMANDS, Need, Takes, explore, judge, table};
 use crate::drawings::{objective_in, scheduler_in};
@@ -73,7 +73,7 @@ fn is_there(words: &ArgMatches<'_>, argument: &Argument) -> bool {
     words.get_str(argument.id).is_some()
 }
 
-// Tells the first unfit word of these, among those that are always there or among the others.
+// Reports the first invalid word among the required words or among the others.
 fn first_unfit(
     alloc: Global,
     words: &ArgMatches<'_>,

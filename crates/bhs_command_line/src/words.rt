@@ -51,7 +51,7 @@ pub(crate) fn entry_in(alloc: Global, word: &str) -> Result<Option<TableEntry>, 
     }))
 }
 
-/// The entries that words say; None if one of them says none.
+/// Returns the entries that the words describe, or None if a word describes no entry.
 pub(crate) fn entries_in(alloc: Global, words: &[&str]) -> Result<Option<Entries>, AllocError>
     ensures { IfOk result (λ entries. entries ≡ entries_in (map (λ word. word.now) words.now)) }
 {
@@ -84,7 +84,7 @@ pub fn module_in(alloc: Global, word: &str) -> Result<Option<AgentModule>, Alloc
     }
 }
 
-/// The modules that words say; None if one of them says none.
+/// Returns the modules that the words describe, or None if a word describes no module.
 pub(crate) fn modules_in(alloc: Global, words: &[&str]) -> Result<Option<AgentModules>, AllocError>
     ensures { IfOk result (λ modules. modules ≡ modules_in (map (λ word. word.now) words.now)) }
 {

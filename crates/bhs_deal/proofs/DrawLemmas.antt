@@ -34,7 +34,7 @@ event_unless false event drawn is = is
 pub draws_are_those : (held : Held) (state : State) (word : ℕ) → draw held state word ≡ event_of (drawn held state word)
 draws_are_those held state word = event_unless state.closed _ _ (event_of_pick held state (pick (pool state) word))
 
--- the place that is picked in the pool is that of the agent that is picked
+-- The place that the word picks in the pool holds the agent that the definitions pick.
 pick_at : (agents : List ℕ) (word place d : ℕ) (f : ℕ → Bound) → picked (map f agents) word ≡ Some place
     → (place < length agents) × (pick agents word ≡ Some (get_or agents place d))
 pick_at [] word place d f is = cc
@@ -55,7 +55,7 @@ held_by held agent Before is = cc
 held_by held agent (At node came) is = cc
 held_by held agent After is = cc
 
--- the one at this place of the pool is picked
+-- The word picks the pool's entry at this place.
 pub draws_at : (held : Held) (state : State) (word place : ℕ) (in_pool : List Bound) (d : Bound) (is_there : Bool)
     → in_pool ≡ bounds state → false ≡ state.closed → Some place ≡ picked in_pool word
     → is_there ≡ held (get_or in_pool place d).node (get_or in_pool place d).port →

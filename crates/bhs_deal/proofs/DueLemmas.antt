@@ -60,7 +60,7 @@ next_at dealer words after turn moved at =
 module _ (terms : DeliveryTerms) (dues : List (Option ℕ)) (now place : ℕ) (log : List Kept) (sites : List (Option ℕ))
     (turns : List ℕ) (one : Kept) (within : place < length log) (long : length sites ≡ length log)
     (count : length turns ≡ length log) (is_one : one ≡ get_or log place one) where
-  -- what is found from a place on, where the event there has this site
+  -- the result of a search from a place on whose event has this site
   abbrev Found : (own : Option ℕ) → (next : ℕ) → Option Untimely → Option (ℕ × Untimely)
   Found own next why = at_or_later place why
       (untimely_from terms (dues_after terms dues one.event own (get_or turns place 0))

@@ -21,7 +21,7 @@ not_false : (b : Bool) → not b ≡ false → b ≡ true
 not_false true is = refl
 not_false false is = cc
 
--- where no pair is strange, each is a port
+-- If no pair is strange, then each pair is a port.
 pub all_ports : (net : Network) (pairs : List (ℕ × ℕ)) (i : ℕ) (d : ℕ × ℕ) → first_strange net pairs ≡ None
     → i < length pairs → (get_or pairs i d).1 < degree_of net (get_or pairs i d).0
 all_ports net pairs i d none within =

@@ -65,7 +65,7 @@ none_found terms dues from (suc count) none turn later before =
         no e = cc
     split false same e = (same, e)
 
--- what is known of the first
+-- The correctness of the first delivery that was found.
 pub record IsFirstDue (terms : DeliveryTerms) (dues : List (Option ℕ)) (from count agent turn : ℕ) : Type 0 where
   pub later : from ≤ turn
   pub before : turn < from + count
@@ -152,7 +152,7 @@ module _ (terms : DeliveryTerms) (world : World) (timed : TimedState) (lost : �
   kept_as_due : (turn : ℕ) → KeptIn turn ≡ Due terms dues turn
   kept_as_due turn = kept_if_due terms world timed lost unclosed dues turn are gone (few turn)
 
-  -- the turns from now on and before this one
+  -- the turns from now on, up to this one
   within_count : (turn other : ℕ) → timed.turn ≤ turn → other < turn → other < timed.turn + (turn - timed.turn)
   within_count turn other later before = omega (arith, later, before)
 
@@ -202,7 +202,7 @@ module _ (terms : DeliveryTerms) (world : World) (timed : TimedState) (lost : �
   is_next Close turn kept later none own =
       record { later = later; quiet = quiet_by turn later none; now = kept }
 
-  -- a delivery that was left out
+  -- a delivery that the log leaves out
   is_left_out : (event : Event) (turn agent at : ℕ) → timed.turn ≤ turn →
       first_delivery terms dues timed.turn (turn - timed.turn) ≡ Some (agent, at) →
       Judges world terms lost timed event turn (Some (LeftOut agent at))

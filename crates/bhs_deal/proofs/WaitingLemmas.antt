@@ -1,4 +1,4 @@
--- The dues of a match, and the turns that deliver by them.
+-- The due times of a match's agents, and the turns that deliver them.
 use Rattle.std.proofs.Common.{ℕ, ◌≡◌, ◌<◌, ◌+◌, Bool, true, false, not, ◌&&◌, ◌||◌, Option, Some, None}
 use Rattle.std.proofs.Common.{List, length, nat_lt, nat_le, refl, sym, ap, ap₂, ◌∙◌, subst, inl, inr, if◌then◌else◌}
 use Rattle.std.proofs.Common.{slice_set, ◌⊎◌}
@@ -42,12 +42,12 @@ due_at terms is_lost agent departed (Bound node port) =
     if is_lost then None else due_on terms node port agent departed
 due_at terms is_lost agent departed position = None
 
--- the dues are those of the match
+-- The due times agree with the match.
 abbrev pub AreDue : DeliveryTerms → (lost : ℕ → Bool) → TimedState → List (Option ℕ) → Type 0
 AreDue terms lost timed dues = (agent : ℕ) → agent < length dues →
     due_of dues agent ≡ due_at terms (lost agent) agent (departed_at (timed.pasts agent)) (timed.state.position agent)
 
--- whether an agent at this position may be lost: it is on a link that destroys, or has ended there
+-- Whether an agent at this position may be lost: it is on a destroying link, or ended on one.
 abbrev pub may_be_lost : World → Position → Bool
 may_be_lost world (Bound node port) = doomed world node port
 may_be_lost world After = true
@@ -183,7 +183,7 @@ module _ (terms : DeliveryTerms) (world : World) (timed : TimedState) (lost : �
         ∙ at_position who turn (timed.state.position who) refl (gone who)
         ∙ ap (λ (due : Option ℕ). is_due due turn) (sym (are who within))
 
--- and the delivery is that of this agent
+-- The delivery belongs to this agent.
 pub kept_delivery : (terms : DeliveryTerms) (world : World) (timed : TimedState) (lost : ℕ → Bool) (turn : ℕ) →
     is_kept world timed.state lost (delivery_now (held_by terms) (schedule_by terms) (record timed { turn = turn }))
     ≡ true →
@@ -245,7 +245,7 @@ told_other terms dues agent other Bad where_said turn apart = refl
 module _ (terms : DeliveryTerms) (world : World) (same_net : (node port : ℕ) → is_port_of terms.net (node, port)
     ≡ nat_lt port (world.net.degree node)) (dues : List (Option ℕ)) (agent turn : ℕ) (within : agent < length dues)
     (past : TimedView) (glance : TimedGlance) (is_lost : Bool) (room : Bool) where
-  -- what is known of the agent, which is at this position
+  -- the correctness of the due time of an agent at this position
   abbrev IsDue : Position → Type 0
   IsDue position = due_of dues agent ≡ due_at terms is_lost agent (departed_at past) position
 
@@ -318,7 +318,7 @@ module _ (terms : DeliveryTerms) (world : World) (same_net : (node port : ℕ) �
   told_own Before Bad away hears_it gone known = absurd (false≢true hears_it)
   told_own After command away hears_it gone known = absurd (false≢true hears_it)
 
--- who is lost stays where it is, or ends there
+-- A lost agent stays on its link, or ends there.
 gone_own : (world : World) (position : Position) (room : Bool) (command : Command) →
     accepts (standing_at position) room command ≡ true → may_be_lost world position ≡ true →
     may_be_lost world (position_after world position command) ≡ true
@@ -497,7 +497,7 @@ module _ (terms : DeliveryTerms) (world : World) (same_net : (node port : ℕ) �
   is_destroyed false true fresh none e = refl
   is_destroyed false false fresh none e = absurd (false≢true e)
 
-  -- what is known after an event that is kept
+  -- the invariant after an event that is kept
   pub record Goes (event : Event) : Type 0 where
     pub are_due : AreDue terms (lost_after world timed.state lost event)
         (behind world timed (record { event = event; turn = turn }))

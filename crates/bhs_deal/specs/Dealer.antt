@@ -46,7 +46,7 @@ GivesItsStreamInOrder = (seed : List ℕ) (stream place calls : ℕ) →
     next_words calls (dealer_at seed stream place)
     ≡ map (word_of seed stream) (range_with_len place calls)
 
--- Words that were computed apart, from the definition of ChaCha. The first is also the published one.
+-- Known answers: words that an independent implementation of ChaCha computed; the first is also published.
 abbrev pub AreTheWordsOfChaCha8 : Type 0
 AreTheWordsOfChaCha8 =
     (word_of (replicate 32 0) 0 0 ≡ 0x2fef003e)

@@ -54,12 +54,12 @@ TurnsFollowTheirSchedule = (seed : List ℕ) (stream agents : ℕ) (law : DelayL
     delivery_in held (schedule_by (dealer_at seed stream turn) agents law) state departed turn
     ≡ delivery_in held (schedule_of seed stream agents law) state departed turn
 
--- a stream of delays is the stream of no match, and of no other agent of any match
+-- The stream of one agent's delays differs from the stream of every match and of every other agent.
 pub record IsApart (stream agent other who : ℕ) : Type 0 where
   pub of_matches : delay_stream stream agent ≡ other → ⊥
   pub of_delays : delay_stream stream agent ≡ delay_stream other who → (stream ≡ other) × (agent ≡ who)
 
--- Matches have streams below 2 ^ 32, by their numbers: the streams of delays are apart from these and from each other.
+-- Matches have streams below 2 ^ 32, by their numbers; the streams of delays differ from these and from each other.
 abbrev pub DelaysHaveTheirOwnStreams : Type 0
 DelaysHaveTheirOwnStreams = (stream agent other who : ℕ) → stream < 2 ^ 32 → other < 2 ^ 32 → agent < 2 ^ 16 →
     who < 2 ^ 16 → IsApart stream agent other who

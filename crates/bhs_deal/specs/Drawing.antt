@@ -10,7 +10,7 @@ use Rattle.bhs_match.specs.Games.{IsPlayed}
 use Rattle.bhs_deal.specs.declared.draws.Drawn.{Drawn}
 use Rattle.bhs_deal.specs.declared.draws.Drawn.TheVariants.{Nobody, Stays, Delivered}
 
--- what becomes of the agent that was picked, if one was
+-- the result for the picked agent, if there is one
 abbrev pub drawn_of : Held → State → Option ℕ → Drawn
 drawn_of held state None = Nobody
 drawn_of held state (Some agent) = if is_held held (state.position agent) then Stays else Delivered agent
@@ -23,19 +23,19 @@ drawn held state word = if state.closed then Nobody else drawn_of held state (pi
 abbrev pub delivery_of : Held → State → (agent : ℕ) → Option Event
 delivery_of held state agent = if state.closed then None else delivery_to held state (Some agent)
 
--- what becomes of an agent that is to be delivered: nobody is, if it is on no link
+-- The result of delivering an agent; an agent on no link is not delivered.
 abbrev pub delivered_to : Held → State → (agent : ℕ) → Drawn
 delivered_to held state agent =
     if state.closed then Nobody
     else (if is_held held (state.position agent) then Stays
     else (if is_bound (state.position agent) then Delivered agent else Nobody))
 
--- what an event makes of a match, if there is one: without one the match is as it was
+-- A match changes by an optional event; without an event it is unchanged.
 abbrev pub IsPlayedIf : (old : Play) → Option Event → (new : Play) → Type 0
 IsPlayedIf old None new = new ≡ old
 IsPlayedIf old (Some event) new = (answer : Answer) × IsPlayed old event answer new
 
--- the event by which it comes about, if any
+-- the event of a draw, if any
 abbrev pub event_of : Drawn → Option Event
 event_of Nobody = None
 event_of Stays = None

@@ -11,7 +11,7 @@ names node port pair = pair.0 == node && (pair.1 == port)
 abbrev pub held_in : List (ℕ × ℕ) → (node port : ℕ) → Bool
 held_in pairs node port = list_any (names node port) pairs
 
--- whether a pair is a port of a node
+-- whether a pair names an existing port
 abbrev pub is_port_of : Network → ℕ × ℕ → Bool
 is_port_of net pair = nat_lt pair.1 (degree_of net pair.0)
 

@@ -1,4 +1,4 @@
--- How a word picks out of the pool of those who are on their way.
+-- How a word picks an agent from the pool of agents on links.
 use Rattle.std.specs.Prelude.{ℕ, ◌%◌, List, [], ◌∷◌, length, Option, None, Some}
 
 -- the place that a word picks: the word modulo the length of the pool, and none in an empty pool

@@ -18,7 +18,7 @@ words_by dealer = record {
 abbrev pub whole_schedule : ChaCha → (agents : ℕ) → DelayLaw → Schedule
 whole_schedule dealer agents law = oblivious (words_by dealer) agents law
 
--- the events of a log, each with its turn
+-- pairs the events of a log with their turns
 abbrev pub stamps_in : List Kept → (turns : List ℕ) → List Stamped
 stamps_in [] turns = []
 stamps_in (one ∷ log) [] = []

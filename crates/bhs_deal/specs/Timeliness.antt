@@ -37,8 +37,8 @@ abbrev pub due_after : DeliveryTerms → (agent departed : ℕ) → ℕ
 due_after terms agent departed =
     departed + delay terms.law.odds terms.law.scales (delay_word terms.dealer agent departed)
 
--- The dues of a match, by agent: after how many turns an agent on a link is ready to arrive. There is none for an agent
--- that is on no link, on a held one, or was destroyed.
+-- The due times of a match, by agent: the number of turns after which an agent on a link is ready to arrive. Agents on
+-- no link, on a held link, or destroyed have none.
 abbrev pub due_of : List (Option ℕ) → (agent : ℕ) → Option ℕ
 due_of dues agent = slice_index_or dues agent None
 
@@ -56,12 +56,12 @@ abbrev pub delivered_by : DeliveryTerms → List (Option ℕ) → (turn : ℕ) �
 delivered_by terms dues turn =
     if is_due (due_of dues (picked_by terms turn)) turn then Some (picked_by terms turn) else None
 
--- the agent and the turn, if there is an agent
+-- the agent with its turn, or else the alternative
 abbrev pub or_else : Option ℕ → (turn : ℕ) → Option (ℕ × ℕ) → Option (ℕ × ℕ)
 or_else None turn later = later
 or_else (Some agent) turn later = Some (agent, turn)
 
--- the first of this many turns from one on that delivers an agent, and which
+-- the first of `count` turns that delivers an agent, with that agent
 abbrev pub first_delivery : DeliveryTerms → List (Option ℕ) → (from count : ℕ) → Option (ℕ × ℕ)
 first_delivery terms dues from zero = None
 first_delivery terms dues from (suc count) =
@@ -91,7 +91,7 @@ late_in terms dues (Deliver agent) turn =
     if is_agent (delivered_by terms dues turn) agent then None else Some Late
 late_in terms dues event turn = None
 
--- what is wrong, if a delivery was left out before
+-- the fault of a delivery that was left out earlier
 abbrev pub left_out : Option (ℕ × ℕ) → Option Untimely → Option Untimely
 left_out None own = own
 left_out (Some found) own = Some (LeftOut found.0 found.1)
@@ -102,7 +102,7 @@ untimely terms dues now event turn =
     if nat_lt turn now then Some Early
     else left_out (first_delivery terms dues now (turn - now)) (late_in terms dues event turn)
 
--- what was found here, or what is found later
+-- the fault at this place, or else the later one
 abbrev pub at_or_later : (place : ℕ) → Option Untimely → Option (ℕ × Untimely) → Option (ℕ × Untimely)
 at_or_later place None later = later
 at_or_later place (Some why) later = Some (place, why)
@@ -122,7 +122,7 @@ untimely_in terms play turns =
     untimely_from terms (replicate play.setup.agents None) 0 0 play.log
     (sites (world_in play) (events_of play.log)) turns
 
--- why an event of a log, with its turn, is not the next behind the events before it
+-- The reason why an event of a log, with its turn, cannot follow the events before it.
 abbrev pub IsReason : Untimely → World → Held → Schedule → (before : List Stamped) → Stamped → Type 0
 IsReason Early world held schedule before one = one.turn < turns_passed 0 before
 IsReason (LeftOut agent turn) world held schedule before one =
@@ -130,7 +130,7 @@ IsReason (LeftOut agent turn) world held schedule before one =
     × IsTimedLog world held schedule (before ++ record { event = Deliver agent; turn = turn } ∷ [])
 IsReason Late world held schedule before one = (agent : ℕ) × (one.event ≡ Deliver agent)
 
--- The events before this place are the log of a timed execution, and with the event at this place they are not.
+-- The events before this place are the log of a timed execution; together with the event at this place they are not.
 pub record IsUntimelyAt (world : World) (held : Held) (schedule : Schedule) (stamps : List Stamped) (place : ℕ)
     (why : Untimely) : Type 0 where
   pub before : IsTimedLog world held schedule (take place stamps)

@@ -27,7 +27,7 @@ pub enum Drawn {
 pub fn draw(game: &mut Match, held: &Held, word: u32) -> Drawn
     ensures drawn { result ≡ drawn (held_in held.now) (state_of game.old) word }
 
-    // The match is as the event of the definitions makes it; where they draw none, it is as it was.
+    // The match changes by the event that the definitions draw, or is unchanged if they draw none.
     ensures played { IsPlayedIf game.old (draw (held_in held.now) (state_of game.old) word) game.new }
 {
     let drawn = judged(game, held, word);

@@ -23,7 +23,7 @@ pub fn gives_its_stream_in_order()
     ensures { GivesItsStreamInOrder }
 {}
 
-/// The words are those of ChaCha8: some of them, as they were computed apart from this code.
+/// Known answers: these words of ChaCha8 were computed by an independent implementation.
 pub fn words_are_those_of_chacha8()
     ensures { AreTheWordsOfChaCha8 }
 {}
@@ -33,7 +33,7 @@ pub fn draws_are_those_of_the_model()
     ensures { DrawsAreThoseOfTheModel }
 {}
 
-/// The streams of delays are apart from those of the matches, and from each other.
+/// The streams of delays differ from those of the matches, and from each other.
 pub fn delays_have_their_own_streams()
     ensures { DelaysHaveTheirOwnStreams }
 {}

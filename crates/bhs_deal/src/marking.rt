@@ -24,7 +24,7 @@ fn first_strange(net: &Net, pairs: &[(u16, u16)]) -> Option<usize>
     pairs.iter().position(|pair| !is_port(net, *pair))
 }
 
-/// Refuses the first pair that is no port of a node, if there is one.
+/// Refuses the first pair that names no existing port.
 pub(crate) fn check(net: &Net, pairs: &[(u16, u16)]) -> Result<(), HeldFault>
     ensures ok { OnOk result (first_strange net.now pairs.now ≡ None) }
     ensures err { IfErr result (λ fault. (index : ℕ) × (fault ≡ HeldFault.At index)

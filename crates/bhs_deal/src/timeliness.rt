@@ -27,14 +27,14 @@ pub struct Schedule<'a> {
     pub held: &'a Held,
 }
 
-/// Why an event of a log, with its turn, is not the next behind the events before it.
+/// The reason why an event of a log, with its turn, cannot follow the events before it.
 #[derive(Clone, Copy, Debug, PartialEq, Eq)]
 pub enum Untimely {
     /// Its turn has passed: an arrival has ended it, or the event before happened in a later turn.
     Early,
     /// Before it, this turn delivers this agent, and the log has no such delivery.
     LeftOut { agent: u16, turn: u64 },
-    /// It is a delivery that its turn does not make.
+    /// A delivery that its turn does not make.
     Late,
 }
 
@@ -96,7 +96,7 @@ impl DeliveryTerms<'_> {
         }
     }
 
-    // The first delivery of the turns from one on and before another, with its turn.
+    // Returns the first delivery in a range of turns, with its turn.
     fn first_delivery(&self, dues: &[Option<u64>], from: u64, end: u32) -> Option<(u16, u64)>
         requires agents { 0 < self.now.agents }
         requires order { from ≤ end }

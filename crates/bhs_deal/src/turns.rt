@@ -55,7 +55,7 @@ pub fn draw_oblivious(game: &mut Match, held: &Held, dealer: &mut Dealer, waits:
         ≡ drawn_in (held_in held.now) (schedule_by dealer.old game.old.setup.agents waits.now.delays)
         (state_of game.old) (departed_in waits.now.departed.now) waits.now.turn }
 
-    // The match is as the event of the definitions makes it; where they have none, it is as it was.
+    // The match changes by the event that the definitions give, or is unchanged if they give none.
     ensures played { IsPlayedIf game.old
         (delivery_in (held_in held.now) (schedule_by dealer.old game.old.setup.agents waits.now.delays)
         (state_of game.old) (departed_in waits.now.departed.now) waits.now.turn) game.new }

@@ -43,7 +43,7 @@ fn is_excess(found: &Finding) -> bool
     matches!(found, Finding::Exceeds { .. })
 }
 
-// Whether no schedule that was counted is worse than one that is told to be solved.
+// Returns whether no counted schedule is worse than a reported schedule that is solved.
 fn is_worst(
     objective: Option<Objective>,
     found: &Finding,

@@ -5,7 +5,7 @@ use Rattle.bhs_files.specs.declared.faults.FileFault.TheVariants.{Toml, Version,
 use Rattle.bhs_files.specs.declared.faults.FileFault.TheVariants.{KeyTwice, Held, Memory}
 use Rattle.bhs_files.specs.Reading.{Fails}
 
--- a fault of a part is one of the whole
+-- A fault of a part becomes the fault of the whole.
 pub fails_with : {A B : Type 0} (fault : FileFault) (part : Result A FileFault) (whole : Result B FileFault)
     → (part ≡ Err fault → whole ≡ Err fault) → Fails fault part → Fails fault whole
 fails_with Memory part whole f h = tt

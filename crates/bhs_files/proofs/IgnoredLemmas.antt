@@ -8,7 +8,7 @@ use Rattle.bhs_files.specs.IgnoredKeys.{ignored_in_matches, ignored_in_table}
 
 module _ {T : Type 0} (version : ℕ) (has_delays : Bool) (ts : List T) (view : T → Members) (i : ℕ)
     (found total : List IgnoredKey) where
-  -- what is still to be gathered
+  -- the keys that remain to be collected
   abbrev left : (i : ℕ) → List IgnoredKey
   left i = ignored_in_matches version i has_delays (map view (drop i ts))
 

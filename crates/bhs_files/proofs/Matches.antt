@@ -1,4 +1,4 @@
--- Reading matches one after the other, as a loop does.
+-- Loop invariant: reading the matches in order.
 use Rattle.std.proofs.Common.{◌≡◌, ℕ, ◌+◌, ◌<◌, ◌≤◌, List, [], ◌∷◌, ◌++◌, length, map, drop, get_or, Result, Ok, Err}
 use Rattle.std.proofs.Common.{refl, sym, ap, ◌∙◌, append_assoc}
 use Rattle.std.proofs.lemmas.List.{append-nil, drop_more}
@@ -9,7 +9,7 @@ use Rattle.bhs_files.specs.Tournaments.{Planned, match_in, matches_in}
 use Rattle.bhs_files.specs.Reading.{◌>>=◌, Fails}
 use Rattle.bhs_files.proofs.Failing.{fails_with}
 
--- what was read before, and what is still to be read
+-- the matches read so far, followed by the result for the remaining ones
 abbrev pub then : List Planned → Result (List Planned) FileFault → Result (List Planned) FileFault
 then done rest = rest >>= λ others. Ok (done ++ others)
 

@@ -1,4 +1,4 @@
--- Seeing names one after the other, as a loop does.
+-- Loop invariant: collecting the distinct names in order.
 use Rattle.std.proofs.Common.{◌≡◌, ℕ, ◌+◌, ◌<◌, ◌≤◌, Bool, true, false, not, cond, ◌&&◌, ◌||◌, List, [], ◌∷◌, ◌++◌}
 use Rattle.std.proofs.Common.{length, map, drop, get_or, filter, nat_eq, Bor, refl, sym, ap, ◌∙◌, append_assoc}
 use Rattle.std.specs.List.{list_any}
@@ -11,11 +11,11 @@ use Rattle.indexmap.specs.IndexSet.{insert_key}
 use Rattle.bhs_files.specs.declared.fixtures.Fixture.{Fixture}
 use Rattle.bhs_files.specs.Names.{same_name, first_seen, is_among}
 
--- the names seen before, and those of the rest that are new
+-- the names seen so far, followed by the new names among the rest
 abbrev pub after : List (List ℕ) → List (List ℕ) → List (List ℕ)
 after seen rest = seen ++ filter (λ name. not (is_among seen name)) (first_seen rest)
 
--- the names with one more, unless it is one of them
+-- appends a name unless it is present
 abbrev pub with_name : List (List ℕ) → List ℕ → List (List ℕ)
 with_name seen name = cond (is_among seen name) seen (seen ++ name ∷ [])
 
@@ -39,7 +39,7 @@ filter-all (x ∷ xs) = ap (λ (zs : List (List ℕ)). x ∷ zs) (filter-all xs)
 pub starts : (names : List (List ℕ)) → after [] names ≡ first_seen names
 starts names = filter-all (first_seen names)
 
--- where the name was seen, a name that was not is another
+-- A name that was seen differs from a name that was not.
 other_than_seen : (seen : List (List ℕ)) (name x : List ℕ) → is_among seen name ≡ true
     → not (is_among seen x) ≡ (not (same_name x name) && not (is_among seen x))
 other_than_seen seen name x h = by (same_name x name) refl
@@ -82,7 +82,7 @@ pub has_name : (ks : List (Bor (List ℕ))) (k : Bor (List ℕ))
 has_name [] k = refl
 has_name (y ∷ ks) k = ap (λ b. pointwise nat_eq k.now y.now || b) (has_name ks k)
 
--- what the set has after an insert
+-- the members of the set after an insertion
 inserts : (ks : List (Bor (List ℕ))) (k : Bor (List ℕ))
     → map (λ y. y.now) (insert_key (λ x y. pointwise nat_eq x.now y.now) ks k) ≡ with_name (map (λ y. y.now) ks) k.now
 inserts ks k = by (list_any (λ (y : Bor (List ℕ)). pointwise nat_eq k.now y.now) ks)
@@ -112,7 +112,7 @@ goes_on fs i x old new k total lt is same added so_far =
     ap (map (λ (y : Bor (List ℕ)). y.now)) added ∙ inserts old k ∙ ap (with_name (map (λ y. y.now) old)) same in
     ap (λ (ns : List (List ℕ)). after ns (map name_of (drop (i + 1) fs))) n ∙ sym e ∙ so_far
 
--- a filter that keeps the name does not change whether it is among the names
+-- A filter that keeps the name preserves its membership.
 keeps : (name other : List ℕ) (xs : List (List ℕ)) → same_name name other ≡ false
     → is_among (filter (λ x. not (same_name x other)) xs) name ≡ is_among xs name
 keeps name other [] apart = refl
@@ -130,7 +130,7 @@ keeps name other (x ∷ xs) apart = by (same_name x other) refl (keeps name othe
     by true e rest = rest ∙ passed (same_name name x) refl e
     by false e rest = ap (λ b. same_name name x || b) rest
 
--- the names that are seen are those of the list
+-- The collected names and the list have the same members.
 pub seen : (names : List (List ℕ)) (name : List ℕ) → is_among (first_seen names) name ≡ is_among names name
 seen [] name = refl
 seen (x ∷ names) name = by (same_name name x) refl (seen names name)

@@ -1,4 +1,4 @@
--- The keys of a table that are known, and the first that is not.
+-- The known keys of a table, and its first unknown key.
 use Rattle.std.proofs.Common.{◌≡◌, ℕ, Bool, true, false, cond, not, ◌||◌, List, [], ◌∷◌, map, length, Option, Some}
 use Rattle.std.proofs.Common.{None, option_map, String, Global, string_bytes, Bor, refl, sym, ap, subst, ◌∙◌, arith}
 use Rattle.std.specs.Iterator.{AlwaysYields}
@@ -10,7 +10,7 @@ use Rattle.toml.specs.View.{members_view}
 use Rattle.toml.specs.declared.value.Value.{Value}
 use Rattle.bhs_files.specs.Tournaments.{is_known, table_keys, unknown_key}
 
--- a test of what is seen of the items
+-- Tests on items, expressed as tests on their images.
 pub any_seen : {A B : Type 0} (see : A → B) (test : B → Bool) (items : List A)
     → list_any (λ x. test (see x)) items ≡ list_any test (map see items)
 any_seen see test [] = refl
@@ -26,7 +26,7 @@ found_seen see test (x ∷ rest) = by_test (test (see x)) (found_seen see test r
   by_test true others = refl
   by_test false others = others
 
--- the keys of a table, each as its bytes
+-- the keys of a table as byte strings
 pub keys_as_bytes : (entries : List (String Global × Value))
     → map string_bytes (keys_of entries) ≡ table_keys (members_view entries)
 keys_as_bytes [] = refl

@@ -22,7 +22,7 @@ abbrev pub versioned : Members → Option ℕ → Result Document FileFault
 versioned table None = Err Version
 versioned table (Some version) = Ok (version, table)
 
--- the document of a text that has a version up to the latest
+-- the document of a text, if its version is known
 abbrev pub document_in : (latest : ℕ) → Option Members → Result Document FileFault
 document_in latest None = Err Toml
 document_in latest (Some members) = versioned members (version_in latest members)

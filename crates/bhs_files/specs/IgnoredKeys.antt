@@ -1,4 +1,4 @@
--- The keys of a tournament's file that are ignored, and what each may be meant for.
+-- The ignored keys of a tournament's file, each with advice on what was meant.
 use Rattle.std.specs.Prelude.{ℕ, ◌+◌, ◌==◌, ◌&&◌, ◌||◌, not, is_none, if◌then◌else◌, nat_lt, Bool, true, false}
 use Rattle.std.specs.Prelude.{List, [], ◌∷◌, ◌++◌, drop, map, filter, Option, Some, None, Result, Ok, unwrap_or}
 use Rattle.std.specs.Prelude.{option_and_then}
@@ -41,13 +41,14 @@ abbrev pub other_place : (game : Option ℕ) → Option ℕ
 other_place None = Some 0
 other_place (Some game) = None
 
--- a key of this place that is near the word, and that the table lacks
+-- a known key of the same place whose spelling is near the word, and which the table lacks
 abbrev pub near_key : (version : ℕ) → (game : Option ℕ) → Members → List ℕ → Option FileKey
 near_key version game members key =
     find (λ known. is_near key (word known) && is_none (get_member (word known) members)) (known_keys version game)
 
--- What a key may be meant for: of another version, which is the newest that has it here; of the other place; or a key
--- that is near. A file of version 3 has keys of delays for the oblivious schedule alone.
+-- Advice on an ignored key, one of three: the newest version in which the key exists at this place; the other place, if
+-- the key belongs there; a known key with a near spelling. Version 3 has keys of delays for the oblivious schedule
+-- only.
 abbrev pub advice_on : (version : ℕ) → (game : Option ℕ) → Members → List ℕ → Advice
 advice_on version game members key =
     if not (nat_lt version 3) then advices.Oblivious
@@ -56,14 +57,14 @@ advice_on version game members key =
     else (if is_known version (other_place game) key then advices.OtherPlace
     else option_map_or (λ known. advices.Near known) (near_key version game members key) advices.Unlike)))
 
--- Versions 1 and 2 ignore each key that they do not have. Version 3 ignores delays without the oblivious schedule, and
--- refuses each key that it does not have.
+-- Versions 1 and 2 ignore every unknown key. Version 3 ignores delays without the oblivious schedule, and refuses
+-- unknown keys.
 abbrev pub is_ignored : (version : ℕ) → (game : Option ℕ) → (is_oblivious : Bool) → List ℕ → Bool
 is_ignored version game is_oblivious key =
     if nat_lt version 3 then not (is_known version game key)
     else is_none game && (not is_oblivious && is_among (map word (DelayScales ∷ DelayOdds ∷ [])) key)
 
--- a key that is ignored, with what it may be meant for
+-- an ignored key, with the advice on it
 abbrev pub ignored_key : (version : ℕ) → (game : Option ℕ) → Members → List ℕ → IgnoredKey
 ignored_key version game members key =
     record { version = version; game = game; key = key; advice = advice_on version game members key }

@@ -7,11 +7,11 @@ use Rattle.std.specs.Cmp.Lexicographic.{pointwise}
 abbrev pub same_name : List ℕ → List ℕ → Bool
 same_name = pointwise nat_eq
 
--- the first name, and then the others without it
+-- removes duplicates: keeps the first occurrence of each name
 abbrev pub first_seen : List (List ℕ) → List (List ℕ)
 first_seen [] = []
 first_seen (name ∷ names) = name ∷ filter (λ other. not (same_name other name)) (first_seen names)
 
--- the name is one of these
+-- whether the name is a member of the list
 abbrev pub is_among : List (List ℕ) → List ℕ → Bool
 is_among names name = list_any (same_name name) names

@@ -53,12 +53,12 @@ unfoldable pub listing_in : List ℕ → Result Listing FileFault
 listing_in text = document_in NETWORK_VERSION (parse_document text) >>= λ document. listing_of document.1
     >>= listing_within document.0
 
--- what is listed is this network
+-- The listing describes this network.
 abbrev pub IsNetworkOf : Result Listing FileFault → Network → Type 0
 IsNetworkOf (Ok listing) net = Makes listing.0 listing.1 net
 IsNetworkOf (Err first) net = ⊥
 
--- the fault is the first of the file, or of the network that it lists
+-- The fault is the first fault of the file, or of the network that the file lists.
 abbrev pub IsFault : Result Listing FileFault → FileFault → Type 0
 IsFault (Ok listing) fault = (net_fault : NetFault) × (fault ≡ Net net_fault)
     × IsFirstFault listing.0 listing.1 net_fault
@@ -68,7 +68,7 @@ IsFault (Err first) fault = fault ≡ first
 abbrev pub RefusesFile : Result Listing FileFault → FileFault → Type 0
 RefusesFile listing fault = (fault ≡ Memory) ⊎ IsFault listing fault
 
--- what a fault of a network is in a file
+-- a fault of a network as a fault of its file
 abbrev pub of_network : NetFault → FileFault
 of_network net_faults.Memory = Memory
 of_network fault = Net fault

@@ -28,7 +28,7 @@ abbrev pub GivesUnlessMemory : {X Y : Type 0} → (X → Y) → Result X FileFau
 GivesUnlessMemory view (Ok x) reading = reading ≡ Ok (view x)
 GivesUnlessMemory view (Err fault) reading = Fails fault reading
 
--- a key that may not be absent
+-- The value of a required key, or the fault that it is absent.
 abbrev pub present : Option ℕ → FileKey → Option Data → Result Data FileFault
 present game key None = Err (Missing game key)
 present game key (Some found) = Ok found
@@ -38,7 +38,7 @@ abbrev pub shaped : {A : Type 0} → Option ℕ → FileKey → Option A → Res
 shaped game key None = Err (Shape game key)
 shaped game key (Some value) = Ok value
 
--- the value of a key that the table must have
+-- the parsed value of a required key
 abbrev pub required : {A : Type 0} → Option ℕ → FileKey → (Data → Option A) → Members → Result A FileFault
 required game key shape members = present game key (get_member (word key) members) >>= λ found.
     shaped game key (shape found)

@@ -22,7 +22,7 @@ abbrev pub text_where : (List ℕ → Bool) → Data → Option (List ℕ)
 text_where test (string bytes) = if test bytes then Some bytes else None
 text_where test _ = None
 
--- at least one byte, and no more than these
+-- whether a text has at least one byte and at most this many
 abbrev pub is_sized : ℕ → List ℕ → Bool
 is_sized most bytes = nat_le 1 (length bytes) && nat_le (length bytes) most
 
@@ -45,7 +45,7 @@ abbrev pub seed : Data → Option (List ℕ)
 seed (string text) = result_ok (decode_sized text SEED_BYTES)
 seed _ = None
 
--- whether the schedule with this name is the oblivious one
+-- whether the name is that of the oblivious schedule
 abbrev pub is_oblivious : Data → Option Bool
 is_oblivious (string text) =
     if pointwise nat_eq text (codes "oblivious") then Some true
@@ -56,7 +56,7 @@ is_oblivious _ = None
 abbrev pub delay_scales : Data → Option ℕ
 delay_scales found = option_and_then (λ scales. if nat_le scales MAX_SCALES then Some scales else None) (number found)
 
--- a whole number from 1 to 65,535, and not below the number of scales
+-- An integer from 1 to 65,535 that is not less than the number of scales.
 abbrev pub delay_odds : (scales : ℕ) → Data → Option ℕ
 delay_odds scales found =
     option_and_then (λ odds. if nat_le 1 odds && nat_le scales odds then Some odds else None) (number found)
@@ -76,7 +76,7 @@ abbrev pub count : Items → ℕ
 count no_items = 0
 count (item d ds) = count ds + 1
 
--- a list that is read so
+-- a list whose items are parsed by this function
 abbrev pub list_where : {A : Type 0} → (Items → Option A) → Data → Option A
 list_where read (array items) = read items
 list_where read _ = None

@@ -59,7 +59,7 @@ planned f = record {
 abbrev pub plan : Tournament → Plan
 plan t = record { seed = t.seed; schedule = t.schedule; matches = map planned t.matches.items }
 
--- the keys of a tournament, or of a match, in a file of this version
+-- the known keys at the top level, or of a match, in a file of this version
 abbrev pub known_keys : (version : ℕ) → (game : Option ℕ) → List FileKey
 known_keys version None = if nat_lt version 3 then Version ∷ Seed ∷ Match ∷ []
     else Version ∷ Seed ∷ Schedule ∷ DelayScales ∷ DelayOdds ∷ Match ∷ []
@@ -67,16 +67,16 @@ known_keys version (Some game) =
     if version == 1 then Team ∷ Network ∷ Home ∷ Hole ∷ Quota ∷ Board ∷ Keys ∷ Held ∷ []
     else Team ∷ Network ∷ Home ∷ Holes ∷ Dark ∷ Quota ∷ Board ∷ Keys ∷ Held ∷ []
 
--- the word is one of them
+-- whether the word is a known key
 abbrev pub is_known : (version : ℕ) → (game : Option ℕ) → List ℕ → Bool
 is_known version game = is_among (map word (known_keys version game))
 
--- the keys that a table has
+-- the keys of a table
 abbrev pub table_keys : Members → List (List ℕ)
 table_keys no_members = []
 table_keys (member key value rest) = key ∷ table_keys rest
 
--- the first of them that is no key of a tournament, or of a match
+-- the first key that is unknown at this place
 abbrev pub unknown_key : (version : ℕ) → (game : Option ℕ) → Members → Option (List ℕ)
 unknown_key version game members = find (λ key. not (is_known version game key)) (table_keys members)
 
@@ -141,7 +141,7 @@ abbrev pub schedule_if : (is_oblivious : Bool) → Members → Result ScheduleKi
 schedule_if is_oblivious members =
     if is_oblivious then (delays_in members >>= λ law. Ok (Oblivious law)) else Ok Adaptive
 
--- The schedule: up to version 2 of the file it is the adaptive one, and so it is where the file names none.
+-- The schedule: the adaptive one up to version 2, and in version 3 if the file names none.
 abbrev pub schedule_in : (version : ℕ) → Members → Result ScheduleKind FileFault
 schedule_in version members =
     if nat_lt version 3 then Ok Adaptive

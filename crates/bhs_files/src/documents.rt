@@ -11,7 +11,7 @@ use crate::{shapes, tables};
 use std::alloc::Global;
 use toml::Table;
 
-// The version of a file, from 1 to the latest.
+// Returns the version of a file, from 1 to the latest.
 fn version_in(latest: u16, table: &Table) -> Option<u16>
     ensures { result ≡ version_in latest (table_view table.now) }
 {
@@ -23,7 +23,7 @@ fn version_in(latest: u16, table: &Table) -> Option<u16>
     }
 }
 
-/// The version of a text, from 1 to the latest, and its table.
+/// Parses a text as a versioned document: returns its version, from 1 to the latest, and its table.
 pub fn document(alloc: Global, text: &str, latest: u16) -> Result<(u16, Table), FileFault>
     ensures { GivesUnlessMemory (λ read. (read.0, table_view read.1)) result
         (document_in latest (parse_document text.now)) }

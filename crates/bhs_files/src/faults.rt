@@ -1,4 +1,4 @@
-//! What is wrong with a file.
+//! Reasons to refuse a file.
 
 ghost use Rattle.std.specs.Prelude.{◌≡◌};
 ghost use Rattle.bhs_files.specs.declared.faults.FileFault.TheVariants.{Memory};
@@ -19,15 +19,15 @@ pub enum FileFault {
     Toml,
     /// The file lacks `version`, or it is none of its kind: 1 up to `NETWORK_VERSION` or `TOURNAMENT_VERSION`.
     Version,
-    /// The file has version 3, and a table of it has a key that it may not have.
+    /// A table of a file of version 3 has an unknown key.
     Unknown { game: Option<u32> },
     /// A key is absent.
     Missing { game: Option<u32>, key: FileKey },
-    /// A key holds what it may not.
+    /// The value of a key has the wrong type or range.
     Shape { game: Option<u32>, key: FileKey },
     /// The links make no network.
     Net(NetFault),
-    /// The match is set up as no match on its network may be.
+    /// The setup of a match violates the limits for its network.
     Setup { game: u32, fault: SetupFault },
     /// The key of this agent is that of an earlier agent of the tournament.
     KeyTwice { game: u32, agent: u16 },

@@ -1,4 +1,4 @@
-//! The keys of a tournament's file that are ignored, and what each may be meant for.
+//! The ignored keys of a tournament's file, each with advice on what was meant.
 
 ghost use Rattle.std.specs.Prelude.{◌≡◌, ◌++◌, ◌<◌, ◌≤◌, ◌^◌, ◌&&◌, vec_len, drop, length, map, is_none};
 ghost use Rattle.std.specs.Prelude.{IfOk, OnOk};
@@ -18,7 +18,7 @@ use bhs_net::Memory;
 use std::alloc::Global;
 use toml::Table;
 
-/// What a key that is ignored may be meant for.
+/// Advice on an ignored key: what its author may have meant.
 #[derive(Clone, Copy, Debug, PartialEq, Eq)]
 pub enum Advice {
     /// Delays belong to the oblivious schedule, which the file does not name.
@@ -88,7 +88,7 @@ fn near_key(version: u16, game: Option<u32>, table: &Table, key: &str) -> Option
         .find(|known| is_meant(table, key, *known))
 }
 
-// Whether the key is near a known one, which the table lacks.
+// Returns whether a known key that the table lacks is spelled nearly like this key.
 fn is_meant(table: &Table, key: &str, known: FileKey) -> bool
     ensures { result ≡ (specs.is_near key.now (word known)
         && is_none (get_member (word known) (table_view table.now))) }
@@ -97,7 +97,7 @@ fn is_meant(table: &Table, key: &str, known: FileKey) -> bool
         && tables::lookup(table, known.word()).is_none()
 }
 
-// The other place of a key.
+// Returns the other place of a key: the top level for a match, a match for the top level.
 fn other_place(game: Option<u32>) -> Option<u32>
     ensures { result ≡ specs.other_place game }
 {
@@ -128,7 +128,8 @@ fn advice_on(version: u16, game: Option<u32>, table: &Table, key: &str) -> Advic
     }
 }
 
-// Where a table stands: in a file of this version, which may have delays or not, at the top level or in a match.
+// The context of a table: the version of its file, whether the file may have delays, and whether it is the top level or
+// a match.
 #[derive(Clone, Copy)]
 struct Place {
     version: u16,

@@ -74,7 +74,7 @@ pub fn seed(value: &Value) -> Option<[u8; SEED_BYTES]>
     }
 }
 
-/// Whether the schedule with this name is the oblivious one.
+/// Returns whether the name is that of the oblivious schedule.
 pub fn is_oblivious(value: &Value) -> Option<bool>
     ensures { result ≡ is_oblivious (view value.now) }
 {

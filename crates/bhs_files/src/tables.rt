@@ -28,7 +28,7 @@ pub fn lookup<'a>(table: &'a Table, key: &str) -> Option<&'a Value>
     table.get(key)
 }
 
-/// The keys of a tournament, or of a match, in a file of this version.
+/// Returns the known keys at the top level, or of a match, in a file of this version.
 pub fn known_keys(version: u16, game: Option<u32>) -> &'static [FileKey]
     ensures { result.now ≡ known_keys version game }
 {
@@ -84,7 +84,7 @@ fn keys_of_match(version: u16) -> &'static [FileKey]
     }
 }
 
-/// Whether a tournament, or a match, has a key with this word in a file of this version.
+/// Returns whether a word is a known key, at the top level or of a match, in a file of this version.
 pub fn is_known(version: u16, game: Option<u32>, word: &str) -> bool
     ensures { result ≡ is_known version game word.now }
 {
@@ -93,7 +93,7 @@ pub fn is_known(version: u16, game: Option<u32>, word: &str) -> bool
         .any(|known| word == known.word())
 }
 
-/// The first key of a table that is no key of a tournament, or of a match, in a file of this version.
+/// Returns the first unknown key of a table, at the top level or of a match, in a file of this version.
 pub fn unknown_key(version: u16, game: Option<u32>, table: &Table) -> Option<&str>
     ensures { option_copied result ≡ unknown_key version game (table_view table.now) }
 {
@@ -113,7 +113,7 @@ pub fn check_keys(version: u16, game: Option<u32>, table: &Table) -> Result<(), 
     Ok(())
 }
 
-/// The value of a key that the table must have.
+/// Returns the value of a required key, or the fault that it is absent.
 pub fn present(game: Option<u32>, key: FileKey, table: &Table) -> Result<&Value, FileFault>
     ensures { Gives (λ value. view value.now) result
         (present game key (get_member (word key) (table_view table.now))) }

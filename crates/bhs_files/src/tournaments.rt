@@ -1,4 +1,4 @@
-//! A tournament as its file has it.
+//! A tournament as described by its file.
 
 ghost use Rattle.std.specs.Prelude.{◌≡◌, ◌≤◌, ℕ, List, IfOk, map, vec_len};
 ghost use Rattle.bhs_files.specs.declared.limits.TheConstants.{MAX_MATCHES};
@@ -14,7 +14,7 @@ use std::alloc::Global;
 /// What a tournament file says.
 #[derive(Drop)]
 pub struct Tournament {
-    /// From what the deliveries are drawn.
+    /// The seed from which the deliveries are drawn.
     pub seed: [u8; SEED_BYTES],
     /// How its turns choose whom they deliver.
     pub schedule: ScheduleKind,
@@ -29,7 +29,7 @@ impl Tournament {
         ensures exact { IfOk result (λ names. map (λ name. name.now) names.keys
             ≡ first_seen (map (λ fixture. fixture.network) self.now.matches.items)) }
 
-        // They are the names that the matches have, and no others.
+        // The set consists of exactly the matches' network names.
         ensures all { IfOk result (λ names. (name : List ℕ) → is_among (map (λ name. name.now) names.keys) name
             ≡ is_among (map (λ fixture. fixture.network) self.now.matches.items) name) }
     {

@@ -15,7 +15,7 @@ use Rattle.bhs_lineup.specs.Seats.{by_bytes}
 abbrev pub Entry : Type 0
 Entry = String Global × (ℕ × ℕ)
 
--- what the map finds at a key is what the list has there
+-- The map and the list agree on the entry of each key.
 pub finds : (key : List ℕ) (es : List Entry) → lookup (λ k. pointwise nat_eq key (string_bytes k)) es ≡ seat_at
     key (by_bytes es)
 finds key [] = refl
@@ -26,7 +26,7 @@ is_some-cond : (b : Bool) (x : ℕ × ℕ) (o : Option (ℕ × ℕ)) (c : Bool) 
 is_some-cond true x o c h = refl
 is_some-cond false x o c h = h
 
--- the map has a key where some seat has it
+-- The map contains a key exactly if some seat has it.
 pub has : (key : List ℕ) (es : List Entry) → is_some (lookup (λ k. pointwise nat_eq key (string_bytes k)) es) ≡ has_key
     key (by_bytes es)
 has key [] = refl

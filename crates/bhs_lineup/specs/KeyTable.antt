@@ -3,7 +3,7 @@ use Rattle.std.specs.Prelude.{ℕ, Bool, nat_eq, if◌then◌else◌, List, [], 
 use Rattle.std.specs.List.{list_any}
 use Rattle.std.specs.Cmp.Lexicographic.{pointwise}
 
--- a key, and the numbers of the match and of the agent that it lets in
+-- A key, with the numbers of the match and the agent that it admits.
 abbrev pub Seat : Type 0
 Seat = List ℕ × (ℕ × ℕ)
 

@@ -8,8 +8,8 @@ use indexmap::IndexMap;
 use std::alloc::Global;
 use std::marker::Model;
 
-/// The keys of a tournament: each lets one agent of one match enter. Contracts see them as the list of the keys in the
-/// order in which they were added, each by its bytes and with the numbers of the match and of the agent.
+/// The keys of a tournament; each key admits one agent of one match. Contracts see a list of the keys in the order of
+/// their insertion, each as bytes with the numbers of its match and agent.
 #[derive(Debug, Drop)]
 pub struct Keys {
     seats: IndexMap<String, (u32, u16)>,
@@ -35,8 +35,8 @@ impl Keys {
         }
     }
 
-    /// Lets an agent in by a key, unless the key lets in another already: whether the key was added. The numbers are
-    /// those of the match and of the agent.
+    /// Adds a key that admits an agent, unless the key is present. Returns whether it was added. The numbers are those
+    /// of the match and the agent.
     pub fn insert(&mut self, key: String, seat: (u32, u16)) -> Result<bool, Memory>
         ensures added { IfOk result (λ added. added ≡ not (has_key (string_bytes key) self.old)) }
         ensures seats { IfOk result (λ _. self.new ≡ with_seat self.old (string_bytes key, seat)) }
@@ -49,7 +49,7 @@ impl Keys {
         Ok(true)
     }
 
-    /// The numbers of the match and of the agent that the key lets in; None if no agent has the key.
+    /// Returns the numbers of the match and the agent that a key admits, or None if the key is unknown.
     pub fn find(&self, key: &str) -> Option<(u32, u16)>
         ensures { result ≡ seat_at key.now self.now }
     {

@@ -6,7 +6,7 @@ use bhs_match::Match;
 use bhs_model::{SEED_BYTES, Text};
 use bhs_time::ScheduleKind;
 
-/// A match that can be played.
+/// A match that is ready to be played.
 #[derive(Debug, Drop)]
 pub struct Ready {
     /// The team that plays.
@@ -17,10 +17,10 @@ pub struct Ready {
     pub held: Held,
 }
 
-/// A tournament that can be played.
+/// A tournament that is ready to be played.
 #[derive(Debug, Drop)]
 pub struct Lineup {
-    /// From what the deliveries are drawn.
+    /// The seed from which the deliveries are drawn.
     pub seed: [u8; SEED_BYTES],
     /// How the turns choose whom they deliver.
     pub schedule: ScheduleKind,

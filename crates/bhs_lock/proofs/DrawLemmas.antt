@@ -23,7 +23,7 @@ use Rattle.bhs_lock.specs.Timing.{Timed, stepped, turned, told_at, event_of_turn
 use Rattle.bhs_lock.proofs.ToldLemmas.{same_play}
 use Rattle.bhs_lock.proofs.TallyLemmas.{IsHoused, IsLegalLog, legal_untold}
 
--- the event, if there is one, is no command
+-- The event, if any, is no command.
 abbrev IsNoCommand : Option Event → Type 0
 IsNoCommand None = Unit {0}
 IsNoCommand (Some (Tell agent command)) = ⊥

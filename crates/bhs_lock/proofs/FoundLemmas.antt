@@ -8,12 +8,12 @@ use Rattle.bhs_lock.specs.Settling.{Compared, IsBefore, DiffersAt, IsLeast, less
 use Rattle.bhs_lock.proofs.PlaceLemmas.{same_at_each}
 use Rattle.bhs_lock.proofs.LeastLemmas.{Precedes, Follows, precedes_tells, all_map}
 
--- they are the same at this index, if it comes before what was found
+-- Both agree at this index if it precedes the difference that was found.
 abbrev pub AgreesAt : {A : Type 0} → Option (ℕ × ℕ) → Compared A → (index : ℕ) → Type 0
 AgreesAt None one index = slice_get one.logged index ≡ slice_get one.said index
 AgreesAt (Some found) one index = Precedes one.agent index found → slice_get one.logged index ≡ slice_get one.said index
 
--- one of them is this agent's, and differs there
+-- Some comparison of this agent differs at this index.
 abbrev pub AnyDiffers : {A : Type 0} → (agent index : ℕ) → List (Compared A) → Type 0
 AnyDiffers agent index [] = ⊥
 AnyDiffers agent index (one ∷ others) = ((one.agent ≡ agent) × (slice_get one.logged index ≢ slice_get one.said index))
@@ -43,7 +43,7 @@ not_both agent index k other past before after = elim before [
   | inr h ↦ elim after [ inl g ↦ omega (arith, h.0, g) | inr g ↦ omega (arith, h.1, g.1, past) ]
 ]
 
--- where they are the same, they agree
+-- Equal entries agree.
 pub same_agrees : {A : Type 0} (best : Option (ℕ × ℕ)) (one : Compared A) (k : ℕ)
     → slice_get one.logged k ≡ slice_get one.said k → AgreesAt best one k
 same_agrees None one k same = same
@@ -61,7 +61,7 @@ still_agrees (Some best) agent (Some index) one k same = elim (precedes_tells ag
   | inr h ↦ subst (λ best. AgreesAt best one k) (sym (cond-false _ _ _ h.0)) same
 ]
 
--- nothing is claimed of the place that is found, and of those after it
+-- Agreement is claimed only before the difference that was found.
 pub found_agrees : {A : Type 0} (best : Option (ℕ × ℕ)) (agent index : ℕ) (one : Compared A) (k : ℕ) → one.agent ≡ agent
     → index ≤ k → AgreesAt (lesser best agent (Some index)) one k
 found_agrees None agent index one k its past =
@@ -92,7 +92,7 @@ first_there found (one ∷ others) agree differs = elim differs [
   | inr h ↦ inr (first_there found others agree.1 h)
 ]
 
--- where all places were compared, it is the least
+-- After all comparisons, the difference that was found is the least.
 pub least_found : {A : Type 0} (all : List (Compared A)) (best : Option (ℕ × ℕ))
     → AllByRecursion (λ one. (k : ℕ) → AgreesAt best one k) all → IsFound best all → IsLeast all best
 unfolding Precedes

@@ -12,7 +12,7 @@ use Rattle.bhs_model.specs.Runs.{State, initial, next}
 use Rattle.bhs_model.specs.Worlds.{World}
 use Rattle.bhs_model.proofs.KeptLemmas.{first_kept}
 
--- the agent of a command, if the event is one, is one of this number of agents
+-- If the event is a command, its agent's number is in range.
 abbrev IsOfAgents : (agents : ℕ) → Event → Type 0
 IsOfAgents agents (Tell agent command) = agent < agents
 IsOfAgents agents event = Unit {0}

@@ -1,4 +1,4 @@
--- The pass over the log and over the passes, in the words of the loops.
+-- Loop invariants of the pass over the log and over the receipt books.
 use Rattle.std.proofs.Common.{◌≡◌, ◌≢◌, ℕ, zero, suc, ◌+◌, ◌<◌, ◌≤◌, Bool, true, false, inl, inr, Option}
 use Rattle.std.proofs.Common.{Some, None, List, [], ◌∷◌, length, take, refl, sym, ap, ◌∙◌, subst}
 use Rattle.std.proofs.Common.{arith, get_or, length-take, nat_lt, slice_set}

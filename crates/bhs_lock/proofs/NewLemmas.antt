@@ -17,7 +17,7 @@ passes_more game quota agent passes new pass are is more =
     ∙ sym (ap (map (empty_pass game quota)) (range_more agent)
     ∙ map_more (empty_pass game quota) (range_with_len 0 agent) agent)
 
--- an element of a list with one more is one of the list, or the one more
+-- Case analysis: a member of an extended list is an old member or the new one.
 get_more : {A : Type 0} (xs : List A) (y x : A) (k : ℕ) → slice_get (xs ++ y ∷ []) k ≡ Some x
     → (slice_get xs k ≡ Some x) ⊎ ((k ≡ length xs) × (y ≡ x))
 get_more [] y x zero is = inr (refl, cc)

@@ -1,4 +1,4 @@
--- What is told of an arrival is where the agent is.
+-- The news of an arrival is the agent's position.
 use Rattle.std.proofs.Common.{◌≡◌, ℕ, zero, suc, Bool, true, false, not, Option, Some, None, List, [], ◌∷◌, ◌++◌, refl}
 use Rattle.std.proofs.Common.{sym, ap, ◌∙◌, subst}
 use Rattle.std.specs.Prelude.{slice_get, option_map, option_and_then, map, length}
@@ -26,7 +26,7 @@ use Rattle.bhs_lock.specs.Tallies.{IsLegalHistory}
 use Rattle.bhs_lock.specs.Cells.{Given, GainsArrival, IsNews}
 use Rattle.bhs_lock.specs.Arrivals.{arrival_mark, arrival_of, receipt_at, is_here, IsGivenIf, IsGiven}
 
--- an answer, if there is one, says where the agent is
+-- The answer, if any, describes the agent's position.
 abbrev IsHereIf : Option Reply → Type 0
 IsHereIf None = Unit {0}
 IsHereIf (Some reply) = is_here reply ≡ true

@@ -76,7 +76,7 @@ begun_so_far play passes log = record {
   found = tt;
 }
 
--- what is logged of all that is compared is read in the log
+-- All logged entries under comparison are read from the log.
 logged_all : (play : Play) (passes : List Passed) → AllByRecursion (λ one. one.logged ≡ heard_in one.agent play.log)
     (commands_of play passes)
 logged_all play passes =
@@ -173,7 +173,7 @@ entry_there log place one agent command inside is told =
     at_end [] ys y = refl
     at_end (x ∷ xs) ys y = at_end xs ys y
 
--- what the passes say, of all that is compared
+-- the receipts' claims, for everything under comparison
 all_say : (play : Play) (passes : List Passed) (agent index : ℕ) (entry : HeardEntry) → has_pass passes agent ≡ true
     → AllSay agent index entry passes →
     AllByRecursion (λ one. one.agent ≡ agent → slice_get one.said index ≡ Some entry) (commands_of play passes)

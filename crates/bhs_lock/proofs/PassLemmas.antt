@@ -13,7 +13,7 @@ use Rattle.bhs_lock.specs.Passes.{Passed, is_end, is_last, Ascend, AreBelow}
 use Rattle.bhs_lock.specs.Halls.{is_below, place_below, spoken}
 use Rattle.bhs_lock.proofs.PlaceLemmas.{any_push}
 
--- where the places ascend and the last one is below a place, all are
+-- If the places ascend and the last one is below a bound, then all are below it.
 pub all_below : (least : ℕ) (receipts : List Receipt) (place : ℕ) → Ascend least receipts
     → is_below receipts place ≡ true → AreBelow place receipts
 all_below least [] place order below = tt
@@ -47,7 +47,7 @@ end_spoken marks.Bye text other = refl
 end_spoken marks.Over text other = refl
 end_spoken (marks.No why) text other = refl
 
--- where an event has a place, it is this one
+-- An event with a place has this place.
 pub placed : (b : Bool) (n place : ℕ) → Some place ≡ (if b then Some n else None) → place ≡ n
 placed true n place is = cc
 placed false n place is = absurd cc

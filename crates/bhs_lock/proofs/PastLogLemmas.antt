@@ -22,7 +22,7 @@ use Rattle.bhs_lock.proofs.FoundLemmas.{AgreesAt, AnyDiffers, IsFound, still_agr
 use Rattle.bhs_lock.proofs.FoundLemmas.{found_more, least_found}
 use Rattle.bhs_lock.proofs.OnePassLemmas.{AgreeSoFar, IsSoFar, all_joined, all_right, any_left}
 
--- the log was looked through, and the passes up to this one
+-- The loop has passed over the log and over the passes up to this one.
 pub record IsEnding (play : Play) (passes : List Passed) (heard : List ℕ) (count : ℕ)
     (best : Option (ℕ × ℕ)) : Type 0 where
   pub ends : (agent : ℕ) → get_or heard agent 0 ≡ length (heard_in agent play.log)

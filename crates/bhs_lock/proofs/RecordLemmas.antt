@@ -26,7 +26,7 @@ use Rattle.bhs_lock.proofs.FitLemmas.{HeardCommand, heard_command, reply_heard}
 use Rattle.bhs_lock.proofs.PassLemmas.{all_below}
 use Rattle.bhs_lock.proofs.TallyLemmas.{HasAgreed, has_agreed}
 
--- ---- a command that is heard is not answered as one that is not
+-- ---- the reply to a command that is heard differs from a refusal
 
 sight_heard : (limit : ℕ) (command : Command) (glance : Glance) → is_unheard (sight_answer limit command glance) ≡ false
 sight_heard limit (Write expect put) (Saw (Seen ports came last_write)) =
@@ -61,7 +61,7 @@ answer_heard limit Present ports (Write expect put) glance = sight_heard limit (
 answer_heard limit Ended ports (Write expect put) glance = sight_heard limit (Write expect put) glance
 answer_heard limit now ports command glance = grind arith
 
--- ---- why a command is not heard, by the numbers
+-- ---- the reason for a refusal, computed from the tally
 
 not_none : (n used : ℕ) → n ≡ used + 1 → (n == 0) ≡ false
 not_none n used is = elim (eqb_tells n 0) [ inl h ↦ absurd (omega (arith, h.1, is)) | inr h ↦ h.0 ]
@@ -81,7 +81,7 @@ spent_means : (quota used n : ℕ) (ended : Bool) (b : Bool) (why : Option Why) 
 spent_means quota used n ended b why some going full = cond-false _ _ _ some ∙ cond-false _ _ _ going
     ∙ cond-true _ _ _ full
 
--- the refusal of the definitions is that of the numbers
+-- The tally gives the same refusal as the definitions.
 pub refusal_same : (quota : ℕ) (now : Standing) (used : ℕ) (tally : Tally) (command : Command)
     → tally.ended ≡ has_ended now → Fits quota now used tally.commands
     → accepts now (nat_lt used quota) command ≡ false → refusal_by quota tally command ≡ Some (refusal now command)
@@ -139,7 +139,7 @@ refusal_same quota Ended used tally Bad ended fits none = cond-false _ _ _ (some
     ∙ cond-true _ _ _ ended
 refusal_same quota now used tally command ended fits none = grind arith
 
--- what is heard is not refused by the numbers
+-- The tally does not refuse a command that is heard.
 
 has_room : (n used quota : ℕ) → n ≡ used + 1 → nat_lt used quota ≡ true → (n - 1 == quota) ≡ false
 has_room n used quota is room =
@@ -184,7 +184,7 @@ free_none quota Away used tally Bad ended fits free =
     free_with_room quota used tally.commands tally.ended fits.0 ended free
 free_none quota now used tally command ended fits free = grind arith
 
--- ---- what is said of a command
+-- ---- the receipt of a command
 
 by_known : (known closed hears : Bool) (answer : Option Reply) (why : Why) → known ≡ true
     → (known && (not closed && hears)) ≡ false →
@@ -200,7 +200,7 @@ by_known true false false answer why known none = inr (refl, refl)
 some_same : {A : Type 0} (x y : A) → Some x ≡ Some y → x ≡ y
 some_same x y is = cc
 
--- the refusals are not replies to what is heard
+-- A refusal is no reply to a command that is heard.
 refused_unheard : (now : Standing) (command : Command) → is_unheard (No (refusal now command)) ≡ true
 refused_unheard now command = grind arith
 

@@ -1,4 +1,4 @@
--- There is room in a pass for each command that is heard.
+-- A pass has room for the receipt of each command that is heard.
 use Rattle.std.proofs.Common.{◌≡◌, ℕ, ◌+◌, ◌<◌, ◌≤◌, Bool, true, false, Some, None, length, refl, sym, ap, ◌∙◌}
 use Rattle.std.proofs.Common.{arith, nat_lt, if◌then◌else◌, Result, Ok, Err, OnErr}
 use Rattle.bhs_model.specs.declared.commands.Command.{Command}
@@ -31,7 +31,7 @@ few_heard quota Ended used heard (Accuse port) free fits = absurd cc
 few_heard quota Ended used heard Leave free fits = absurd cc
 few_heard quota Ended used heard Bad free fits = absurd cc
 
--- there is room for a command that is heard
+-- There is room for the receipt of a command that is heard.
 pub room_to_hear : (play : Play) (agent : ℕ) (command : Command) → AreFit play
     → IsHeard play agent command → heard_count agent play.log < play.setup.quota + 2
 room_to_hear play agent command fit is =
@@ -53,7 +53,7 @@ kept_placed : (b : Bool) (n place : ℕ) → Some place ≡ (if b then Some n el
 kept_placed true n place is = refl
 kept_placed false n place is = absurd cc
 
--- so there is room left for a command that has a place
+-- Hence there is room left for a command with a place in the log.
 pub room_left : (play : Play) (inside given : Passed) (command : Command) (place room : ℕ) → inside ≡ given
     → (IsHeard play given.agent command → length given.receipts < given.quota + 2)
     → Some place ≡ (if keeps_next (world_in play) play.log (Tell inside.agent command) then Some (length play.log)

@@ -1,4 +1,4 @@
--- The text in a reply is the one that the agent sees before its command.
+-- The text in a reply is the text that the agent faces before its command.
 use Rattle.std.proofs.Common.{arith, ◌≡◌, ℕ, Bool, true, Option, Some, None, List, length, refl, sym, ap, ◌∙◌, subst}
 use Rattle.std.proofs.Common.{nat_lt}
 use Rattle.std.proofs.Common.{if◌then◌else◌}
@@ -25,7 +25,7 @@ use Rattle.bhs_world.proofs.ListLemmas.{changed_same}
 use Rattle.bhs_match.specs.Matches.{Play, world_in, state_of, shown_at}
 use Rattle.bhs_lock.specs.Halls.{spoken}
 
--- the text of the reply, if it has one, is this
+-- The text of the reply, if it has one, is this text.
 abbrev pub Shows : (shown : List ℕ) → Reply → Type 0
 Shows shown (Here ports came board) = board ≡ shown
 Shows shown (Changed board) = board ≡ shown
@@ -52,7 +52,7 @@ answer_shows world state (At node came) room ports (Accuse port) free =
     cond_both (nat_lt port ports) Noted (No Port) (Shows (shown_at world state (At node came))) (λ e. tt) (λ e. tt)
 answer_shows world state position room ports command free = grind arith
 
--- the same of the reply, whether the command is heard or not
+-- The same holds for the reply to a command that is heard or refused.
 reply_shows : (world : World) (state : State) (agent : ℕ) (command : Command) → AllLegal world state
     → ShowsIf (shown_at world state (state.position agent)) (reply_to_command world state agent command)
 reply_shows world state agent command legal =

@@ -10,13 +10,13 @@ use Rattle.bhs_lock.specs.Arrivals.{receipt_at}
 use Rattle.bhs_lock.specs.Comparing.{IsFirstDifference}
 use Rattle.bhs_lock.proofs.PlaceLemmas.{get_take, same_at_each}
 
--- what is read at a place is found there
+-- The entry that is read at an index is the one stored there.
 said_at : {A : Type 0} (said : List A) (index : ℕ) (one : A) → index < length said → one ≡ get_or said index one
     → slice_get (map Some said) index ≡ Some (Some one)
 said_at said index one inside is = slice_get-map (λ (x : _). Some x) said index
     ∙ ap (option_map (λ (x : _). Some x)) (slice_get_read said (length said) index one refl inside is)
 
--- one more is as it is said
+-- extending both lists preserves their agreement
 one_more : {A : Type 0} (logged : List (Option A)) (said : List A) (index : ℕ) (one : A)
     → ((k : ℕ) → k < index → slice_get logged k ≡ slice_get (map Some said) k) →
     index < length said → one ≡ get_or said index one → slice_get logged index ≡ Some (Some one) → (k : ℕ)
@@ -84,7 +84,7 @@ all_in {A} logged target said items index same are before past =
     subst (λ (logged : List (Option A)). take (length said) logged ≡ map Some said) same
     (all_there logged said index before (subst (λ (xs : List A). length xs ≤ index) are past))
 
--- the arrivals of an agent, as they are read
+-- an agent's arrivals as the loop reads them
 pub read_as : (log log' : List Kept) (places : List ℕ) (agent agent' : ℕ) → log ≡ log' → places ≡ arrivals agent log'
     → agent ≡ agent' → map (receipt_at log) places ≡ map (receipt_at log') (arrivals agent' log')
 read_as log log' places agent agent' same are is =

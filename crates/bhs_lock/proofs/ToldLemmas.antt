@@ -39,7 +39,7 @@ spoken_silent log marks.Bye text silent = refl
 spoken_silent log marks.Over text silent = refl
 spoken_silent log (marks.No why) text silent = refl
 
--- the mark, with the text where there is one, is read as the reply
+-- The mark, together with its text if any, stands for this reply.
 pub spoken_is : (play play' : Play) (agent : ℕ) (command : Command) (given : Option Mark) (mark : Mark)
     (text : List ℕ) →
     read_if play'.log given ≡ reply (world_in play) (state_of play) (Tell agent command) → given ≡ Some mark →
@@ -79,7 +79,7 @@ told_is play play' given pass pass' command place answered mark spare said is_pa
       kept = gain;
     })
 
--- a pass whose lists are what they were
+-- a pass with unchanged lists
 pub same_lists : (pass : Passed) (receipts : List Receipt) (commands : List Command) → receipts ≡ pass.receipts
     → commands ≡ pass.commands → record pass { receipts = receipts; commands = commands } ≡ pass
 same_lists pass receipts commands r k =

@@ -62,7 +62,7 @@ long_stamped events turn old turns count (inr more) = elim (leb_tells (suc (leng
   | inr h ↦ absurd (omega (arith, count, more, h.1))
 ]
 
--- each event has its turn after an event too
+-- After an event, each event of the log still has its turn.
 pub have_turns : (play play' : Play) (turns turns' : List ℕ) (room room' turn : ℕ) → play'.setup ≡ play.setup →
     GrowsByOne play.log play'.log → turns' ≡ stamped_to (length play'.log) turn turns → room' ≡ room →
     HaveTurns play (length turns) room → HaveTurns play' (length turns') room'

@@ -55,7 +55,7 @@ setup_tells one two =
       ),
     )
 
--- whether a match is of the world, from its parts
+-- whether a match has the given network and setup, by comparing the parts
 pub world_tells : (play : Play) (net own : Network) (setup its : Setup) (b r : Bool) → own ≡ play.net → its ≡ play.setup
     → b ≡ true → Decides b (own ≡ net) → r ≡ same_setups its setup →
     Decides r (IsOfWorld net setup play)

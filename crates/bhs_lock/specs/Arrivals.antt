@@ -1,4 +1,4 @@
--- An agent's arrivals, one after the other.
+-- An agent's arrivals in order.
 use Rattle.std.specs.Prelude.{ℕ, ◌≡◌, Bool, true, false, Option, Some, None, List, [], ◌∷◌, ◌++◌, length, slice_get}
 use Rattle.std.specs.Prelude.{option_and_then, option_map}
 use Rattle.bhs_model.specs.declared.events.Event.{Event}

@@ -40,9 +40,9 @@ pub record IsOverFor (pass : Passed) (play : Play) : Type 0 where
   pub closed : (state_of play).closed ≡ true
   pub all_told : arrival_of play pass.agent (length pass.arrivals) ≡ None
 
--- What news is: an arrival, which the pass gains; or that the match is over, which changes nothing. That it is over is
--- said of a match that was seen closed when the pass had been told of all arrivals of its agent, and to a pass of
--- another match.
+-- The meaning of news: an arrival, whose receipt the pass gets; or the end of the match, which changes nothing. The end
+-- is reported when the match was seen closed and the pass had all arrivals of its agent; and to a pass of another
+-- match.
 abbrev pub IsNews : Given → Passed → Reply → Passed → Type 0
 IsNews given pass (Here ports came board) pass' = GainsArrival pass (Here ports came board) pass'
 IsNews given pass Over pass' =

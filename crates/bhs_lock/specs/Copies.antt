@@ -1,4 +1,4 @@
--- What is copied out of a log, and the turns of its events.
+-- Copying events from a log, together with their turns.
 use Rattle.std.specs.Prelude.{ℕ, ◌≡◌, List, length, map, take, drop}
 use Rattle.bhs_model.specs.declared.marks.Kept.{Kept}
 use Rattle.bhs_model.specs.Marks.{read_if}

@@ -1,4 +1,4 @@
--- What it says that a match settles with the passes, and why one does not.
+-- The meaning of settling: a match agrees with its passes, and the disputes that prevent it.
 use Rattle.std.specs.Prelude.{ℕ, ◌<◌, ◌≡◌, true, false, Option, List}
 use Rattle.std.specs.Prelude.{Vec}
 use Rattle.std.specs.declared.alloc.Global.{Global}
@@ -24,9 +24,9 @@ pub record Account : Type 0 where
 abbrev pub IsWhole : Account → Type 0
 IsWhole account = NoneMissing account.given.setup.agents account.left account.passes
 
--- the passes tell what stands in the log: each has the heard commands of its agent, each once, in order, with places
--- and replies, and its first arrivals, with places and replies; an agent without a pass has no heard command. The match
--- is of the world that was given, and has ended.
+-- The receipts agree with the log: each pass has the heard commands of its agent, once each and in order, with places
+-- and replies; and its first arrivals, with places and replies; an agent without a pass has no heard command. The match
+-- has the given network and setup, and has ended.
 pub record AreInAccord (given : Given) (play : Play) (passes : List Passed) : Type 0 where
   pub world : IsOfWorld given.net given.setup play
   pub commands : Agree (commands_of play passes)
@@ -54,7 +54,7 @@ pub record HasDiffered (account : Account) (agent index : ℕ) : Type 0 where
   pub world : IsOfWorld account.given.net account.given.setup account.play
   pub least : IsLeastDifference (commands_of account.play account.passes) agent index
 
--- this is the least agent, and its least index, at which an arrival of a pass is not that of its agent
+-- The least agent, and for it the least index, at which an arrival in a pass differs from the agent's arrival.
 pub record HasStrayed (account : Account) (agent index : ℕ) : Type 0 where
   pub whole : IsWhole account
   pub world : IsOfWorld account.given.net account.given.setup account.play

@@ -1,4 +1,4 @@
--- What stands under the lock, and what a command makes of it and of a pass.
+-- The state under the lock, and the effect of a command on it and on a pass.
 use Rattle.std.specs.Prelude.{ℕ, ◌≡◌, Bool, true, false, ◌&&◌, not, Option, Some, None, List, [], ◌==◌, nat_lt}
 use Rattle.std.specs.Prelude.{if◌then◌else◌, length, slice_get, ◌-◌, replicate, is_some}
 use Rattle.bhs_model.specs.declared.commands.Command.{Command}
@@ -46,7 +46,7 @@ same_bool a b = if a then b else not b
 abbrev pub same_tally : (one two : Tally) → Bool
 same_tally one two = (one.commands == two.commands) && same_bool one.ended two.ended
 
--- whether this receipt's place is below this length, if there is a receipt
+-- whether the receipt, if there is one, has a place below this length
 abbrev pub place_below : Option Receipt → (length : ℕ) → Bool
 place_below (Some receipt) length = nat_lt receipt.place length
 place_below None length = true
@@ -78,7 +78,7 @@ spoken (marks.No why) text = replies.No why
 abbrev pub IsOfBoard : Play → (agent : ℕ) → Command → Type 0
 IsOfBoard play agent command = is_of_board_if (reply (world_in play) (state_of play) (Tell agent command)) ≡ true
 
--- whether this command, if it were told now, would be heard, and so would stand in the log
+-- The command would be heard, and thus logged, at this moment.
 abbrev pub IsHeard : Play → (agent : ℕ) → Command → Type 0
 IsHeard play agent command = keeps_next (world_in play) play.log (Tell agent command) ≡ true
 

@@ -7,7 +7,7 @@ use Rattle.bhs_lock.specs.declared.kept_command.Form.{Form}
 use Rattle.bhs_lock.specs.declared.kept_command.Form.TheVariants as forms
 use Rattle.bhs_lock.specs.declared.kept_command.WriteTexts.{WriteTexts}
 
--- a Write of these texts, or of empty ones
+-- a Write with these texts; without texts, with empty ones
 abbrev pub write_of : Option (Box WriteTexts) → Command
 write_of (Some texts) = commands.Write texts.value.expect texts.value.put
 write_of None = commands.Write [] []

@@ -10,8 +10,8 @@ use Rattle.bhs_world.specs.Tables.{is_of_board}
 use Rattle.bhs_lock.specs.declared.model.Receipt.{Receipt}
 use Rattle.bhs_lock.specs.declared.model.Tally.{Tally}
 
--- the numbers of the match, the quota and the agent that it is of; the receipts of its heard commands, with the
--- commands; and the receipts of its arrivals
+-- The receipt book of an agent: the numbers of its match and of the agent, the quota, the receipts of its heard
+-- commands together with the commands, and the receipts of its arrivals.
 pub record Passed : Type 0 where
   pub game : ℕ
   pub quota : ℕ
@@ -31,11 +31,11 @@ empty_pass game quota agent = record {
   arrivals = [];
 }
 
--- one for each agent, in order
+-- a pass for each agent, in order
 abbrev pub passes_of : (game quota agents : ℕ) → List Passed
 passes_of game quota agents = map (empty_pass game quota) (range_with_len 0 agents)
 
--- whether an agent that is answered so has ended
+-- whether the reply shows that the agent has ended
 abbrev pub is_end : Reply → Bool
 is_end Noted = true
 is_end Bye = true
@@ -48,12 +48,12 @@ is_last receipt = is_end receipt.reply
 abbrev pub tally_in : List Receipt → Tally
 tally_in receipts = record { commands = length receipts; ended = list_any is_last receipts }
 
--- the places of these receipts ascend, from this one on
+-- The places of these receipts ascend, starting from this one.
 abbrev pub Ascend : (least : ℕ) → List Receipt → Type 0
 Ascend least [] = Unit {0}
 Ascend least (receipt ∷ receipts) = (least ≤ receipt.place) × Ascend (receipt.place + 1) receipts
 
--- each receipt's place is below this one
+-- All places of these receipts are below this one.
 abbrev pub AreBelow : (place : ℕ) → List Receipt → Type 0
 AreBelow place receipts = AllByRecursion (λ receipt. receipt.place < place) receipts
 
@@ -67,7 +67,7 @@ abbrev pub kept_command : Command → Reply → Command
 kept_command (Write expect put) reply = if is_of_board reply then Write expect put else kind_of (Write expect put)
 kept_command command reply = command
 
--- the pass after a command that was answered so; where it has no place in the log it is as it was
+-- the pass after a command with this reply; unchanged if the command has no place in the log
 abbrev pub gained : Passed → Command → (place : Option ℕ) → Reply → Passed
 gained pass command (Some place) reply = record pass {
   receipts = pass.receipts ++ record { place = place; reply = reply } ∷ [];

@@ -11,7 +11,7 @@ use Rattle.bhs_lock.specs.Halls.{Housed, agrees, is_below, IsOfBoard}
 use Rattle.bhs_lock.specs.Tallies.{IsLegalHistory}
 use Rattle.bhs_lock.specs.Passes.{Passed, AreBelow, tally_in, gained}
 
--- whether a command that is answered so was not heard
+-- whether the reply is a refusal
 abbrev pub is_unheard : Reply → Bool
 is_unheard Over = true
 is_unheard (No Agent) = true
@@ -21,13 +21,13 @@ is_unheard (No Ended) = true
 is_unheard (No Spent) = true
 is_unheard reply = false
 
--- why a command of an agent that has entered and not ended is not heard: the quota is used up, and the command is no
--- Leave
+-- the reason to refuse a command of an agent that has entered and not ended: its quota is used up, and the command is
+-- no Leave
 abbrev pub spent_by : (quota heard : ℕ) → Command → Option Why
 spent_by quota heard Leave = None
 spent_by quota heard command = if heard - 1 == quota then Some Spent else None
 
--- why a command is not heard, by the numbers of its agent and the quota; None if it is
+-- the reason to refuse a command, computed from its agent's tally and the quota; None if the command is heard
 abbrev pub refusal_by : (quota : ℕ) → Tally → Command → Option Why
 refusal_by quota tally Enter = if tally.commands == 0 then None else Some Twice
 refusal_by quota tally command =
@@ -43,23 +43,22 @@ pub record IsRecorded (pass : Passed) (command : Command) (place : ℕ) (said : 
   pub free : refusal_by pass.quota (tally_in pass.receipts) command ≡ None
   pub heard : is_unheard said ≡ false
 
--- a command that was not heard: the pass is as it was, and the reply is that the pass is no agent's, that the match is
--- over, or the refusal that the pass's own numbers give
+-- A command that was not heard: the pass is unchanged. The reply says that the pass belongs to no agent, that the match
+-- is over, or repeats the refusal that the pass's own tally gives.
 pub record IsUnrecorded (pass : Passed) (command : Command) (said : Reply) (pass' : Passed) : Type 0 where
   pub same : pass' ≡ pass
   pub unheard : is_unheard said ≡ true
   pub why : (said ≡ No Agent) ⊎ ((said ≡ Over)
       ⊎ (Some said ≡ option_map No (refusal_by pass.quota (tally_in pass.receipts) command)))
 
--- what a pass says of a command, by whether it has a place in the log
+-- the pass after a command, with or without a place in the log
 abbrev pub IsSubmitted : Passed → Command → (place : Option ℕ) → Reply → Passed → Type 0
 IsSubmitted pass command (Some place) said pass' = IsRecorded pass command place said pass'
 IsSubmitted pass command None said pass' = IsUnrecorded pass command said pass'
 
--- A command for which memory may be wanted: in some legal history with which the pass agrees, the reply to it says
--- what a whiteboard shows, or that it was written. A Depart, an Accuse, a Leave and a Bad have no such reply, and
--- neither has a command that the pass's own numbers refuse. That the match is not over, `Hall::told` says of the hall
--- that it has.
+-- A command that may need memory: in some legal history that agrees with the pass, its reply contains a whiteboard or
+-- confirms a write. The commands Depart, Accuse, Leave and Bad have no such reply, nor does a command that the pass's
+-- own tally refuses. That the match is not over is a clause of `Hall::told`.
 pub record MayWantMemory (pass : Passed) (command : Command) : Type 0 where
   pub hall : Housed
   pub legal : IsLegalHistory hall.play hall.tallies

@@ -10,14 +10,14 @@ abbrev pub AllSay : (agent index : ℕ) → HeardEntry → List Passed → Type 
 AllSay agent index entry passes = AllByRecursion (λ pass. pass.agent ≡ agent
     → slice_get (receipted pass.receipts pass.commands) index ≡ Some entry) passes
 
--- some pass of the agent has not
+-- Some pass of the agent lacks the entry.
 abbrev pub AnyOther : (agent index : ℕ) → HeardEntry → List Passed → Type 0
 AnyOther agent index entry [] = ⊥
 AnyOther agent index entry (pass ∷ passes) =
     ((pass.agent ≡ agent) × (slice_get (receipted pass.receipts pass.commands) index ≢ Some entry))
     ⊎ AnyOther agent index entry passes
 
--- whether the agent has a pass, and each has this command at this index
+-- whether the agent has a pass, and all its passes have this command at this index
 abbrev pub IsSaid : Bool → List Passed → (agent index : ℕ) → HeardEntry → Type 0
 IsSaid true passes agent index entry = (has_pass passes agent ≡ true) × AllSay agent index entry passes
 IsSaid false passes agent index entry = (has_pass passes agent ≡ false) ⊎ AnyOther agent index entry passes

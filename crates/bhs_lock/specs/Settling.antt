@@ -10,7 +10,7 @@ use Rattle.bhs_lock.specs.Passes.{Passed}
 use Rattle.bhs_lock.specs.Arrivals.{receipt_at}
 use Rattle.bhs_lock.specs.Comparing.{HeardEntry, heard_in, receipted, IsFirstDifference}
 
--- what the log has for an agent, and what is said of it
+-- an entry of the log for an agent, and the entry in its pass
 pub record Compared (A : Type 0) : Type 0 where
   pub agent : ℕ
   pub logged : List A
@@ -25,7 +25,7 @@ pub record IsBefore {A : Type 0} (agent index : ℕ) (one : Compared A) : Type 0
   pub lesser : one.agent < agent → one.logged ≡ one.said
   pub same : one.agent ≡ agent → (k : ℕ) → k < index → slice_get one.logged k ≡ slice_get one.said k
 
--- one of them is this agent's, and differs there first
+-- Some comparison of this agent differs first at this index.
 abbrev pub DiffersAt : {A : Type 0} → (agent index : ℕ) → List (Compared A) → Type 0
 DiffersAt agent index [] = ⊥
 DiffersAt agent index (one ∷ others) = ((one.agent ≡ agent) × IsFirstDifference one.logged one.said index)
@@ -36,7 +36,7 @@ pub record IsLeastDifference {A : Type 0} (all : List (Compared A)) (agent index
   pub there : DiffersAt agent index all
   pub before : AllByRecursion (IsBefore agent index) all
 
--- the least of them, if any differs
+-- the least difference, if there is any
 abbrev pub IsLeast : {A : Type 0} → List (Compared A) → Option (ℕ × ℕ) → Type 0
 IsLeast all None = Agree all
 IsLeast all (Some found) = IsLeastDifference all found.0 found.1
@@ -46,13 +46,13 @@ abbrev pub precedes : (agent index : ℕ) → ℕ × ℕ → Bool
 precedes agent index other = if nat_lt agent other.0 then true
     else (if agent == other.0 then nat_lt index other.1 else false)
 
--- the lesser of what was found and of an index of an agent, if there are such
+-- the lesser of a difference and of an agent's index, where either may be absent
 abbrev pub lesser : Option (ℕ × ℕ) → (agent : ℕ) → Option ℕ → Option (ℕ × ℕ)
 lesser best agent None = best
 lesser None agent (Some index) = Some (agent, index)
 lesser (Some best) agent (Some index) = if precedes agent index best then Some (agent, index) else Some best
 
--- whether one of these passes is the agent's
+-- whether one of these passes belongs to the agent
 abbrev pub has_pass : List Passed → (agent : ℕ) → Bool
 has_pass passes agent = list_any (λ pass. pass.agent == agent) passes
 
@@ -72,7 +72,7 @@ told_by_none play agent = record { agent = agent; logged = heard_in agent play.l
 abbrev pub without_pass : List Passed → (agents : ℕ) → List ℕ
 without_pass passes agents = filter (λ agent. not (has_pass passes agent)) (range_with_len 0 agents)
 
--- all that is compared of commands: each pass, and each agent without one
+-- the comparisons of commands: each pass, and each agent without a pass
 abbrev pub commands_of : Play → List Passed → List (Compared HeardEntry)
 commands_of play passes = map (told_by play) passes ++ map (told_by_none play) (without_pass passes play.setup.agents)
 
@@ -84,7 +84,7 @@ arrived_by play pass = record {
   said = map Some pass.arrivals;
 }
 
--- all that is compared of arrivals
+-- the comparisons of arrivals
 abbrev pub arrivals_of : Play → List Passed → List (Compared (Option Receipt))
 arrivals_of play passes = map (arrived_by play) passes
 
@@ -108,7 +108,7 @@ pub record IsLeastMissing (left : List (Option Passed)) (passes : List Passed) (
   pub there : is_missing left passes agent ≡ true
   pub before : (other : ℕ) → other < agent → is_missing left passes other ≡ false
 
--- the match is of the world that was given
+-- The match has the given network and setup.
 pub record IsOfWorld (net : Network) (setup : Setup) (play : Play) : Type 0 where
   pub same_net : play.net ≡ net
   pub same_setup : play.setup ≡ setup

@@ -25,13 +25,13 @@ pub record Timed : Type 0 where
 abbrev pub at_first : (agents : ℕ) → Timed
 at_first agents = record { turn = 0; departed = replicate agents 0 }
 
--- after an agent took a step that was not on a link
+-- the times after an agent's step at a node
 abbrev pub stepped : (agent : ℕ) → Timed → Timed
 stepped agent timed = record timed {
   departed = if nat_lt agent (length timed.departed) then slice_set timed.departed agent timed.turn else timed.departed;
 }
 
--- after an agent that was on a link, or not, said a command that was heard
+-- the times after a command that was heard, from an agent on a link or elsewhere
 abbrev pub told_at : (was_away : Bool) → (agent : ℕ) → Timed → Timed
 told_at was_away agent timed = if was_away then timed else stepped agent timed
 
@@ -39,7 +39,7 @@ abbrev pub stepped_if : Option ℕ → Timed → Timed
 stepped_if None timed = timed
 stepped_if (Some agent) timed = stepped agent timed
 
--- after a turn, with the agent that arrived in it, if one did. Turns are counted to 2 ^ 32 - 1.
+-- The times after a turn, with the agent that arrived in it, if any. Turns are counted up to 2 ^ 32 - 1.
 abbrev pub turned : Option ℕ → Timed → Timed
 turned arrived timed =
     record (stepped_if arrived timed) { turn = min ((stepped_if arrived timed).turn + 1) (2 ^ 32 - 1) }
@@ -49,18 +49,18 @@ turned arrived timed =
 abbrev pub stamped_to : (events turn : ℕ) → List ℕ → List ℕ
 stamped_to events turn turns = if nat_lt (length turns) events then turns ++ turn ∷ [] else turns
 
--- each event of the log has its turn, and there is room for the turns of all that may still be kept
+-- Each event of the log has its turn, and there is room for the turns of all further events.
 pub record HaveTurns (play : Play) (turns room : ℕ) : Type 0 where
   pub count : turns ≡ length play.log
   pub room_for : most_kept play.setup.agents play.setup.quota ≤ room
 
--- the agent that arrived by what was drawn, if one did, where the match then stands like this
+-- the agent that a draw delivers, if any, when the match is in this state
 abbrev pub arrived_by : State → Drawn → Option ℕ
 arrived_by state (Delivered agent) = if is_bound (state.position agent) then None else Some agent
 arrived_by state drawn = None
 
--- The event of a turn, if it has one. Under the adaptive schedule the dealer's next word draws it out of the pool.
--- Under the oblivious one it is the delivery of the schedule by the dealer's words.
+-- The event of a turn, if it has one. Under the adaptive schedule the dealer's next word draws it from the pool; under
+-- the oblivious schedule it is the delivery that the dealer's words determine.
 abbrev pub event_of_turn : ScheduleKind → Held → Play → Timed → ChaCha → Option Event
 event_of_turn Adaptive held play timed dealer = draw held (state_of play) (next_word dealer)
 event_of_turn (Oblivious law) held play timed dealer =

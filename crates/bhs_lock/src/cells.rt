@@ -38,7 +38,7 @@ pub struct Cell {
     game: u32,
     hall: Mutex<Hall>,
     unclaimed: Mutex<Unclaimed>,
-    /// One for each agent: it is told of the agent's arrivals, and of the close.
+    /// A condition variable for each agent, notified of the agent's arrivals and of the close.
     news: Vec<Condvar>,
     held: Held,
     schedule: ScheduleKind,
@@ -162,8 +162,8 @@ impl Cell {
         answer
     }
 
-    /// Waits until the agent of a pass has an arrival that the pass has not, which the pass then gains, or until the
-    /// match is over and it has none. A pass of another match is answered that the match is over.
+    /// Waits for the next arrival of a pass's agent, whose receipt the pass gets, or until the match is over and no
+    /// arrival is left. A pass of another match gets the reply that the match is over.
     pub fn news<R: Wait>(&self, rt: &R, pass: &mut Pass) -> Result<Reply, Memory>
         ensures news { IfOk result (λ said. IsNews self.now pass.old said pass.new) }
         ensures failed { OnErr result (pass.new ≡ pass.old) }
@@ -192,8 +192,8 @@ impl Cell {
         unreachable!()
     }
 
-    // Whether what stands under the lock is the match of this cell. It always is, but a proof knows no more of it than
-    // the type `Hall` says. So those who ask for the world of a match that they saw compare it.
+    // Returns whether the state under the lock belongs to this cell's match. It always does, but a proof knows only the
+    // type `Hall` of it; callers that need the match's network and setup compare them by this function.
     fn is_of(&self, hall: &Hall) -> bool
         ensures { IsTrue result ↔ IsOfWorld self.now.net self.now.setup hall.now.play }
     {
@@ -230,8 +230,7 @@ impl Cell {
         hall.state().is_decided() && self.is_of(&hall)
     }
 
-    /// Copies of the kept events from this place of the log on, `most` of them at the most. The lock is held only while
-    /// they are copied.
+    /// Copies at most `most` kept events from this place of the log on. Holds the lock only while copying.
     pub fn copies<R: Wait>(
         &self,
         rt: &R,

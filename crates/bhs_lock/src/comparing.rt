@@ -1,4 +1,4 @@
-//! Comparing what a pass has with what the log has.
+//! Comparisons of a pass with the log.
 
 ghost use Rattle.std.specs.Prelude.{◌≡◌, ◌↔◌, IsTrue, Some};
 ghost use Rattle.bhs_model.specs.Marks.{read, read_if};
@@ -24,7 +24,7 @@ pub(crate) fn is_entry(
         && kept.is_kept_of(command, &receipt.reply)
 }
 
-// Whether a mark, if there is one, is read as this reply.
+// Returns whether a mark, if any, stands for this reply.
 fn is_reply(log: &[Kept], mark: &Option<Mark>, reply: &Reply) -> bool
     ensures { IsTrue result ↔ (read_if log.now mark.now ≡ Some reply.now) }
 {

@@ -39,7 +39,7 @@ pub(crate) fn turns_from(
     Ok(Vec::from_slice(alloc, few(turns, from, most))?)
 }
 
-// What stands from this place on, `most` of it at the most.
+// Returns at most `most` items from this place on.
 fn few<T>(all: &[T], from: usize, most: usize) -> &[T]
     ensures { result.now ≡ take most (drop from all.now) }
 {

@@ -13,7 +13,7 @@ use bhs_model::{Command, Event, Kept, MAX_AGENTS, Mark};
 /// An agent, and an index into its commands or arrivals.
 pub(crate) type AgentIndex = (u16, usize);
 
-// The lesser of what was found and of an index of an agent, if there are such.
+// Returns the lesser of a difference and of an agent's index, where either may be absent.
 fn lesser(best: Option<AgentIndex>, agent: u16, index: Option<usize>) -> Option<AgentIndex>
     ensures { result ≡ lesser best agent index }
 {
@@ -28,7 +28,7 @@ fn lesser(best: Option<AgentIndex>, agent: u16, index: Option<usize>) -> Option<
     }
 }
 
-// Whether one of these passes is the agent's.
+// Returns whether one of these passes belongs to the agent.
 fn has_pass(passes: &[Pass], agent: u16) -> bool
     ensures { result ≡ has_pass passes.now agent }
 {
@@ -89,7 +89,7 @@ pub(crate) fn first_difference(play: &Match, passes: &[Pass]) -> Option<AgentInd
     best
 }
 
-// Whether an agent has a pass, and each of its passes has a command of the log at this index.
+// Returns whether an agent has a pass and all its passes have the log's command at this index.
 fn is_said(
     passes: &[Pass],
     agent: u16,

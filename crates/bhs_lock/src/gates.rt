@@ -1,7 +1,7 @@
-//! What is told of each command, before and under the lock.
+//! Hooks on each command, before and under the lock.
 
-/// Is called before, under and after the lock of a match, for each command that is submitted. Tests make threads wait
-/// for each other by it.
+/// Hooks that are called before, under and after a match's lock for each submitted command. Tests use them to make
+/// threads wait for each other.
 pub trait Gate {
     /// Before the lock of match `game` is asked for, for a command of `agent`.
     fn asked(&self, game: u32, agent: u16);

@@ -60,8 +60,8 @@ impl Model for Hall {
 }
 
 impl Hall {
-    /// The hall of a match with an empty log, and one pass for each agent, in order, with room for all that it can be
-    /// told.
+    /// Creates the state of a match with an empty log, and a pass for each agent, in order, with room for all its
+    /// receipts.
     pub fn new(alloc: Global, game: u32, play: Match) -> Result<(Hall, Vec<Pass>), Memory>
         requires { play.log ≡ [] }
         ensures hall { IfOk result (λ made. made.0 ≡ empty_hall game play) }
@@ -134,7 +134,7 @@ impl Hall {
         }
     }
 
-    // Whether a pass is of this match, and agrees with what stands in its log.
+    // Returns whether a pass belongs to this match and agrees with its log.
     fn agrees(&self, pass: &Pass) -> bool
         ensures { result ≡ agrees self.now pass.now }
     {
@@ -282,7 +282,7 @@ fn same_tally(one: Tally, two: Tally) -> bool
     one.commands == two.commands && (if one.ended { two.ended } else { !two.ended })
 }
 
-// Whether the place of the last one, if there is one, is below this length.
+// Returns whether the last receipt, if any, has a place below this length.
 fn is_below(receipts: &[Receipt], length: usize) -> bool
     ensures { result ≡ is_below receipts.now length }
 {

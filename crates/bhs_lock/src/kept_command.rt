@@ -25,7 +25,7 @@ pub(crate) struct WriteTexts {
     put: Text,
 }
 
-/// What is kept of a command.
+/// The stored form of a command.
 #[derive(Debug, Drop)]
 pub(crate) enum Form {
     Enter,
@@ -81,7 +81,7 @@ impl KeptCommand {
         KeptCommand { form }
     }
 
-    /// Whether this is what is kept of a command that was answered so.
+    /// Returns whether this is the stored form of a command with this reply.
     pub(crate) fn is_kept_of(&self, command: &Command, reply: &Reply) -> bool
         ensures { IsTrue result ↔ (kept_command command.now reply.now ≡ self.now) }
     {
@@ -104,7 +104,7 @@ impl KeptCommand {
     }
 }
 
-// Whether these are the texts of a Write.
+// Returns whether these are the texts of a Write.
 fn are_texts(texts: &Option<Box<WriteTexts>>, expect: &str, put: &str) -> bool
     ensures { IsTrue result ↔ (Write expect.now put.now ≡ write_of texts.now) }
 {

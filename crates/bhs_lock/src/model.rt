@@ -10,7 +10,7 @@ pub struct Receipt {
     pub reply: Reply,
 }
 
-/// What a command is answered, and its place in the log; None if it is not heard.
+/// The reply to a command, and its place in the log; None if it was not heard.
 #[derive(Debug, Drop)]
 pub struct Answer {
     pub place: Option<u32>,
@@ -39,6 +39,6 @@ pub(crate) struct Spare {
     pub(crate) text: Text,
     /// The same for the receipt.
     pub(crate) again: Text,
-    /// What will be kept of the command.
+    /// The form in which the command will be stored.
     pub(crate) kept: KeptCommand,
 }

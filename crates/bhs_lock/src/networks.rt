@@ -1,4 +1,4 @@
-//! Whether a match is of the world that a cell was given.
+//! Comparing a match with the network and setup of a cell.
 
 ghost use Rattle.std.specs.Prelude.{◌≡◌, ◌<◌, ◌↔◌, IsTrue};
 ghost use Rattle.bhs_net.specs.Network.{nodes_of, row_of};
@@ -8,14 +8,14 @@ use bhs_match::Match;
 use bhs_model::Setup;
 use bhs_net::Net;
 
-/// Whether a match has this network and this setup.
+/// Returns whether a match has this network and this setup.
 pub(crate) fn is_of_world(play: &Match, net: &Net, setup: &Setup) -> bool
     ensures { IsTrue result ↔ IsOfWorld net.now setup.now play.now }
 {
     is_same_network(play.net(), net) && *play.setup() == *setup
 }
 
-// Whether these are the same network.
+// Returns whether two networks are equal.
 fn is_same_network(one: &Net, two: &Net) -> bool
     ensures { IsTrue result ↔ (one.now ≡ two.now) }
 {

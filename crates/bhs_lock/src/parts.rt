@@ -1,4 +1,4 @@
-//! What a cell is made of.
+//! The parts of a cell.
 
 use crate::hall::Hall;
 use crate::pass::Pass;
@@ -12,7 +12,7 @@ use bhs_time::ScheduleKind;
 pub struct Parts {
     pub game: u32,
     pub hall: Hall,
-    /// The passes that nobody claimed, by agent; None for one that was.
+    /// The unclaimed passes by agent; None for a claimed one.
     pub left: Vec<Option<Pass>>,
     pub net: Net,
     pub setup: Setup,

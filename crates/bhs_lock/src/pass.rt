@@ -57,7 +57,7 @@ impl Model for Pass {
 }
 
 impl Pass {
-    /// A pass of an agent that was told nothing, with room for all that it can be told.
+    /// Creates a pass without receipts, with room for all that its agent can get.
     pub(crate) fn new(alloc: Global, game: u32, quota: u16, agent: u16) -> Result<Pass, Memory>
         ensures { IfOk result (λ pass. pass ≡ empty_pass game quota agent) }
     {
@@ -86,7 +86,7 @@ impl Pass {
         self.quota
     }
 
-    /// The agent that the pass is of.
+    /// Returns the agent that the pass belongs to.
     pub fn agent(&self) -> u16
         ensures { result ≡ self.now.agent }
     {
@@ -120,7 +120,7 @@ impl Pass {
         self.receipts.as_slice().len()
     }
 
-    /// Whether this is what the pass says of a command of the log, at this index.
+    /// Returns whether the pass has this receipt, for a command of the log, at this index.
     pub(crate) fn says(
         &self,
         index: usize,
@@ -207,7 +207,7 @@ impl Pass {
 }
 
 impl Pass {
-    /// The least index at which the pass's arrivals are not those of its agent in the log of a match.
+    /// Returns the least index at which an arrival in the pass differs from its agent's arrivals in the log, if any.
     pub(crate) fn stray(&self, play: &Match) -> Option<usize>
         ensures { MatchOption result ((arrived_by play.now self.now).logged ≡ (arrived_by play.now self.now).said)
             (IsFirstDifference (arrived_by play.now self.now).logged (arrived_by play.now self.now).said) }
@@ -254,7 +254,7 @@ fn arrival_at(log: &[Kept], place: u32) -> Option<Mark>
     }
 }
 
-// What a command may need, by what its reply will speak of.
+// Reserves the memory that the reply to a command may need.
 fn spare(alloc: Global, play: &Match, agent: u16, command: &Command) -> Result<Spare, Memory>
     ensures spare { IfOk result (IsSpareFor play.now agent command.now) }
     ensures memory { OnErr result (IsOfBoard play.now agent command.now) }
@@ -295,7 +295,7 @@ fn spoken(mark: Mark, text: Text) -> Reply
     }
 }
 
-// Whether an agent that is answered so has ended.
+// Returns whether the reply shows that the agent has ended.
 #[inline(always)]
 fn is_end(reply: &Reply) -> bool
     ensures { result ≡ is_end reply.now }

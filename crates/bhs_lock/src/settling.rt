@@ -12,28 +12,28 @@ use crate::pass::Pass;
 use bhs_deal::Held;
 use bhs_match::Sealed;
 
-/// Why a match does not settle.
+/// Reasons why a match does not settle.
 #[derive(Clone, Copy, Debug, PartialEq, Eq)]
 pub enum Dispute {
-    /// The pass of this agent was claimed, and is not among those handed in.
+    /// The pass of this agent was claimed and is missing.
     Missing { agent: u16 },
-    /// The match is not of the network and the setup that the cell was given.
+    /// The match has another network or setup than the cell was given.
     World,
-    /// The agent's receipts and kept commands are not its heard commands in the log. This is the least index at which
-    /// they differ, or one of both ends. Of an agent without a pass no command may have been heard.
+    /// The agent's receipts and stored commands differ from its heard commands in the log. This is the least index at
+    /// which they differ, or the end of one of them. An agent without a pass may have no heard command.
     Differs { agent: u16, receipt: usize },
-    /// The arrival of this index in a pass is not that of its agent in the log.
+    /// The arrival at this index of a pass differs from the agent's arrival in the log.
     Arrival { agent: u16, index: usize },
     /// The match has not ended.
     NotClosed,
 }
 
-/// A match that does not settle: why, and what was handed in.
+/// A match that does not settle, with the reason and the parts that were handed in.
 #[derive(Debug, Drop)]
 pub struct Unsettled {
     pub why: Dispute,
     pub hall: Hall,
-    /// The passes that nobody claimed, by agent; None for one that was.
+    /// The unclaimed passes by agent; None for a claimed one.
     pub left: Vec<Option<Pass>>,
     pub passes: Vec<Pass>,
 }
@@ -48,10 +48,10 @@ pub struct Settlement {
     pub held: Held,
 }
 
-/// The match of a cell that no thread shares any more, for reading alone, if the passes agree with it: each claimed
-/// pass is among them, and each has the heard commands of its agent and its first arrivals, with places and replies.
-/// Otherwise the first dispute, in the order of `Dispute`, of the least agent and there of the least index; the parts
-/// come back. Takes no memory. Any pass may be handed in.
+/// Settles the match of a cell that no other thread shares: returns it read-only if the passes agree with it, that is,
+/// each claimed pass is present and has its agent's heard commands and first arrivals, with places and replies.
+/// Otherwise returns the first dispute in the order of `Dispute`, for the least agent and its least index, together
+/// with the parts. Allocates no memory. Accepts any passes.
 pub fn settle(cell: Cell, passes: Vec<Pass>) -> Result<Settlement, Unsettled>
     ensures settled { IfOk result (λ settlement. AreInAccord cell settlement.sealed passes.items) }
     ensures turns { IfOk result (λ settlement. length settlement.turns.items ≡ length settlement.sealed.log) }
@@ -100,7 +100,7 @@ impl Parts {
         }
     }
 
-    // The first dispute between the parts and the passes, if there is one.
+    // Returns the first dispute between the parts and the passes, if any.
     fn first_dispute(&self, passes: &[Pass]) -> Option<Dispute>
         ensures { MatchOption result (IsSettled (account_of self.now passes.now))
             (IsDispute (account_of self.now passes.now)) }

@@ -56,7 +56,7 @@ impl Times {
         }
     }
 
-    /// A command of an agent was heard, which was on a link or not.
+    /// Updates the times after a command that was heard, from an agent on a link or elsewhere.
     pub(crate) fn told(&mut self, agent: u16, was_away: bool)
         ensures { self.new ≡ told_at was_away agent self.old }
     {

@@ -8,7 +8,7 @@ use bhs_net::Memory;
 use std::alloc::Global;
 use std::marker::Model;
 
-/// The passes of a match, by agent, without those that were claimed. A pass that is left was told nothing.
+/// The unclaimed passes of a match, by agent. An unclaimed pass has no receipts.
 #[derive(Drop)]
 pub(crate) struct Unclaimed {
     left: Vec<Option<Pass>>,
@@ -41,7 +41,7 @@ impl Unclaimed {
         Ok(Unclaimed { left })
     }
 
-    /// Takes out the pass of an agent of a match, if it is there.
+    /// Takes the pass of an agent of a match, if it is present.
     pub(crate) fn take(&mut self, game: u32, quota: u16, agent: u16) -> Option<Pass>
         ensures fresh { IfSome result (IsFresh agent) }
         ensures game { IfSome result (λ pass. pass.game ≡ game) }
@@ -62,7 +62,7 @@ impl Unclaimed {
     }
 }
 
-// Whether this is a pass of the match of this number, with this quota.
+// Returns whether the pass belongs to the match with this number and this quota.
 fn is_of_match(pass: &Option<Pass>, game: u32, quota: u16) -> bool
     ensures game { IsTrue result → IfSome pass.now (λ pass. pass.game ≡ game) }
     ensures quota { IsTrue result → IfSome pass.now (λ pass. pass.quota ≡ quota) }

@@ -41,7 +41,7 @@ use Rattle.bhs_match.proofs.CountLemmas.{kept_bound}
 use Rattle.bhs_match.proofs.PoolLemmas.{link_in, next_pool, pool_bound}
 use Rattle.bhs_match.proofs.NewsLemmas.{arrivals_more, news_bound, unknown_news}
 
--- the log with an event that is kept is what is kept of it
+-- Appending an event that is kept keeps the log equal to the kept events.
 kept_grows : (world : World) (log : List Kept) (one : Kept) → kept world (events_of log) ≡ events_of log
     → keeps_next world log one.event ≡ true →
     kept world (events_of (log ++ one ∷ [])) ≡ events_of (log ++ one ∷ [])
@@ -102,7 +102,7 @@ settled_room table new (Deliver agent) pool most bound outside inside =
     let longer = settled_longer agent (link_at table agent) (link_at new agent) pool outside inside in omega arith
 settled_room table new Close pool most bound outside inside = cc
 
--- only who is on a link is delivered
+-- Only an agent on a link is delivered.
 unkept_before : (closed is_lost : Bool) → ((not closed && false) || ((not closed && false) && not is_lost)) ≡ false
 unkept_before true is_lost = refl
 unkept_before false is_lost = refl
@@ -120,7 +120,7 @@ delivered_within world state lost agent fair is_kept = elim (lt_tells agent worl
     never : false ≡ true → ⊥
     never h = cc
 
--- the site of an event that is kept is that of the definitions
+-- The site of an event that is kept agrees with the model's.
 site_same : (table : Table) (log : List Kept) (event : Event) → StandsFor table log
     → keeps_next (world_in table) log event ≡ true →
     site_by table event ≡ site (world_in table) (run (world_in table) (events_of log)) event
@@ -135,7 +135,7 @@ site_same table log (Deliver agent) stands is_kept = elim (lt_tells agent table.
 ]
 site_same table log Close stands is_kept = refl
 
--- what an agent has for news, after the place of an arrival
+-- An agent's news, extended by the place of an arrival.
 noted_news : (news : List Shelf) (log : List Kept) (agents agent : ℕ) (mark : Mark) → agent < length news
     → ((k : ℕ) → k < agents → (news_at news k).places ≡ arrivals k log) →
     (k : ℕ) → k < agents → (news_at (noted_at news agent (length log)) k).places ≡ arrivals k
@@ -186,7 +186,7 @@ room_more news (Deliver agent) (Some mark) place can = record {
 }
 room_more news Close mark place can = record { agents = refl; room = λ k. refl }
 
--- there is room for the news of an event that is kept
+-- Every event that is kept finds room among the news.
 can_note : (table : Table) (log : List Kept) (pool : List Bound) (news : List Shelf) (event : Event)
     (mark : Option Mark) → IsInOrder table log pool news → keeps_next (world_in table) log event ≡ true →
     map (λ one. read_if (log ++ record { event = event; mark = mark } ∷ []) one.mark)
@@ -214,7 +214,7 @@ can_note table log pool news (Deliver agent) (Some mark) order is_kept replied =
     let room : table.setup.quota ≤ (news_at news agent).room = order.room agent within in
     record { within = omega (arith, order.agents); room = omega arith }
 
--- a match is ready for an event that is kept, and in order after it
+-- The match has room before an event that is kept, and satisfies the invariant afterwards.
 pub record IsReady (table new : Table) (log : List Kept) (pool : List Bound) (news : List Shelf) (event : Event)
     (mark : Option Mark) : Type 0 where
   pub log_room : length log < most_kept table.setup.agents table.setup.quota
@@ -373,7 +373,7 @@ shown_same table log agent node stands is =
           (ap (node_seen_at table) ((fair_run (world_in table) (events_of log)).strange agent h.1) ∙ home)
     ]
 
--- what is kept of an agent says whether it is on a link
+-- An agent's state records whether it travels on a link.
 is_link : (position : Position) → is_some (link_of position) ≡ is_bound position
 is_link Before = refl
 is_link (At node came) = refl
@@ -394,7 +394,7 @@ away_same table log agent stands =
           ∙ ap is_bound (sym ((fair_run (world_in table) (events_of log)).strange agent h.1))
     ]
 
--- what is kept for an agent is its news
+-- The stored news of an agent agree with the model's news.
 pub record IsNews (play : Play) (places : List ℕ) (agent : ℕ) : Type 0 where
   pub same : places ≡ arrivals agent play.log
   pub bound : length places ≤ play.setup.quota
@@ -427,7 +427,7 @@ news_given table log pool news given play places agent order same is view =
     (sym (is ∙ ap (λ (news : List Shelf). (news_at news agent).places) same))
     (news_same table log pool news agent order))
 
--- a number without an agent has not entered, and is not lost
+-- A number without an agent has not entered and is not lost.
 pub strange_outside : (table : Table) (log : List Kept) (agent : ℕ) → table.setup.agents ≤ agent
     → Before ≡ (run (world_in table) (events_of log)).position agent
 strange_outside table log agent strange = sym ((fair_run (world_in table) (events_of log)).strange agent strange)

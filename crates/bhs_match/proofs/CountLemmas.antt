@@ -30,7 +30,7 @@ sum_le (suc n) f g each =
     let last = each n (omega arith) in
     omega arith
 
--- one more at one place is one more in all
+-- Increasing one summand by one increases the sum by one.
 sum_more : (n place : ℕ) (f g : ℕ → ℕ) → place < n → f place + 1 ≤ g place
     → ((k : ℕ) → (k == place) ≡ false → f k ≤ g k) → sum_to n f + 1 ≤ sum_to n g
 unfolding sum_to
@@ -127,7 +127,7 @@ lost_le world state lost agent =
     sum_le world.agents (share state lost) (share state marks) each in
     omega arith
 
--- who is destroyed is on a link
+-- A destroyed agent was travelling on a link.
 destroyed_more : (world : World) (state : State) (lost : ℕ → Bool) (agent node port : ℕ) → IsFair world state lost
     → state.position agent ≡ Bound node port → lost agent ≡ false →
     total world state lost + 1 ≤ total world state (changed lost agent true)

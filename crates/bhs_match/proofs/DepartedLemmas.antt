@@ -30,7 +30,7 @@ distinct_filter test (x ∷ xs) distinct =
     (λ passes. (all_filter _ test xs distinct.0, distinct_filter test xs distinct.1))
     (λ fails. distinct_filter test xs distinct.1)
 
--- what a filter keeps was there
+-- Every member of a filtered list is a member of the list.
 any_filter : (agent : ℕ) (test : ℕ → Bool) (xs : List ℕ) → list_any (nat_eq agent) (filter test xs) ≡ true
     → list_any (nat_eq agent) xs ≡ true
 any_filter agent test [] found = found
@@ -49,7 +49,7 @@ any_filter agent test (x ∷ xs) found =
     by_test false true kept found more h = more h
     by_test false false kept found more h = more h
 
--- who is taken out is not there
+-- The removed agent is not a member of the remaining list.
 none_left : (agent : ℕ) (xs : List ℕ) → list_any (nat_eq agent) (filter (λ other. not (other == agent)) xs) ≡ false
 none_left agent [] = refl
 none_left agent (x ∷ xs) = elim (eqb_tells x agent) [

@@ -77,7 +77,7 @@ fair_told world state lost agent command fair is_heard = record {
       (position_after world (state.position agent) command) is_heard.within fair.departed;
 }
 
--- who is on a link is an agent
+-- Only an agent of the match travels on a link.
 pub bound_within : (world : World) (state : State) (lost : ℕ → Bool) (agent node port : ℕ) → IsFair world state lost
     → state.position agent ≡ Bound node port → agent < world.agents
 bound_within world state lost agent node port fair on = elim (leb_tells world.agents agent) [
@@ -115,7 +115,7 @@ fair_arrived world state lost agent node port there label fair on is_safe = reco
     not_both : doomed world node port ≡ true → ⊥
     not_both h = cc
 
--- an arrival is that of an agent on a link that does not destroy
+-- The arriving agent was on a link that does not destroy.
 pub record IsArriving (world : World) (state : State) (agent : ℕ) : Type 0 where
   pub node : ℕ
   pub port : ℕ

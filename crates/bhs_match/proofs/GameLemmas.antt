@@ -19,7 +19,7 @@ use Rattle.bhs_match.specs.Laws.{IsLogOf}
 use Rattle.bhs_match.specs.Games.{play_at, IsPlayed, IsPlayedIn, AreLogsOf, GoesOn}
 use Rattle.bhs_match.proofs.LawLemmas.{logs_grow_lemma}
 
--- the event, where it is in this match
+-- the event, if it belongs to this match
 abbrev if_there : Bool → Event → List Event
 if_there same event = if same then event ∷ [] else []
 

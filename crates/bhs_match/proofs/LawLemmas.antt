@@ -39,7 +39,7 @@ pub heard_in_log : (world : World) (log : List Kept) → map (λ one. read_if lo
     (events : List Event) → IsLogOf world events log → map (λ one. read_if log one.mark) log ≡ kept_replies world events
 heard_in_log world log replied events is = replied ∙ sym (logs_tell_all_lemma world events log is).replies
 
--- by whether the event is kept
+-- Case analysis: the event is kept or dropped.
 log_chosen : (log : List Kept) (one : Kept) (is_kept : Bool) → events_of log ++ kept_first is_kept one.event
     [] ≡ events_of (if is_kept then log ++ one ∷ [] else log)
 log_chosen log one true = sym (events_more log one)

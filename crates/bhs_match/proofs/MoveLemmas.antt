@@ -14,20 +14,20 @@ IsGone world (Bound node port) = doomed world node port ≡ true
 IsGone world After = Unit {0}
 IsGone world position = ⊥
 
--- how much of an agent's share in the log has been used by where it is, beside two for each command of its quota:
--- while it is on a link that has not destroyed it, one more is to come
+-- The potential of an agent: how many of its log places its position has used, in addition to two per command of its
+-- quota. While it travels on a link that has not destroyed it, one arrival is outstanding.
 abbrev pub weight : Position → (is_lost : Bool) → ℕ
 weight Before is_lost = 0
 weight (At node came) is_lost = 1
 weight (Bound node port) is_lost = if is_lost then 1 else 0
 weight After is_lost = 2
 
--- 1 while it is on a link
+-- 1 while the agent travels on a link, else 0
 abbrev pub flight : Position → ℕ
 flight (Bound node port) = 1
 flight position = 0
 
--- who comes to be on a link comes from a node, and who is on a link stays on that one
+-- An agent comes to a link only from a node, and an agent on a link stays on the same link.
 abbrev pub IsLinked : (old new : Position) → Type 0
 IsLinked (At node came) new = Unit {0}
 IsLinked old (Bound node port) = old ≡ Bound node port
@@ -46,7 +46,7 @@ pub moves : (world : World) (is_lost room : Bool) (position : Position) (command
     (if counts command then before + 1 else before)
 moves world is_lost room position command before h0 = grind arith
 
--- a command that counts is heard only where there is room for it
+-- A command that costs quota is heard only while quota is left.
 room_left : (standing : Standing) (room : Bool) (command : Command) → accepts standing room command ≡ true
     → counts command ≡ true → room ≡ true
 room_left standing room command h0 h1 = grind arith

@@ -23,12 +23,12 @@ use Rattle.bhs_match.proofs.DepartedLemmas.{once_filter, once_few}
 use Rattle.bhs_match.proofs.MoveLemmas.{IsLinked}
 use Rattle.bhs_match.proofs.FairLemmas.{IsFair, IsHeard, heard_means, moves_of}
 
--- the agent with its link, if it is on one
+-- the entry of an agent on a link, as a list; empty for other positions
 one_bound : ℕ → Position → List Bound
 one_bound agent (OnLink node port) = record { agent = agent; node = node; port = port } ∷ []
 one_bound agent position = []
 
--- those of a list that are on a link
+-- the entries of the agents on links
 all_bound : (ℕ → Position) → List ℕ → List Bound
 all_bound position [] = []
 all_bound position (agent ∷ agents) = one_bound agent (position agent) ++ all_bound position agents
@@ -57,7 +57,7 @@ same_bounds position (agent ∷ agents) =
     (map (λ one. bound_at one (position one)) (filter (λ one. is_bound (position one)) agents)))
     ∙ ap (λ (others : List Bound). one_bound agent (position agent) ++ others) (same_bounds position agents)
 
--- an agent whose link is the same, or who is on none as before
+-- The agent's link is unchanged, or it is on no link before and after.
 unchanged_bound : (position : ℕ → Position) (agent : ℕ) (new : Position) (agents : List ℕ)
     → one_bound agent new ≡ one_bound agent (position agent) → all_bound (changed position agent new)
     agents ≡ all_bound position agents
@@ -71,7 +71,7 @@ unchanged_bound position agent new (one ∷ agents) same =
       | inr h ↦ rw (h.0, rest) refl
     ]
 
--- an agent that is on a link no more
+-- whether an entry belongs to another agent
 abbrev is_not : ℕ → Bound → Bool
 is_not agent bound = not (bound.agent == agent)
 
@@ -144,7 +144,7 @@ joined_bound position agent node port agents off =
     (others_bound position agent (OnLink node port) agents off)
     ∙ ap (λ (last : List Bound). all_bound position agents ++ last) (last_bound position agent node port)
 
--- an agent that moves from the one position to the other
+-- The agent moves from the old position to the new one.
 moved_bound : (position : ℕ → Position) (departed : List ℕ) (agent : ℕ) (old new : Position) → position agent ≡ old
     → IsLinked old new →
     all_bound (changed position agent new) (departed_after departed agent old new) ≡ settled agent (link_of old)

@@ -1,4 +1,4 @@
--- When all agents of a match have entered, and when nothing more that counts can happen to one of them.
+-- When all agents of a match have entered, and when no agent can have another event that counts.
 use Rattle.std.specs.Prelude.{ℕ, ◌<◌, ◌≡◌, Bool, true, false}
 use Rattle.bhs_model.specs.Runs.{Position, Before, After}
 use Rattle.bhs_model.specs.Kept.{lost}

@@ -41,13 +41,13 @@ pub record IsPlayed (old : Play) (event : Event) (answer : Answer) (new : Play) 
   pub net : new.net ≡ old.net
   pub setup : new.setup ≡ old.setup
 
--- what an event in one match makes of all: only this one changes
+-- An event in one match changes this match alone.
 pub record IsPlayedIn (old : List Play) (game : ℕ) (event : Event) (answer : Answer) (new : List Play) : Type 0 where
   pub within : game < length old
   pub played : IsPlayed (play_at old game) event answer (play_at new game)
   pub others : new ≡ slice_set old game (play_at new game)
 
--- the log of each match is what is kept of the events of this match
+-- The log of each match consists of the kept events of this match.
 abbrev pub AreLogsOf : List Play → List Happening → Type 0
 AreLogsOf plays happenings = (game : ℕ) → game < length plays
     → IsLogOf (world_in (play_at plays game)) (events_of game happenings) (play_at plays game).log

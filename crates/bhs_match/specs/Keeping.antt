@@ -39,17 +39,17 @@ abbrev pub node_seen : Table → (agent : ℕ) → Option ℕ
 node_seen table agent = if nat_lt agent table.setup.agents then node_seen_at table
     (agent_at table.agents agent).position else Some table.setup.home
 
--- the link that an agent is on
+-- the departure node and port of an agent's link
 abbrev pub link_at : Table → (agent : ℕ) → Option (ℕ × ℕ)
 link_at table agent = if nat_lt agent table.setup.agents then link_of (agent_at table.agents agent).position else None
 
--- the link that the agent of an event is on
+-- the departure node and port of the link that an event's agent travels on
 abbrev pub link_by : Table → Event → Option (ℕ × ℕ)
 link_by table (Tell agent command) = link_at table agent
 link_by table (Deliver agent) = link_at table agent
 link_by table Close = None
 
--- the pool after an agent was on the one link and is on the other
+-- the pool after an agent's link changes from `was` to `now`
 abbrev pub settled : (agent : ℕ) → (was now : Option (ℕ × ℕ)) → List Bound → List Bound
 settled agent None (Some link) pool = pool ++ record { agent = agent; node = link.0; port = link.1 } ∷ []
 settled agent (Some link) None pool = filter (λ bound. not (bound.agent == agent)) pool
@@ -74,7 +74,7 @@ abbrev pub noted : List Shelf → Event → Option Mark → (place : ℕ) → Li
 noted news (Deliver agent) (Some mark) place = noted_at news agent place
 noted news event mark place = news
 
--- the site of an event that is kept, by what is kept of its agent
+-- the site of a command that is kept, computed from its agent's state
 abbrev pub said_by : Table → (agent : ℕ) → Command → Option ℕ
 said_by table agent command = if nat_lt agent table.setup.agents
     then node_said (world_in table) (agent_at table.agents agent).position command else None
@@ -98,12 +98,12 @@ pub record IsInOrder (table : Table) (log : List Kept) (pool : List Bound) (news
   pub arrived : (agent : ℕ) → agent < table.setup.agents → (news_at news agent).places ≡ arrivals agent log
   pub room : (agent : ℕ) → agent < table.setup.agents → table.setup.quota ≤ (news_at news agent).room
 
--- these are the sites of the events of the log
+-- These are the sites of the log's events.
 pub record AreSites (table : Table) (log : List Kept) (found : List (Option ℕ)) : Type 0 where
   pub same : found ≡ sites (world_in table) (events_of log)
   pub range : All (λ site. IfSome site (λ node. node < nodes_of table.net)) found
 
--- there is room for all that may happen
+-- The allocated room suffices for every run of the match.
 pub record HasRoom (setup : Setup) (for_log for_sites for_pool : ℕ) : Type 0 where
   pub log : most_kept setup.agents setup.quota ≤ for_log
   pub sites : most_kept setup.agents setup.quota ≤ for_sites
@@ -114,7 +114,7 @@ pub record HasShelf (news : List Shelf) (agent : ℕ) : Type 0 where
   pub within : agent < length news
   pub room : length (news_at news agent).places < (news_at news agent).room
 
--- what is to be noted of an event has room
+-- The news have room for this event.
 abbrev pub CanNote : List Shelf → Event → Option Mark → Type 0
 CanNote news (Deliver agent) (Some mark) = HasShelf news agent
 CanNote news event mark = Unit {0}

@@ -13,7 +13,7 @@ use Rattle.bhs_model.specs.Marks.{events_of, read_if}
 use Rattle.bhs_world.specs.Tables.{log_after}
 use Rattle.bhs_match.specs.Matches.{most_kept, arrivals, bounds}
 
--- the log of a match in which all this happened: what is kept of it
+-- The log of a match in which all these events happened: the kept events.
 abbrev pub IsLogOf : World → List Event → List Kept → Type 0
 IsLogOf world events log = kept world events ≡ events_of log
 
@@ -29,8 +29,7 @@ abbrev pub LogsTellAll : Type 0
 LogsTellAll = (world : World) (events : List Event) (log : List Kept) → IsLogOf world events log
     → TellsAll world events log
 
--- What is answered after the events of the log is what is answered after all that happened, and the log grows with
--- what happens.
+-- Replies after the log equal replies after all events, and the log grows by the kept events.
 pub record GrowsWith (world : World) (events : List Event) (log : List Kept) (event : Event)
     (mark : Option Mark) : Type 0 where
   pub answer : reply world (run world (events_of log)) event ≡ reply world (run world events) event
@@ -49,7 +48,7 @@ abbrev pub ArrivalsAreBounded : Type 0
 ArrivalsAreBounded = (world : World) (agent : ℕ) (log : List Kept) →
     map (λ one. read_if log one.mark) log ≡ replies world (events_of log) → length (arrivals agent log) ≤ world.quota
 
--- The pool of a match is that of the definitions, and has at most all agents.
+-- The pool of a match agrees with the model's pool and contains at most all agents.
 pub record IsPooled (world : World) (events : List Event) : Type 0 where
   pub agents : map (λ bound. bound.agent) (bounds (run world events)) ≡ pool (run world events)
   pub bound : length (bounds (run world events)) ≤ world.agents

@@ -16,7 +16,7 @@ use Rattle.bhs_model.specs.Marks.{events_of}
 use Rattle.bhs_state.specs.Agents.{link_of}
 use Rattle.bhs_match.specs.declared.pools.Bound.{Bound}
 
--- a network, how a match on it is set up, and its log
+-- A match: its network, its setup and its log.
 pub record Play : Type 0 where
   pub net : Network
   pub setup : Setup
@@ -35,7 +35,7 @@ state_of play = run (world_in play) (events_of play.log)
 abbrev pub most_kept : (agents quota : ℕ) → ℕ
 most_kept agents quota = agents * (2 * quota + 2) + 1
 
--- whether this is an arrival of the agent: a Deliver of it that is answered
+-- whether this event is an arrival of the agent: a Deliver with a reply
 abbrev pub is_arrival : (agent : ℕ) → Event → Option Mark → Bool
 is_arrival agent (Deliver other) (Some mark) = agent == other
 is_arrival agent event mark = false
@@ -50,18 +50,18 @@ arrivals_from agent place (one ∷ others) =
 abbrev pub arrivals : (agent : ℕ) → List Kept → List ℕ
 arrivals agent log = arrivals_from agent 0 log
 
--- an agent at this position, with the node and the port by which it departed
+-- an agent on a link, with its departure node and port
 abbrev pub bound_at : (agent : ℕ) → Position → Bound
 bound_at agent position =
     let link = unwrap_or (link_of position) (0, 0) in
     record { agent = agent; node = link.0; port = link.1 }
 
--- the agents of the pool, each with its link
+-- the pool: the agents on links, each with its link
 abbrev pub bounds : State → List Bound
 bounds state = map (λ agent. bound_at agent (state.position agent)) (pool state)
 
--- the whiteboard that an agent at this position sees: where it is; that of the home base before it enters; none
--- on a link and after its end
+-- The whiteboard that an agent at this position faces: its node's, or the home base's before it enters; none on a link
+-- and after its end.
 abbrev pub shown_at : World → State → Position → List ℕ
 shown_at world state Before = text world.board (state.last_write world.home)
 shown_at world state (At node came) = text world.board (state.last_write node)

@@ -13,7 +13,7 @@ use thiserror::Error;
 /// Why an arena refuses an event.
 #[derive(Clone, Copy, Debug, PartialEq, Eq, Error)]
 pub enum ArenaFault {
-    /// There is no match of this number.
+    /// No match has this number.
     #[error("no game")]
     NoGame = 1,
 }
@@ -56,7 +56,7 @@ impl Arena {
         Ok(game.apply(event))
     }
 
-    /// The match of a number, if there is one.
+    /// Returns the match with this number, or None if there is none.
     pub fn game(&self, game: u32) -> Option<&Match>
         ensures { option_copied result ≡ slice_get self.now game }
     {

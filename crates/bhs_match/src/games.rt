@@ -127,7 +127,7 @@ impl Match {
         ensures replies { map (λ one. read_if self.now.log one.mark) self.now.log
             ≡ replies (world_in self.now) (events_of self.now.log) }
 
-        // These are the replies that the kept ones were given among all that happened.
+        // The log's replies are those that the kept events got among all events.
         ensures heard { (events : List EventData) → IsLogOf (world_in self.now) events self.now.log
             → map (λ one. read_if self.now.log one.mark) self.now.log ≡ kept_replies (world_in self.now) events }
 
@@ -155,9 +155,8 @@ impl Match {
         &self.pool
     }
 
-    /// What the agent sees of a whiteboard: of the one where it is; of the one at the home base before it enters, and
-    /// so for a number without an agent; the empty text on a link and after its end.
-    /// The text shares its bytes with the log.
+    /// Returns the text of the whiteboard that the agent faces: its node's; the home base's before it enters, and for a
+    /// number without an agent; the empty text on a link and after its end. The text shares its bytes with the log.
     pub fn seen(&self, agent: u16) -> Result<Text, Memory>
         ensures { IfOk result (λ text. text
             ≡ shown_at (world_in self.now) (state_of self.now) ((state_of self.now).position agent)) }
@@ -177,7 +176,7 @@ impl Match {
         self.world.shows(agent, command)
     }
 
-    /// Whether the agent is on a link, destroyed or not. A number without an agent is on no link.
+    /// Returns whether the agent travels on a link, destroyed or not; false for a number without an agent.
     pub fn is_away(&self, agent: u16) -> bool
         ensures { result ≡ is_bound ((state_of self.now).position agent) }
     {
@@ -224,23 +223,21 @@ impl Match {
         true
     }
 
-    /// The text that the mark's whiteboard shows; the empty one for a mark without a whiteboard. The mark is one of
-    /// this log.
+    /// Returns the whiteboard text of a mark of this log, or the empty text for a mark without a whiteboard.
     pub fn text(&self, mark: &Mark) -> &str
         ensures { result.now ≡ text_at self.now.log (board_of mark.now) }
     {
         reading::text(&self.log, mark)
     }
 
-    /// The reply that the mark stands for. The mark is one of this log.
+    /// Returns the reply that a mark of this log stands for.
     pub fn reply(&self, mark: &Mark) -> Result<Reply, Memory>
         ensures { IfOk result (λ reply. reply ≡ read self.now.log mark.now) }
     {
         read(&self.log, mark)
     }
 
-    /// The site of each event of the log: the node at which the command was said, or for which the agent of the Deliver
-    /// was bound.
+    /// Returns the site of each event of the log: the node at which the agent spoke, or the target node of a Deliver.
     pub fn sites(&self) -> &[Site]
         ensures sites { result.now ≡ sites (world_in self.now) (events_of self.now.log) }
         ensures count { length result.now ≡ length self.now.log }
@@ -249,7 +246,7 @@ impl Match {
         &self.sites
     }
 
-    /// What the agent is doing, and where. `Outside` if there is no such agent.
+    /// Returns the agent's standing, or `Outside` if there is no such agent.
     pub fn standing(&self, agent: u16) -> Standing
         ensures { position_of result ≡ (state_of self.now).position agent }
     {
@@ -259,7 +256,7 @@ impl Match {
         self.world.agent(agent).standing()
     }
 
-    /// Whether the agent is lost. False if there is no such agent.
+    /// Returns whether the agent is lost; false if there is no such agent.
     pub fn is_lost(&self, agent: u16) -> bool
         ensures { result ≡ lost (world_in self.now) (events_of self.now.log) agent }
     {
@@ -292,7 +289,7 @@ impl Match {
         self.world.setup()
     }
 
-    /// The match for reading alone, if it has ended; else the match as it was. Takes no memory.
+    /// Turns a match that has ended into a read-only match, or returns the match unchanged. Allocates no memory.
     pub fn sealed(self) -> Result<Sealed, Match>
         ensures { result ≡ (if (state_of self).closed then Ok self else Err self) }
     {

@@ -23,7 +23,7 @@ pub fn arrivals_are_bounded()
     ensures { ArrivalsAreBounded }
 {}
 
-/// The pool is that of the definitions, and each agent is there at most once.
+/// The pool agrees with the model's pool and contains each agent at most once.
 pub fn pools_are_of_agents()
     ensures { PoolsAreOfAgents }
 {}

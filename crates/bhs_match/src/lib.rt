@@ -1,4 +1,4 @@
-//! A match: its log, and what follows from it, as the news of each agent and the pool of those on a link.
+//! A match: its log, and data derived from the log, such as the news of each agent and the pool of agents on links.
 #![tactic(auto)]
 
 mod answers;

@@ -6,7 +6,7 @@ ghost use Rattle.bhs_match.specs.Keeping.{link_by, link_at, settled, settled_by}
 use bhs_model::Event;
 use bhs_world::World;
 
-/// An agent on a link, destroyed or not, with the node and the port by which it departed.
+/// An agent on a link, destroyed or not, with its departure node and port.
 #[derive(Clone, Copy, Debug, PartialEq, Eq)]
 pub struct Bound {
     pub agent: u16,
@@ -24,7 +24,7 @@ pub(crate) fn link_by(world: &World, event: &Event) -> Option<(u16, u16)>
     }
 }
 
-/// The departure node and port of the link that an agent is on; none for a number without an agent.
+/// Returns the departure node and port of an agent's link, or None for another position or a number without an agent.
 pub(crate) fn link(world: &World, agent: u16) -> Option<(u16, u16)>
     ensures { result ≡ link_at world.now agent }
 {
@@ -34,7 +34,7 @@ pub(crate) fn link(world: &World, agent: u16) -> Option<(u16, u16)>
     world.agent(agent).bound()
 }
 
-/// Brings the pool up to date with an event, before and after which its agent was on these links.
+/// Updates the pool after an event, given the links of the event's agent before and after.
 pub(crate) fn settle(
     pool: &mut Vec<Bound>,
     event: &Event,

@@ -51,7 +51,7 @@ impl Sealed {
         ensures replies { map (λ one. read_if self.now.log one.mark) self.now.log
             ≡ replies (world_in self.now) (events_of self.now.log) }
 
-        // These are the replies that the kept ones were given among all that happened.
+        // The log's replies are those that the kept events got among all events.
         ensures heard { (events : List EventData) → IsLogOf (world_in self.now) events self.now.log
             → map (λ one. read_if self.now.log one.mark) self.now.log ≡ kept_replies (world_in self.now) events }
 
@@ -63,8 +63,7 @@ impl Sealed {
         self.game.log()
     }
 
-    /// The site of each event of the log: the node at which the command was said, or for which the agent of the Deliver
-    /// was bound.
+    /// Returns the site of each event of the log: the node at which the agent spoke, or the target node of a Deliver.
     pub fn sites(&self) -> &[Site]
         ensures sites { result.now ≡ sites (world_in self.now) (events_of self.now.log) }
         ensures count { length result.now ≡ length self.now.log }
@@ -73,29 +72,28 @@ impl Sealed {
         self.game.sites()
     }
 
-    /// What the agent was doing at the end, and where. `Outside` if there was no such agent.
+    /// Returns the agent's standing at the end, or `Outside` if there is no such agent.
     pub fn standing(&self, agent: u16) -> Standing
         ensures { position_of result ≡ (state_of self.now).position agent }
     {
         self.game.standing(agent)
     }
 
-    /// Whether the agent is lost. False if there was no such agent.
+    /// Returns whether the agent is lost; false if there is no such agent.
     pub fn is_lost(&self, agent: u16) -> bool
         ensures { result ≡ lost (world_in self.now) (events_of self.now.log) agent }
     {
         self.game.is_lost(agent)
     }
 
-    /// The text that the mark's whiteboard shows; the empty one for a mark without a whiteboard. The mark is one of
-    /// this log.
+    /// Returns the whiteboard text of a mark of this log, or the empty text for a mark without a whiteboard.
     pub fn text(&self, mark: &Mark) -> &str
         ensures { result.now ≡ text_at self.now.log (board_of mark.now) }
     {
         self.game.text(mark)
     }
 
-    /// The reply that the mark stands for. The mark is one of this log.
+    /// Returns the reply that a mark of this log stands for.
     pub fn reply(&self, mark: &Mark) -> Result<Reply, Memory>
         ensures { IfOk result (λ reply. reply ≡ read self.now.log mark.now) }
     {

@@ -49,7 +49,7 @@ impl Site {
     }
 }
 
-/// The site of an event that is kept, before it is played.
+/// Computes the site of an event that is kept, before the event is played.
 pub(crate) fn site_of(world: &World, event: &Event) -> Site
     ensures site { result ≡ site_by world.now event.now }
     ensures range { IfSome result (λ node. node < nodes_of world.now.net) }

@@ -1,4 +1,4 @@
--- A match among others is as it is alone.
+-- Non-interference: a match of an arena behaves as it does alone.
 use Rattle.std.proofs.Common.{ℕ, ◌≡◌, Bool, true, false, Option, List, [], ◌∷◌, ◌==◌, if◌then◌else◌, refl, sym, ap, ◌∙◌}
 use Rattle.std.proofs.lemmas.Bool.{eqb-true}
 use Rattle.bhs_model.specs.declared.replies.Reply.{Reply}

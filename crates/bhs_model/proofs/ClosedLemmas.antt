@@ -41,7 +41,7 @@ pub found_later : (test : Footprint → Bool) (first : Footprint) (footprints : 
 found_later test first footprints own places f =
     record { place = suc f.place; one = f.one; is_there = f.is_there; chosen = f.chosen; passes = f.passes }
 
--- and what is found is at a chosen place
+-- The item that the search returns stands at a chosen place.
 pub find_at : (test : Footprint → Bool) (footprints : List Footprint) (places : List Bool)
     → list_any test (at_places footprints places) ≡ true → Found test footprints places
 find_at test [] places some = absurd (false≢true some)

@@ -29,7 +29,7 @@ pub record Agree (whole part : State) (late : Footprint) : Type 0 where
   pub last_write : (node : ℕ) → late.seen ≡ Some node → whole.last_write node ≡ part.last_write node
   pub closed : whole.closed ≡ part.closed
 
--- and on what each of these events touches
+-- The two states agree on the footprints of all these events.
 abbrev pub AgreeOnAll : (whole part : State) → List Footprint → Type 0
 AgreeOnAll whole part [] = Unit {0}
 AgreeOnAll whole part (late ∷ footprints) = Agree whole part late × AgreeOnAll whole part footprints
@@ -103,7 +103,7 @@ delivered_alike world whole part agent Before late same_past same_seen agree = a
 delivered_alike world whole part agent (At node came) late same_past same_seen agree = agree
 delivered_alike world whole part agent After late same_past same_seen agree = agree
 
--- an event does the same to both states where they agree on what it touches
+-- An event changes both states equally if they agree on the event's footprint.
 pub next_agree : (world : World) (whole part : State) (event : Event) (late : Footprint) →
     Agree whole part (footprint world whole event) → Agree whole part late
     → Agree (next world whole event) (next world part event) late
@@ -137,7 +137,7 @@ next_agree world whole part (Deliver agent) late own agree =
 next_agree world whole part Close late own agree =
     record { past = agree.past; position = agree.position; last_write = agree.last_write; closed = refl }
 
--- the answer to a command, by the close, the past before it and the past with it
+-- The answer to a command: computed from the close, and from the agent's past before the command and with it.
 abbrev pub answer_by : World → ℕ → Command → Bool → View → View → Option Reply
 answer_by world agent command closed old new =
     if nat_lt agent world.agents

@@ -1,16 +1,16 @@
--- Reading the items of a list one after the other, as a loop does.
+-- Reading the items of a list in a loop.
 use Rattle.std.proofs.Common.{◌≡◌, ℕ, ◌+◌, ◌<◌, ◌≤◌, List, [], ◌∷◌, ◌++◌, length, get_or, drop, Option, Some, None}
 use Rattle.std.proofs.Common.{option_map, option_and_then, refl, sym, ap, ◌∙◌, append_assoc, append-nil, length-drop}
 use Rattle.std.proofs.Common.{arith}
 use Rattle.std.proofs.lemmas.List.{drop_more, nil_from_length}
 
--- what is read of each of the values, if there is something to read of each
+-- the results of reading all values, if each value can be read
 abbrev pub all_read : {A Value : Type 0} → (Value → Option A) → List Value → Option (List A)
 all_read read [] = Some []
 all_read read (value ∷ values) = option_and_then (λ one. option_map (λ more. one ∷ more) (all_read read values))
     (read value)
 
--- what is read of each item of some data is what is read of each value, if items are read one after the other
+-- Reading the items of some data in a loop gives the results of reading each of its values.
 pub read_in : {A Value Data Items : Type 0} (view : Value → Data) (items : List Value → Items)
     (each : Items → Option (List A)) (shape : Data → Option A) → each (items []) ≡ Some []
     → ((value : Value) (values : List Value) → each (items (value ∷ values))
@@ -21,7 +21,7 @@ read_in {A} view items each shape none first (value ∷ values) =
     ap (λ (found : Option (List A)). option_and_then (λ one. option_map (λ more. one ∷ more) found)
     (shape (view value))) (read_in view items each shape none first values) ∙ sym (first value values)
 
--- what was read before, and the values that are still to be read
+-- the results so far, extended by those of the remaining values
 abbrev pub after : {A Value : Type 0} → (Value → Option A) → List A → List Value → Option (List A)
 after read done rest = option_map (λ others. done ++ others) (all_read read rest)
 
@@ -39,7 +39,7 @@ module _ {A Value : Type 0} (read : Value → Option A) where
   pub at_first : (done : List A) (values : List Value) → done ≡ [] → after read done values ≡ all_read read values
   at_first done values none = ap (λ (l : List A). after read l values) none ∙ behind_none (all_read read values)
 
-  -- with what is read of the value at this place
+  -- The results are extended by the result for the value at this place.
   said : List A → List Value → Option A → Option (List A)
   said done rest found = option_map (λ others. done ++ others)
       (option_and_then (λ one. option_map (λ more. one ∷ more) (all_read read rest)) found)

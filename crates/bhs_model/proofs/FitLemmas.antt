@@ -73,7 +73,7 @@ run_in_range world state [] range all = all
 run_in_range world state (event ∷ events) range all =
     run_in_range world (next world state event) events range (next_in_range world state event range all)
 
--- what is known of an agent's standing and ports, and where it is
+-- The agent's view of its standing and its ports agrees with its position.
 fits : (world : World) (view : View) (position : Position) → IsLegal world view position → InRange world position
     → Fits world view position
 fits world view Before legal placed = legal.standing

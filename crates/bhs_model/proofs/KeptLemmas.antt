@@ -110,7 +110,7 @@ kept_suffice_lemma world events = record {
   answers = replies-kept world initial nobody events;
 }
 
--- no more is kept than there is
+-- The kept events are no more than all events.
 kept_shorter : (world : World) (state : State) (lost : ℕ → Bool) (events : List Event)
     → length (kept_from world state lost events) ≤ length events
 kept_shorter world state lost [] = omega arith
@@ -121,7 +121,7 @@ kept_shorter world state lost (event ∷ events) =
     cond_both (keeps world state lost event) (event ∷ rest) rest
     (λ (chosen : List Event). length chosen ≤ length (event ∷ events)) (λ is. omega arith) (λ is_not. omega arith)
 
--- where all events are kept, the first is, and so are the others
+-- If all events are kept, then the first event is kept, and the remaining events are kept.
 pub record IsFirstKept (world : World) (state : State) (lost : ℕ → Bool) (event : Event)
     (events : List Event) : Type 0 where
   pub first : keeps world state lost event ≡ true

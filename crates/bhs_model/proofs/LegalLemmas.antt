@@ -1,4 +1,4 @@
--- What an agent knows of where it is: its standing, and how many ports its node has, are those of its position.
+-- An agent's view agrees with its position: its standing, and the degree of its node.
 use Rattle.std.proofs.Common.{arith, ◌≡◌, ℕ, Bool, true, false, nat_lt, List, [], ◌∷◌, refl, ap, ◌∙◌, inl, inr}
 use Rattle.std.proofs.Common.{if◌then◌else◌}
 use Rattle.std.proofs.lemmas.Bool.Decides.{eqb_tells}
@@ -22,7 +22,7 @@ pub record IsLegal (world : World) (view : View) (position : Position) : Type 0 
   pub standing : standing view ≡ standing_at position
   pub ports : KnowsPorts world view position
 
--- the standing after a command that is heard is that of the position after it
+-- The standing after a command that is heard agrees with the position after that command.
 pub standing_told : (world : World) (view : View) (position : Position) (command : Command)
     → KnowsPorts world view position → standing_after (standing_at position) (ports view) command ≡ standing_at
     (position_after world position command)
@@ -36,7 +36,7 @@ standing_told world view (At node came) (Accuse port) knows =
     (λ (h : nat_lt port (world.net.degree node) ≡ false). rw h refl))
 standing_told world view position command knows = grind arith
 
--- what is known of the ports then
+-- The view's number of ports agrees with the position after that command.
 pub ports_told : (world : World) (state : State) (view : View) (position : Position) (command : Command)
     → KnowsPorts world view position → KnowsPorts world (Told view command (glance world state position command))
     (position_after world position command)

@@ -85,7 +85,7 @@ module _ (world : World) (held : Held) (slow : World) (still : Held) (instead : 
       )
   none_given state Close unstruck = (refl, refl, refl)
 
-  -- one act, and then the others
+  -- Induction step: one act, then the remaining acts.
   pub one_act : (state : State) (acts : List Act) (here there : Option Event) → MadeAlike world slow state here there →
       ((later : State) → InStep world slow later (played_from world held later acts)
       (played_from slow still later acts)) →

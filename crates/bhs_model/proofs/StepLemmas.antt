@@ -78,7 +78,7 @@ arrival_by_past world state agent arrival =
     cond-true _ _ _ arrival ∙ ap (λ (after : State). rep world.board (after.past agent))
     (next_arrived world state agent arrival)
 
--- who does not arrive is not answered
+-- An agent that does not arrive gets no reply.
 pub no_arrival_no_reply : (world : World) (state : State) (agent : ℕ) → arrives world state agent ≡ false →
     reply world state (Deliver agent) ≡ None
 no_arrival_no_reply world state agent no_arrival = cond-false _ _ _ no_arrival

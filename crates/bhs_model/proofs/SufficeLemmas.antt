@@ -18,7 +18,7 @@ use Rattle.bhs_model.proofs.ClosedLemmas.{none_there, some_same}
 use Rattle.bhs_model.proofs.CutLemmas.{Agree, AgreeOnAll, next_agree, next_untouched, all_after_chosen}
 use Rattle.bhs_model.proofs.CutLemmas.{all_after_left_out, agree_at_first, closed_sets_stand_alone_lemma}
 
--- what is read of one reply
+-- the reply to one event, as a list
 abbrev pub read : Bool → Option Reply → List Reply
 read is_own replied = if is_own then option_to_list replied else []
 
@@ -92,7 +92,7 @@ same_agree agent whole part same closed = record {
   closed = closed;
 }
 
--- after an event that is chosen it still is
+-- Agreement is preserved by a chosen event.
 pub same_after_chosen : (world : World) (agent : ℕ) (whole part : State) (event : Event) →
     Agree whole part (footprint world whole event) → SameAgent agent whole part →
     SameAgent agent (next world whole event) (next world part event)
@@ -100,7 +100,7 @@ same_after_chosen world agent whole part event own same =
     let after = next_agree world whole part event (alone agent) own (same_agree agent whole part same own.closed) in
     record { past = after.past agent refl; position = after.position agent refl }
 
--- and after one that is not the agent's
+-- Agreement is preserved by an event of another agent that is left out.
 pub same_after_left_out : (world : World) (agent : ℕ) (whole part : State) (event : Event) →
     ((footprint world whole event).who ≡ Some agent → false ≡ true) → SameAgent agent whole part →
     SameAgent agent (next world whole event) part

@@ -5,7 +5,7 @@ use Rattle.bhs_model.specs.declared.replies.Reply.{Reply}
 use Rattle.bhs_model.specs.Worlds.{World}
 use Rattle.bhs_model.specs.Runs.{State, initial, changed, next, reply}
 
--- an event, and the match that it happens in
+-- An event together with the number of its match.
 pub record Happening : Type 0 where
   pub game : ℕ
   pub event : Event
@@ -26,7 +26,7 @@ abbrev pub arena_from : (ℕ → World) → (ℕ → State) → List Happening �
 arena_from worlds states [] = states
 arena_from worlds states (one ∷ others) = arena_from worlds (arena_next worlds states one) others
 
--- what is answered in one match
+-- the replies within one match
 abbrev pub arena_replies_from :
     (ℕ → World) → (ℕ → State) → (game : ℕ) → List Happening → List (Option Reply)
 arena_replies_from worlds states game [] = []

@@ -16,8 +16,8 @@ at_places [] places = []
 at_places (x ∷ xs) [] = []
 at_places (x ∷ xs) (chosen ∷ places) = if chosen then x ∷ at_places xs places else at_places xs places
 
--- what an event has to do with others: whose it is, the node that is seen, the node that is written (also
--- by a write that fails), and whether it ends the match
+-- The footprint of an event: its agent, the node whose whiteboard it reads, the node whose whiteboard it writes (also
+-- by a write that fails), and whether it closes the match.
 pub record Footprint : Type 0 where
   pub who : Option ℕ
   pub seen : Option ℕ
@@ -64,7 +64,7 @@ footprints_from world state (event ∷ events) =
 abbrev pub footprints : World → List Event → List Footprint
 footprints world events = footprints_from world initial events
 
--- whether both are there and equal
+-- whether both options have a value and these values are equal
 abbrev pub meet : Option ℕ → Option ℕ → Bool
 meet (Some one) (Some two) = one == two
 meet one two = false
@@ -87,7 +87,7 @@ has_place [] place = false
 has_place (chosen ∷ places) zero = chosen
 has_place (chosen ∷ places) (suc place) = has_place places place
 
--- each place of the one set is a place of the other
+-- The first set of places is a subset of the second.
 abbrev pub IsWithin : (places others : List Bool) → Type 0
 IsWithin places others = (place : ℕ) → has_place places place ≡ true → has_place others place ≡ true
 

@@ -1,10 +1,10 @@
--- How what destroys is marked: a mark for each node, and one for each port.
+-- How destroying nodes and links are marked: a mark for each node, and a mark for each port.
 use Rattle.std.specs.Prelude.{ℕ, ◌≡◌, Bool, false, ◌||◌, List, length, replicate, slice_index_or}
 use Rattle.bhs_net.specs.Network.{Network, nodes_of, far_of}
 use Rattle.bhs_model.specs.Worlds.{is_hole, is_dark}
 use Rattle.bhs_model.specs.PortMarks.{mark_at, unmarked}
 
--- of each node whether it is a black hole, and of each port whether its link is dark
+-- For each node, whether it is a black hole; for each port, whether its link is dark.
 pub record Signs : Type 0 where
   pub nodes : List Bool
   pub ports : List (List Bool)

@@ -36,7 +36,7 @@ delivery_to held state (Some agent) =
 abbrev pub draw : Held → State → (word : ℕ) → Option Event
 draw held state word = if state.closed then None else delivery_to held state (pick (pool state) word)
 
--- what is done with a match from outside
+-- an action on a match from outside
 pub data Act : Type 0 where
   -- an agent says a command
   Says : (agent : ℕ) → Command → Act
@@ -51,7 +51,7 @@ event_of_act held state (Says agent command) = Some (Tell agent command)
 event_of_act held state (Draws word) = draw held state word
 event_of_act held state Closes = Some Close
 
--- the state after the event, if there is one
+-- the state after an optional event
 abbrev pub next_if : World → State → Option Event → State
 next_if world state None = state
 next_if world state (Some event) = next world state event

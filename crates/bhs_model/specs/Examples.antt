@@ -111,7 +111,7 @@ ADarkLinkIsSilent =
     × (answers dark_triangle round_to_the_dark_link
     ≡ entered ∷ Some Gone ∷ come_by_0 ∷ Some Gone ∷ come_by_0 ∷ Some Gone ∷ None ∷ Some (No Away) ∷ [])
 
--- and looks like one that is held in both
+-- A dark link is indistinguishable from a link that is held in both directions.
 abbrev pub held_between_0_and_2 : Held
 held_between_0_and_2 node port = (node == 0 && port == 1) || (node == 2 && port == 1)
 
@@ -230,8 +230,7 @@ WhoNeverMeetsIsNotInTheCut =
 abbrev pub WhoWroteWhatIsSeenIsInTheCut : Type 0
 WhoWroteWhatIsSeenIsInTheCut = cut 0 (footprints triangle met) ≡ replicate 8 true ++ false ∷ false ∷ []
 
--- a write that fails is the last one on the whiteboard all the same, and who sees the whiteboard has it
--- in its past
+-- A failed write still counts as the whiteboard's last write, and agents that see the whiteboard have it in their past.
 abbrev pub failing : Event
 failing = Tell 1 (Write (codes "x") (codes "b"))
 
@@ -246,17 +245,17 @@ abbrev pub AFailedWriteIsInTheCut : Type 0
 AFailedWriteIsInTheCut =
     cut 0 (footprints triangle (Tell 0 Enter ∷ Tell 1 Enter ∷ failing ∷ Tell 0 Look ∷ [])) ≡ replicate 4 true
 
--- what an agent that was never met left out, the other is answered as before
+-- After deleting the events of an agent that was never met, the other agent gets the same answers.
 abbrev pub TheCutStandsAlone : Type 0
 TheCutStandsAlone =
     replies triangle (at_places apart (cut 0 (footprints triangle apart))) ≡ entered ∷ entered ∷ []
 
--- a write without the steps of its agent before it
+-- a write without the earlier steps of its agent
 abbrev pub AStepNeedsTheStepsBefore : Type 0
 AStepNeedsTheStepsBefore =
     is_closed (footprints triangle apart) (false ∷ false ∷ false ∷ false ∷ true ∷ []) ≡ false
 
--- an arrival at a node without the write that is seen there
+-- an arrival that sees a whiteboard, without the write on that whiteboard
 abbrev pub ASightNeedsTheWrite : Type 0
 ASightNeedsTheWrite =
     is_closed (footprints triangle met) (true ∷ false ∷ false ∷ false ∷ false ∷ true ∷ true ∷ true ∷ [])

@@ -15,7 +15,7 @@ replies_from world state (event ∷ events) =
 abbrev pub replies : World → List Event → List (Option Reply)
 replies world events = replies_from world initial events
 
--- whether an event is the agent's
+-- whether the event belongs to this agent
 abbrev pub is_of : (agent : ℕ) → Event → Bool
 is_of agent (Tell other command) = agent == other
 is_of agent (Deliver other) = agent == other

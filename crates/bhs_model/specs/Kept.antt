@@ -24,7 +24,7 @@ keeps world state lost (Deliver agent) =
     arrives world state agent || (destroys world state agent && not (lost agent))
 keeps world state lost Close = not state.closed
 
--- the event and then the others, if it is kept
+-- prepends the event to the other events if it is kept
 abbrev pub kept_first : Bool → Event → List Event → List Event
 kept_first is_kept event events = if is_kept then event ∷ events else events
 

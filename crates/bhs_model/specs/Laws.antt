@@ -16,7 +16,7 @@ use Rattle.bhs_model.specs.Draws.{Held, Act, played, pool, SlowInstead}
 use Rattle.bhs_model.specs.Arenas.{Happening, events_of, arena, arena_replies}
 use Rattle.bhs_model.specs.Cuts.{at_places, Footprint, needs, footprints, is_closed, has_place, HasAllOf, IsWithin, cut}
 
--- the agent is one of the match, and the match has not ended
+-- The agent belongs to the match, and the match has not ended.
 pub record IsPlaying (world : World) (events : List Event) (agent : ℕ) : Type 0 where
   pub in_range : agent < world.agents
   pub open_match : (run world events).closed ≡ false
@@ -100,8 +100,7 @@ ClosedSetsStandAlone = (world : World) (events : List Event) (places : List Bool
     is_closed (footprints world events) places ≡ true →
     replies world (at_places events places) ≡ at_places (replies world events) places
 
--- The cut of an agent is closed, has all places of the agent, and lies in each set of which both is
--- true.
+-- The cut of an agent is closed, contains all places of the agent, and is the least such set.
 pub record IsLeastCut (world : World) (events : List Event) (agent : ℕ) (places : List Bool) :
     Type 0 where
   pub closed : is_closed (footprints world events) places ≡ true
@@ -114,8 +113,8 @@ abbrev pub CutsAreLeast : Type 0
 CutsAreLeast = (world : World) (events : List Event) (agent : ℕ) →
     IsLeastCut world events agent (cut agent (footprints world events))
 
--- The events in the cut of an agent suffice: by themselves they give it the past, the position and the
--- answers that all events give it. The other events change none of them.
+-- The events in an agent's cut suffice: without the other events, the agent has the same past, the same position and
+-- the same replies as with all events.
 pub record IsGivenAll (world : World) (events chosen : List Event) (agent : ℕ) : Type 0 where
   pub past : past world chosen agent ≡ past world events agent
   pub position : (run world chosen).position agent ≡ (run world events).position agent

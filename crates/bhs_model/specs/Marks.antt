@@ -38,7 +38,7 @@ read log Bye = replies.Bye
 read log Over = replies.Over
 read log (No why) = replies.No why
 
--- the reply that an event was given, if it was given one
+-- the reply that an event got, if any
 abbrev pub read_if : List Kept → Option Mark → Option Reply
 read_if log mark = option_map (read log) mark
 

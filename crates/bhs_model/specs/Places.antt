@@ -13,7 +13,7 @@ abbrev pub is_written : Option Reply → Bool
 is_written (Some Written) = true
 is_written reply = false
 
--- whether an agent at this position is at the node
+-- whether an agent at this position stands at the node
 abbrev pub is_at : Position → (node : ℕ) → Bool
 is_at (At place came) node = node == place
 is_at position node = false
@@ -38,11 +38,11 @@ written_from world state place written (event ∷ events) =
 abbrev pub unwritten : ℕ → Option ℕ
 unwritten node = None
 
--- the place of the last of these events that is a Write at the node and is answered Written; None if there is none
+-- The place of the last Write at the node that was answered Written; None if these events contain no such Write.
 abbrev pub written : World → List Event → (node : ℕ) → Option ℕ
 written world events = written_from world initial 0 unwritten events
 
--- where the agent of an event is
+-- the position of an event's agent
 abbrev pub position_by : State → Event → Position
 position_by state (Tell agent command) = state.position agent
 position_by state (Deliver agent) = state.position agent

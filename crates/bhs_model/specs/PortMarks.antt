@@ -7,7 +7,7 @@ use Rattle.std.specs.declared.alloc.Global.{Global}
 abbrev pub marks_of : List (Vec Bool Global) → List (List Bool)
 marks_of rows = map (λ row. row.items) rows
 
--- the marks of a node: none if it does not exist
+-- The marks of a node's ports; none if the node does not exist.
 abbrev pub row_at : List (List Bool) → (node : ℕ) → List Bool
 row_at marks node = slice_index_or marks node []
 
@@ -23,7 +23,7 @@ unmarked nodes = replicate nodes []
 abbrev pub marked_at : List (List Bool) → (node port : ℕ) → List (List Bool)
 marked_at marks node port = slice_set marks node (slice_set (row_at marks node) port true)
 
--- each mark is as it was, and no row is shorter
+-- Each mark is unchanged, and no row has become shorter.
 pub record HasMoreRoom (early late : List (List Bool)) : Type 0 where
   pub rows : length late ≡ length early
   pub same : (node port : ℕ) → mark_at late node port ≡ mark_at early node port

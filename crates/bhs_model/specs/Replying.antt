@@ -80,7 +80,7 @@ accepts standing room command = room
 abbrev pub hears : (quota : ℕ) → View → Command → Bool
 hears quota view command = accepts (standing view) (nat_lt (used view) quota) command
 
--- why an agent in this standing is not heard
+-- the reason to refuse a command of an agent with this standing
 abbrev pub refusal : Standing → Command → Why
 refusal Outside command = NotEntered
 refusal standing Enter = Twice

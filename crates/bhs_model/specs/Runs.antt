@@ -1,4 +1,4 @@
--- What happens in a match, as a fold over its events, and what is answered.
+-- The semantics of a match: a fold over its events, and the replies to events.
 use Rattle.std.specs.Prelude.{ℕ, Bool, true, false, not, ◌&&◌, Option, Some, None, List, [], ◌∷◌, ◌++◌, if◌then◌else◌}
 use Rattle.std.specs.Prelude.{◌==◌, nat_lt, filter}
 use Rattle.bhs_model.specs.declared.commands.Command.{Command}
@@ -17,7 +17,7 @@ use Rattle.bhs_model.specs.Worlds.{World, doomed}
 pub data Position : Type 0 where
   -- not in the network yet
   Before : Position
-  -- at a node, come by the link with this label there; None if it entered there
+  -- The agent stands at a node; `came` is the label of its arrival link, None if it entered there.
   At : (node : ℕ) → (came : Option ℕ) → Position
   -- on the link that leaves the node by the port
   Bound : (node port : ℕ) → Position
@@ -74,7 +74,7 @@ abbrev pub last_writes_after : (ℕ → LastWrite) → Position → Command → 
 last_writes_after last_writes (At node came) (Write expect put) past = changed last_writes node (WrittenBy past)
 last_writes_after last_writes position command past = last_writes
 
--- whether an agent is on a link
+-- whether the agent travels on a link
 abbrev pub is_bound : Position → Bool
 is_bound (Bound node port) = true
 is_bound position = false
@@ -110,7 +110,7 @@ abbrev pub heard : World → State → (agent : ℕ) → Command → Bool
 heard world state agent command =
     nat_lt agent world.agents && (not state.closed && hears world.quota (state.past agent) command)
 
--- whether an agent at this position is on a link that destroys
+-- whether the agent travels on a link that will destroy it
 abbrev pub is_doomed : World → Position → Bool
 is_doomed world (Bound node port) = doomed world node port
 is_doomed world position = false
@@ -164,7 +164,7 @@ reply_to_command world state agent command =
     then (if state.closed then Some Over else reply_in_play world state agent command)
     else Some (No Agent)
 
--- the reply to an event, if there is one
+-- the reply to an event, if any
 abbrev pub reply : World → State → Event → Option Reply
 reply world state (Tell agent command) = reply_to_command world state agent command
 reply world state (Deliver agent) =

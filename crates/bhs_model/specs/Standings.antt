@@ -1,4 +1,4 @@
--- What an agent is doing, by where it is.
+-- The standing of an agent, computed from its position.
 use Rattle.bhs_model.specs.Views as views
 use Rattle.bhs_model.specs.Runs.{Position, Before, At, Bound, After}
 

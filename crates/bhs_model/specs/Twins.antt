@@ -27,7 +27,7 @@ strike_from world other state (event ∷ events) =
     let rest = strike_from world other (next world state event) events in
     if is_struck world other state event then rest else event ∷ rest
 
--- the events without the struck ones
+-- removes the struck events
 abbrev pub strike : (world other : World) → List Event → List Event
 strike world other events = strike_from world other initial events
 

@@ -24,13 +24,13 @@ mutual
   pub data Sight : Type 0 where
     Seen : ℕ → Option ℕ → LastWrite → Sight
 
-  -- who wrote on a whiteboard last: nobody, or an agent whose past, up to and with that write, is this
-  -- one. A write that failed counts.
+  -- The last writer of a whiteboard: nobody, or an agent whose past, up to and including that write, is this one. A
+  -- failed write counts.
   pub data LastWrite : Type 0 where
     Unwritten : LastWrite
     WrittenBy : View → LastWrite
 
--- what an agent may be doing
+-- the standing of an agent
 pub data Standing : Type 0 where
   -- it has not entered
   Outside : Standing
@@ -38,7 +38,7 @@ pub data Standing : Type 0 where
   Present : Standing
   -- it is on a link
   Away : Standing
-  -- it has said that it ends
+  -- The agent has ended by its own command.
   Ended : Standing
 
 -- how many ports the node has that is seen

@@ -2,8 +2,8 @@
 use Rattle.std.specs.Prelude.{ℕ, Bool, ◌||◌, List, ◌==◌, ◌&&◌}
 use Rattle.std.specs.List.{list_any}
 
--- a network: its nodes are numbered from 0, and so are the ports of a node. far gives the node at the
--- other end of the link at a port, and the label of that link there.
+-- A network. Nodes are numbered from 0, and so are the ports of each node. `far` maps a port to the node at the other
+-- end of its link and the link's label there.
 pub record Network : Type 0 where
   pub nodes : ℕ
   pub degree : ℕ → ℕ
@@ -21,15 +21,15 @@ pub record World : Type 0 where
   pub quota : ℕ
   pub board : ℕ
 
--- whether this node is one of these holes
+-- whether the node is one of these black holes
 abbrev pub is_hole : List ℕ → (node : ℕ) → Bool
 is_hole holes node = list_any (λ hole. hole == node) holes
 
--- whether an end is this port of this node
+-- whether an end consists of this node and this port
 abbrev pub names : (node port : ℕ) → (end : ℕ × ℕ) → Bool
 names node port end = end.0 == node && (end.1 == port)
 
--- whether the link at this port is one of the dark links: one of them has this end, or this at its far end
+-- whether the link at this port is dark: the list of dark links contains this end or its far end
 abbrev pub is_dark : (far : ℕ → ℕ → ℕ × ℕ) → List (ℕ × ℕ) → (node port : ℕ) → Bool
 is_dark far dark node port = list_any (λ end. names node port end || names node port (far end.0 end.1)) dark
 

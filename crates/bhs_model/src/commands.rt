@@ -17,6 +17,6 @@ pub enum Command {
     Accuse { port: u16 },
     /// End.
     Leave,
-    /// A line that is no command.
+    /// A line that does not parse as a command.
     Bad,
 }

@@ -15,8 +15,8 @@ use bhs_net::Net;
 use std::alloc::{AllocError, Global};
 use std::marker::Model;
 
-/// What destroys on a network: a mark for each node that is a black hole, and one for each port of a dark link, by
-/// which it is looked up in one step. Nothing else in the program says what destroys. A node's row of marks of ports is
+/// The destroying nodes and links of a network: a mark for each black hole, and a mark for each port of a dark link, so
+/// that a lookup takes one step. No other part of the program knows what destroys agents. A node's row of port marks is
 /// as long as its dark links need.
 #[derive(Debug, Drop)]
 pub struct Dooms {

@@ -2,7 +2,7 @@
 
 use crate::commands::Command;
 
-/// What may happen in a match.
+/// An event of a match.
 #[derive(Clone, Debug, PartialEq, Eq, Drop)]
 pub enum Event {
     /// An agent says a command.

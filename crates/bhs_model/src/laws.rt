@@ -108,7 +108,7 @@ pub fn hole_looks_slow()
     ensures there_is_one { HasSlowTwin }
 {}
 
-/// A match among others is as it is alone.
+/// Non-interference: a match of an arena behaves as it does alone.
 pub fn matches_are_apart()
     ensures { MatchesAreApart }
 {}

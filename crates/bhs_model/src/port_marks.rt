@@ -37,7 +37,7 @@ pub fn mark_port(marks: &mut Vec<Vec<bool>>, node: u16, port: u16)
     row[usize::from(port)] = true;
 }
 
-/// The mark of a port; none if its row is shorter, or there is no row.
+/// Returns the mark of a port; false if the row is shorter or missing.
 pub fn is_port_marked(marks: &[Vec<bool>], node: u16, port: u16) -> bool
     ensures { result ≡ mark_at (marks_of marks.now) node port }
 {

@@ -18,7 +18,7 @@ pub enum Reply {
     Changed {
         board: Text,
     },
-    /// The agent is on its way.
+    /// The agent has departed and is on its link.
     Gone,
     /// The accusation stands, right or wrong, and the agent has ended.
     Noted,
@@ -43,11 +43,11 @@ pub enum Why {
     Ended = 4,
     /// The agent has used its quota of commands.
     Spent = 5,
-    /// The agent is on a link.
+    /// Refusal: the agent is on a link.
     Away = 6,
     /// The line was no command.
     Line = 7,
-    /// The node has no such port.
+    /// Refusal: the node has no such port.
     Port = 8,
     /// The text has more bytes than the whiteboard holds.
     Long = 9,

@@ -1,14 +1,13 @@
-//! How schedules of a match are drawn, and what is looked for among them.
+//! How schedules of a match are drawn, and which kind of schedule is searched for.
 
-/// How the agent that moves next is drawn among those that can.
+/// How the next agent is drawn among those that can move.
 #[derive(Clone, Copy, Debug, PartialEq, Eq)]
 pub enum Scheduler {
     /// Each is as likely.
     Fair,
     /// Agents go as far as they can, and of those on links the one arrives that departed last.
     LastDeparted,
-    /// One agent moves only if no other can. It is the one whose number is that of the schedule, counted round the
-    /// team.
+    /// One agent moves only if no other agent can: the agent with the schedule's number, modulo the team's size.
     Starved,
     /// Some agents are slow to be answered, and some to arrive, for the whole schedule; sleepers wake seldom.
     SlowAgents,

@@ -3,7 +3,7 @@
 use crate::dark_links::DarkLinks;
 use crate::holes::Holes;
 
-/// How a match is set up, beside its network.
+/// The parameters of a match apart from its network.
 #[derive(Clone, Debug, PartialEq, Eq, Drop)]
 pub struct Setup {
     /// The node at which every agent enters.

@@ -69,7 +69,7 @@ found (other ∷ ends) end h = ⊎_elim
     (found ends end (sym (ap (λ (b : Bool). b || list_any (eq_by_cmp end_cmp end) ends) apart) ∙ h)))
     (end_cmp-cases end other)
 
--- a list without an end twice is no longer than one that has all its ends
+-- A list of distinct ends is no longer than any list that contains all of them.
 no_longer : (ends others : List End) → IsDistinct (eq_by_cmp end_cmp) ends
     → ((end : End) → Has ends end → Has others end) → length ends ≤ length others
 no_longer ends others distinct all =
@@ -137,7 +137,7 @@ abbrev labels : ℕ → ℕ → List End → List End
 labels node zero rest = rest
 labels node (suc port) rest = (node, port) ∷ labels node port rest
 
--- the ports of the rows, of which the first is this node's
+-- The ports of these rows; the first row belongs to this node.
 abbrev ports_from : ℕ → Network → List End
 ports_from node [] = []
 ports_from node (row ∷ rows) = labels node (length row) (ports_from (suc node) rows)

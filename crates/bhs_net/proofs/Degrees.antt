@@ -64,7 +64,7 @@ take-network_of rows node row h is =
     take_more (network_of rows) node [] (let len = length-map rows (λ (r : Vec End Global). r.items) in omega arith)
     ∙ ap (λ (r : List End). take node (network_of rows) ++ r ∷ []) (row_of-network_of rows node row h is)
 
--- what a row has at a port is an end at a node
+-- Each entry of a row names an end at an existing node.
 pub far_node : (rows : List (Vec End Global)) (node port : ℕ) (row : Vec End Global) (end : End)
     → IsPortLabelled (network_of rows) → node < length rows → row ≡ get_or rows node row → port < length row.items
     → end ≡ get_or row.items port end → end.0 < nodes_of (network_of rows)

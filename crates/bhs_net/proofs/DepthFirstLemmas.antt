@@ -22,8 +22,8 @@ LeadsBefore row places ports P = (port : ℕ) × (port < ports)
 abbrev pub Goes : Network → (ℕ → ℕ) → ℕ → (ℕ → Type 0) → Type 0
 Goes net place node P = (other : ℕ) × Leads net node other × P (place other)
 
--- the node leads to a lower place, but from the first; to a higher one, but from the last; and from the first to the
--- last
+-- Every node has a neighbour at a lower place, except the first node; a neighbour at a higher place, except the last;
+-- and the first and the last node are neighbours.
 pub record IsPlaced (net : Network) (place : ℕ → ℕ) (last node : ℕ) : Type 0 where
   pub within : place node ≤ last
   pub down : (place node ≡ 0) ⊎ Goes net place node (λ other. other < place node)
@@ -36,7 +36,7 @@ zero_or_more n = grind arith
 module _ (net : Network) (labelled : IsPortLabelled net) (place node_at : ℕ → ℕ) (last : ℕ)
     (is_at : (node : ℕ) → node < nodes_of net → node_at (place node) ≡ node)
     (placed : (node : ℕ) → node < nodes_of net → IsPlaced net place last node) where
-  -- nodes with one place are one
+  -- Places are injective: two nodes at the same place are equal.
   same_node : (node other : ℕ) → node < nodes_of net → other < nodes_of net → place node ≡ place other → node ≡ other
   same_node node other lt lt' e = sym (is_at node lt) ∙ (ap node_at e ∙ is_at other lt')
 
@@ -114,7 +114,7 @@ module _ (net : Network) (labelled : IsPortLabelled net) (place node_at : ℕ �
         (same_node way.0 other way.1 other_in (way.2 ∙ sym is_last))
         (way.3 cut (let o : place node ≢ place cut = off in omega arith))
 
-    -- and to the first, where another is
+    -- A node other than the first reaches the first node without the cut node.
     to_first : (cut node : ℕ) → 0 < place cut → node < nodes_of net → place node ≢ place cut
         → IsPath (Without cut (Leads net)) node first
     to_first cut node positive lt off = ⊎_elim

@@ -37,7 +37,7 @@ pub none_from_is_some : {X : Type 0} (o : Option X) → is_some o ≡ false → 
 none_from_is_some (Some x) h = absurd (let no : true ≡ false = h in cc)
 none_from_is_some None h = refl
 
--- an end of one of the first links is in the map
+-- Each end of the first links is a key of the map.
 has_early : (links : List Link) (seen : ℕ) (far_ends : BTreeMap End End) → KnowsEnds links seen far_ends → (early : ℕ)
     → early < seen → (end : End) → HasEnd (link_at links early) end → (other : End)
     × (get end_cmp far_ends end ≡ Some other)
@@ -56,7 +56,7 @@ HasEnd-from_joins : (link : Link) (end other : End) → Joins link end other →
 HasEnd-from_joins link end other (inl j) = inl j.0
 HasEnd-from_joins link end other (inr j) = inr j.0
 
--- a link with an end that is in the map is the first that has an end twice
+-- The first link with an end among the map's keys is the first that uses a port twice.
 pub IsPortTwice-first : (links : List Link) (seen : ℕ) (far_ends : BTreeMap End End) → KnowsEnds links seen far_ends
     → seen < length links → (is_some (get end_cmp far_ends (near_end (link_at links seen))) ≡ true)
     ⊎ (is_some (get end_cmp far_ends (far_end (link_at links seen))) ≡ true) → IsLeast (IsPortTwice links) seen

@@ -20,7 +20,7 @@ pub record HasPorts (links : List Link) (node ports : ℕ) (row : List End) : Ty
   pub size : length row ≡ ports
   pub joined : (port : ℕ) → port < ports → AreJoined links (node, port) (get_or row port (0, 0))
 
--- what is pushed is the last of a list
+-- The pushed item is the last item of the list.
 last_is : {X : Type 0} (xs : List X) (x d : X) (n : ℕ) → length xs ≡ n → get_or (xs ++ x ∷ []) n d ≡ x
 last_is xs x d n size = ap (λ k. get_or (xs ++ x ∷ []) k d) (sym size) ∙ get_or-append_seam xs x [] d
 
@@ -72,7 +72,7 @@ pub record KnowsHeads (nodes ports : ℕ) (row : List End) (marks : List Bool) :
 -- ---- rows that are filled by an index make a network with port labels
 module _ (links : List Link) (index : Index) (net : Network) (indexed : AreIndexed links index)
     (filled : AreFilled links index net) where
-  -- a link is indexed for each of its ends
+  -- The index contains each link under both ends.
   indexed_for : (place : ℕ) (end : End) → place < length links → HasEnd (link_at links place) end
       → place_at index end ≡ Some place
   indexed_for place end lt (inl e) = subst (λ (q : End). place_at index q ≡ Some place) e (indexed place lt).0

@@ -6,7 +6,7 @@ use Rattle.bhs_net.specs.Links.{End, near_end, far_end, link_at, HasEnd}
 use Rattle.bhs_net.specs.Network.{Network, HasPort, degree_of}
 use Rattle.bhs_net.proofs.Places.{below_or_at, lt_or_ge}
 
--- of the ends with P, none lies beyond its node's row, or this is the least node with one that does
+-- No end with P lies beyond its node's row; or this is the least node whose row ends before such an end.
 abbrev pub LeastBeyond : (End → Type 0) → Network → Option ℕ → Type 0
 LeastBeyond P net least = MatchOption least
     ((end : End) → P end → HasPort net end)
@@ -66,7 +66,7 @@ module _ (P : End → Type 0) (net : Network) (node port : ℕ) where
       (added least small beyond h))
       (lt_or_ge port (degree_of net node))
 
--- of other ends that are the same
+-- The same holds for any equivalent predicate on ends.
 pub LeastBeyond-same : (P Q : End → Type 0) (net : Network) (least : Option ℕ) → ((end : End) → P end → Q end)
     → ((end : End) → Q end → P end) → LeastBeyond P net least → LeastBeyond Q net least
 LeastBeyond-same P Q net None to back h = λ end has. h end (back end has)

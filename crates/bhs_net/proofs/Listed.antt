@@ -74,7 +74,7 @@ Joins-same a b end other end' other' (inr i) (inr j) e f =
           ∙ (e ∙ sym (ap (λ (q : End). q.0) j.0)),
     )
 
--- a link that is no loop has one port at a node
+-- A link that is no loop has exactly one port at each of its nodes.
 Joins-one : (link : Link) (node port port' : ℕ) (other other' : End) → link.v ≢ link.w → Joins link (node, port) other
     → Joins link (node, port') other' → port ≡ port'
 Joins-one link node port port' other other' no_loop (inl i) (inl j) = ap (λ (q : End). q.1) (sym i.0 ∙ j.0)
@@ -125,7 +125,7 @@ module _ (nodes : ℕ) (links : List Link) (far_ends : BTreeMap End End) (net : 
       ((passes.rows.rows node (let n = HasPort-node net node port h in let s = passes.rows.size in omega arith)).ports
       port h)
 
-  -- what an end in a row is joined to
+  -- Each row contains the far end of its port, as the links join them.
   row_far : (end other : End) → HasPort net end → AreJoined links end other → far_of net end.0 end.1 ≡ other
   row_far end other h joined =
       let there = (passes.rows.rows end.0 (let n = HasPort-node net end.0 end.1 h in let s = passes.rows.size in
@@ -153,7 +153,7 @@ module _ (nodes : ℕ) (links : List Link) (far_ends : BTreeMap End End) (net : 
       let joined = AreJoined-from_listed links end listed in
       let no : None ≡ Some joined.0 = sym none ∙ passes.map.whole end joined.0 joined.1 in cc
 
-  -- a node that has a port beyond its row has a gap
+  -- A node with a listed port beyond its row has a gap.
   pub IsGap-from_beyond : (node : ℕ) → degree_of net node < 65536 → IsBeyond links net node → IsGap links node
   IsGap-from_beyond node short beyond =
       let row = passes.rows.rows node (listed_node (node, beyond.0) beyond.1) in
@@ -182,7 +182,7 @@ module _ (nodes : ℕ) (links : List Link) (far_ends : BTreeMap End End) (net : 
       (none_below_two nodes links (passes.few, passes.many)) passes.ends) passes.loops) passes.doubles) passes.twice
 
   module _ (all : HasAllPorts links net) where
-    -- each end that is listed is in a row
+    -- Each listed end is a port of the network.
     joined_port : (end other : End) → AreJoined links end other → HasPort net end
     joined_port end other joined = pick joined.2
       where

@@ -238,7 +238,7 @@ le_by_below zero b all = omega arith
 le_by_below (suc a) b all = let last : a < b = all a (omega arith) in omega arith
 
 module _ (net other : Network) (links : List Link) (made_of : HasLinks net links) (too : HasLinks other links) where
-  -- a port of the one network is a port of the other, and leads to the same end
+  -- A port of one network is a port of the equal network and leads to the same end.
   same_port : (node port : ℕ) → port < degree_of net node → (port < degree_of other node)
       × (far_of other node port ≡ far_of net node port)
   same_port node port h = joined_leads other links too node port (far_of net node port) (made_of.all node port h)

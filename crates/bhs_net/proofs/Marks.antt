@@ -15,7 +15,7 @@ use Rattle.bhs_net.proofs.Listed.{HasPort-node}
 use Rattle.bhs_net.proofs.Degrees.{row_of-network_of}
 use Rattle.bhs_net.proofs.Walks.{IsPath-none, IsPath-more, IsPath-ends}
 
--- the marks so far, and the nodes that have one in the order in which they were found
+-- The invariant of the search: the marks, and the marked nodes in the order of discovery.
 pub record IsSearch (net : Network) (start removed : ℕ) (marks : List Bool) (found : List ℕ) : Type 0 where
   pub size : length marks ≡ nodes_of net
   pub from_start : IsMarked marks start

@@ -1,6 +1,6 @@
 use Rattle.std.proofs.Common.{◌≡◌, ℕ, ◌+◌, ◌<◌, ◌≤◌, ◌⊎◌, arith}
 
--- a place below the next one is below this one, or is this one
+-- Case analysis: a place below the successor is smaller or equal.
 pub below_or_at : (early seen : ℕ) → early < seen + 1 → (early < seen) ⊎ (early ≡ seen)
 below_or_at early seen h = grind arith
 

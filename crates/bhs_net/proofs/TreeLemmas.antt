@@ -23,7 +23,7 @@ module _ (net : Network) (labelled : IsPortLabelled net) (search : DepthFirst) (
   step node other leads off off' = IsPath-more (Without cut (Leads net)) node node other
       (IsPath-none (Without cut (Leads net)) node) (leads, off, off')
 
-  -- nodes at other places are others
+  -- Nodes at different places are different.
   off_by : (node : ℕ) → place search node ≢ place search cut → node ≢ cut
   off_by node differ same = differ (ap (place search) same)
 
@@ -33,7 +33,7 @@ module _ (net : Network) (labelled : IsPortLabelled net) (search : DepthFirst) (
 
   -- ---- another node than the first is removed
 
-  -- a way to the lowest place of a node that was found behind the one that is removed
+  -- A path to the low point of a node that was discovered below the cut node.
   abbrev Out : ℕ → Type 0
   Out node = (end : ℕ) × (end < nodes_of net) × (place search end ≡ low search node) × Way node end
 

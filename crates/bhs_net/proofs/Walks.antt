@@ -37,7 +37,7 @@ back E turn (suc n) a b p = IsPath-append E b p.0 a (IsPath-more E b b p.0 (IsPa
 pub IsPath-back : (E : ℕ → ℕ → Type 0) → ((a b : ℕ) → E a b → E b a) → (a b : ℕ) → IsPath E a b → IsPath E b a
 IsPath-back E turn a b p = back E turn p.0 a b p.1
 
--- what holds at the start and at the end of each step from where it holds, holds at the end
+-- Induction along a path: a property of the start that each step preserves holds at the end.
 ends : (E : ℕ → ℕ → Type 0) (P : ℕ → Type 0) → ((a b : ℕ) → P a → E a b → P b) → (a : ℕ) → P a → (n b : ℕ)
     → Path E a b n → P b
 ends E P keeps a start zero b p = subst (λ d. P d) p start

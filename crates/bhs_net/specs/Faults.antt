@@ -8,7 +8,7 @@ use Rattle.bhs_net.specs.Links.{link_at, SameNodes, SharesEnd, IsListed, AreLink
 use Rattle.bhs_net.specs.Paths.{IsPath, Without}
 use Rattle.bhs_net.specs.Network.{Network, nodes_of, IsPortLabelled, HasLinks}
 
--- an end of the link is at a node that does not exist
+-- An end of the link names a node that does not exist.
 abbrev pub IsStray : ℕ → List Link → ℕ → Type 0
 IsStray nodes links place = (place < length links)
     × ((nodes ≤ (link_at links place).v) ⊎ (nodes ≤ (link_at links place).w))
@@ -27,7 +27,7 @@ abbrev pub IsPortTwice : List Link → ℕ → Type 0
 IsPortTwice links place = (place < length links)
     × ((early : ℕ) × (early < place) × SharesEnd (link_at links early) (link_at links place))
 
--- a port of the node is listed, and a lower one is not
+-- A port of the node is listed and a lower port is not.
 abbrev pub IsGap : List Link → ℕ → Type 0
 IsGap links node = (port lower : ℕ) × IsListed links (node, port) × (lower < port) × ¬ IsListed links (node, lower)
 
@@ -81,12 +81,12 @@ abbrev pub IsBefore : NetFault → NetFault → Type 0
 IsBefore early late = (number_of early < number_of late)
     ⊎ ((number_of early ≡ number_of late) × (place_of early < place_of late))
 
--- the list has this fault, and no fault that is told before it
+-- The list has this fault and none of the faults that take precedence.
 pub record IsFirstFault (nodes : ℕ) (links : List Link) (fault : NetFault) : Type 0 where
   pub holds : Holds nodes links fault
   pub none_before : (early : NetFault) → IsBefore early fault → ¬ Holds nodes links early
 
--- the list has no fault of a number up to this one
+-- The list has no fault up to this number in the order of precedence.
 abbrev pub HasNoFault : ℕ → List Link → ℕ → Type 0
 HasNoFault nodes links number = (fault : NetFault) → number_of fault ≤ number → ¬ Holds nodes links fault
 

@@ -12,15 +12,15 @@ Index = List (List ℕ)
 abbrev pub index_of : List (Vec ℕ Global) → Index
 index_of rows = map (λ row. row.items) rows
 
--- the places that the index has for a node
+-- the places of a node's links in the index
 abbrev pub places_at : Index → ℕ → List ℕ
 places_at index node = slice_index_or index node []
 
--- the place that the index has for an end
+-- the place of an end's link in the index
 abbrev pub place_at : Index → End → Option ℕ
 place_at index end = slice_get (places_at index end.0) end.1
 
--- the index has each link for both of its ends
+-- The index contains each link under both ends.
 abbrev pub AreIndexed : List Link → Index → Type 0
 AreIndexed links index = (place : ℕ) → place < length links
     → (place_at index (near_end (link_at links place)) ≡ Some place)

@@ -1,7 +1,7 @@
 use Rattle.std.specs.Prelude.{◌≡◌, ℕ, ◌<◌, ◌⊎◌, List, length, slice_index_or}
 use Rattle.bhs_net.specs.declared.links.Link.{Link}
 
--- a node and one of its ports
+-- An end of a link: a node and one of its ports.
 abbrev pub End : Type 0
 End = ℕ × ℕ
 
@@ -42,6 +42,6 @@ IsListed links end = (place : ℕ) × (place < length links) × HasEnd (link_at 
 abbrev pub AreJoined : List Link → End → End → Type 0
 AreJoined links end other = (place : ℕ) × (place < length links) × Joins (link_at links place) end other
 
--- some link of the list leads from the one node to the other
+-- Some link of the list joins the two nodes.
 abbrev pub AreLinked : List Link → ℕ → ℕ → Type 0
 AreLinked links node other = (port : ℕ) × (label : ℕ) × AreJoined links (node, port) (other, label)

@@ -7,7 +7,7 @@ use Rattle.bhs_net.specs.declared.links.Link.{Link}
 use Rattle.bhs_net.specs.Links.{End, near_end, far_end, link_at, IsListed, AreJoined}
 use Rattle.bhs_net.specs.Network.{Network, nodes_of, row_of, degree_of, HasPort}
 
--- P holds at this place, and at none before it
+-- P holds at this place and at no earlier place.
 abbrev pub IsLeast : (ℕ → Type 0) → ℕ → Type 0
 IsLeast P place = P place × ((early : ℕ) → early < place → ¬ P early)
 
@@ -19,7 +19,7 @@ TellsLeast fault_at P fault = (place : ℕ) × (fault ≡ fault_at place) × IsL
 abbrev pub end_cmp : End → End → Ordering
 end_cmp a b = ordering_then (nat_cmp a.0 b.0) (nat_cmp a.1 b.1)
 
--- the map leads from each end that is listed to the end that it is joined to, and from no other
+-- The map sends each listed end to the end that a link joins with it, and has no further keys.
 pub record MapsEnds (links : List Link) (far_ends : BTreeMap End End) : Type 0 where
   pub sound : (end other : End) → get end_cmp far_ends end ≡ Some other → AreJoined links end other
   pub whole : (end other : End) → AreJoined links end other → get end_cmp far_ends end ≡ Some other

@@ -37,7 +37,7 @@ ports_of net = sum_by length net
 abbrev pub HasPort : Network → End → Type 0
 HasPort net end = end.1 < degree_of net end.0
 
--- some port of the one node leads to the other
+-- Some port of the first node leads to the second node.
 abbrev pub Leads : Network → ℕ → ℕ → Type 0
 Leads net node other = (port : ℕ) × (port < degree_of net node) × ((far_of net node port).0 ≡ other)
 
@@ -68,7 +68,7 @@ pub record IsNetwork (net : Network) : Type 0 where
   pub connected : IsConnected net
   pub biconnected : (cut : ℕ) → cut < nodes_of net → AreJoinedWithout net cut
 
--- the list has the links of the network, each of them once
+-- The list contains each link of the network exactly once.
 pub record HasLinks (net : Network) (links : List Link) : Type 0 where
   pub near : (place : ℕ) → place < length links → HasPort net (near_end (link_at links place))
       × (far_of net (link_at links place).v (link_at links place).p ≡ far_end (link_at links place))

@@ -6,7 +6,7 @@ abbrev pub Path : (ℕ → ℕ → Type 0) → ℕ → ℕ → ℕ → Type 0
 Path Step node other zero = node ≡ other
 Path Step node other (suc steps) = (before : ℕ) × Path Step node before steps × Step before other
 
--- some path leads from the one node to the other
+-- Some path leads from the first node to the second.
 abbrev pub IsPath : (ℕ → ℕ → Type 0) → ℕ → ℕ → Type 0
 IsPath Step node other = (steps : ℕ) × Path Step node other steps
 

@@ -17,7 +17,7 @@ abbrev pub ReachesAll : Network → ℕ → ℕ → Type 0
 ReachesAll net start removed = (node : ℕ) → node < nodes_of net → node ≢ removed
     → IsPath (Without removed (Leads net)) start node
 
--- there is a node but `removed` to which none of these paths leads
+-- None of these paths leads to some node other than `removed`.
 abbrev pub MissesSome : Network → ℕ → ℕ → Type 0
 MissesSome net start removed = (node : ℕ) × (node < nodes_of net) × (node ≢ removed)
     × ¬ IsPath (Without removed (Leads net)) start node

@@ -23,9 +23,9 @@ low search node = place_in search.lows node
 abbrev pub escape : DepthFirst → ℕ → ℕ
 escape search node = place_in search.escapes node
 
--- A node with this row hangs in the tree of a search: it has a link to its parent, which was found before it, and one
--- to the neighbour over which the way to its lowest place begins. That neighbour has this place, or it was found later
--- and has the same lowest place.
+-- A node with this row belongs to the search tree: it has a link to its parent, which was discovered earlier, and a
+-- link to its escape neighbour, over which the path to its low point begins. The escape neighbour is at the low point
+-- itself, or was discovered later and has the same low point.
 pub record Hangs (row : List End) (search : DepthFirst) (nodes node : ℕ) : Type 0 where
   pub within : place search node < nodes
   pub up : HasHead row (parent search node)
@@ -40,8 +40,8 @@ pub record IsTree (net : Network) (search : DepthFirst) : Type 0 where
   pub root : place search 0 ≡ 0
   pub hung : (node : ℕ) → node < nodes_of net → node ≢ 0 → Hangs (row_of net node) search (nodes_of net) node
 
--- A way leads past a node from one that was found from it: to a place below the node; or there is nothing below, and no
--- other node was found from it.
+-- A path leads from a child past its parent to a place below the parent; or the parent is the root and this child is
+-- its only child.
 abbrev pub LeadsPast : DepthFirst → (node child : ℕ) → Type 0
 LeadsPast search node child =
     ((node ≡ 0) × (child ≡ place_in search.found 1)) ⊎ ((node ≢ 0) × (low search child < place search node))

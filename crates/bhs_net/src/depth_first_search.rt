@@ -1,10 +1,9 @@
-//! An order of the nodes that shows that no node cuts a network: each node but the first has a neighbour before it,
-//! each but the last has one behind it, and the first and the last are neighbours. Without any one node those before
-//! it still lead down to the first, and those behind it up to the last. It is called an st-numbering; A. Lempel,
-//! S. Even and I. Cederbaum ("An algorithm for planarity testing of graphs", 1967) showed that each network has one.
-//! It is found by a depth-first search, as by R. E. Tarjan ("Two streamlined depth-first search algorithms",
-//! Fundamenta Informaticae 9, 1986). Nothing is proved of how it is found: it is checked. Both take time in the number
-//! of ports.
+//! An st-numbering shows that no node cuts a network: each node except the first has a neighbour at a lower place, each
+//! node except the last a neighbour at a higher place, and the first and the last node are neighbours. Without any one
+//! node, lower nodes still lead down to the first node, and higher nodes up to the last. A. Lempel, S. Even and I.
+//! Cederbaum ("An algorithm for planarity testing of graphs", 1967) showed that each 2-connected network has one. R. E.
+//! Tarjan ("Two streamlined depth-first search algorithms", Fundamenta Informaticae 9, 1986) computes it by depth-first
+//! search. The computation is not proved; its result is checked. Both take time linear in the number of ports.
 
 ghost use Rattle.std.specs.Prelude.{◌≡◌, ◌<◌, true};
 ghost use Rattle.bhs_net.specs.Network.{network_of, IsPortLabelled, IsNetwork};
@@ -13,7 +12,7 @@ ghost use Rattle.bhs_net.specs.DepthFirst.{LeadsOn};
 
 use crate::listing::End;
 
-/// A table by node has a place for each node that a network may have. It is a power of two.
+/// The size of tables indexed by node: the largest number of nodes, a power of two.
 pub const NODES: usize = 4096;
 
 // The most steps of a search: one for each port, and one back from each node.
@@ -26,9 +25,9 @@ pub struct NodeOrder {
     places: [u16; NODES],
 }
 
-/// A depth-first search from node 0. By place: the nodes that were found. By node: its place, the node from which it
-/// was found, the first place to which a link leads from it or from one that was found behind it, and the neighbour
-/// over which the way to that place begins.
+/// A depth-first search from node 0. By place: the discovered nodes. By node: its place, its parent, its low point (the
+/// least place to which a link leads from the node or from a descendant), and the neighbour over which the path to the
+/// low point begins.
 #[derive(Drop)]
 pub struct DepthFirst {
     pub found: [u16; NODES],
@@ -122,8 +121,8 @@ pub fn depth_first(rows: &[Vec<End>]) -> DepthFirst {
     search
 }
 
-/// An order of the nodes, which is one as above if there is one; that is not proved. Each node is put beside the one
-/// from which it was found, before or behind it.
+/// Computes an order of the nodes, an st-numbering if one exists; this is not proved. Each node is placed next to its
+/// parent, before or behind it.
 pub fn order_of(search: &DepthFirst) -> NodeOrder {
     let second = search.found[1];
     let mut before = [0; NODES];
@@ -161,8 +160,8 @@ pub fn order_of(search: &DepthFirst) -> NodeOrder {
     order
 }
 
-// Whether a row leads to a node of a lower place, but from the first; to one of a higher place, but from the last; and
-// from the first to the last.
+// Returns whether a row has a neighbour at a lower place, except for the first place; a neighbour at a higher place,
+// except for the last; and whether the first and the last node are neighbours.
 fn leads_on(row: &[End], places: &[u16], place: u16, last: u16) -> bool
     ensures { result ≡ true → LeadsOn row.now places.now place last }
 {
@@ -180,7 +179,7 @@ fn leads_on(row: &[End], places: &[u16], place: u16, last: u16) -> bool
 }
 
 impl NodeOrder {
-    /// Whether the order is one as above, and so shows that no node cuts the rows.
+    /// Returns whether the order is an st-numbering, which shows that no node cuts the rows.
     pub fn shows_network(&self, rows: &[Vec<End>]) -> bool
         requires { IsPortLabelled (network_of rows.now) }
         ensures { result ≡ true → IsNetwork (network_of rows.now) }

@@ -19,7 +19,7 @@ pub enum NetFault {
     /// The number of nodes is not from `MIN_NODES` to `MAX_NODES`.
     #[error("nodes")]
     Nodes,
-    /// An end of the link is not a node.
+    /// An end of the link names a node that does not exist.
     #[error("node in link {link}")]
     Node { link: usize },
     /// The link joins a node to itself.
@@ -37,7 +37,7 @@ pub enum NetFault {
     /// Some two nodes are not joined by a path.
     #[error("apart")]
     Apart,
-    /// Without the node some two others are not joined by a path.
+    /// Removing the node disconnects two other nodes.
     #[error("cut node {node}")]
     CutNode { node: u16 },
     /// Memory ran out.

@@ -1,7 +1,7 @@
-//! The rows of links that have no fault, in time in the number of links. An index says for each end at which place of
-//! the list a link with this end stands, and each port is filled by that link. Nothing is proved of how the index is
-//! made: it is checked. Of two links that would need one place in it, one is missed, and so is a link behind the first
-//! 65,536, which are more than a network may have.
+//! The rows of links without a fault, computed in time linear in the number of links. An index maps each end to the
+//! place of its link in the list, and each port is filled from that link. How the index is made is not proved; the
+//! index is checked. It misses one of two links that collide on a place, and links beyond the first 65,536, which
+//! exceed the limits of a network.
 
 ghost use Rattle.std.specs.Prelude.{◌≡◌, ◌<◌, ◌≤◌, true, false, length, IfOk, IfSome};
 ghost use Rattle.bhs_net.specs.declared.faults.TheConstants.{MIN_NODES, MAX_NODES};
@@ -53,7 +53,7 @@ fn indexed(alloc: Global, nodes: u16, links: &[Link]) -> Result<Vec<Vec<u16>>, A
     Ok(index)
 }
 
-// The place of the list that the index has for an end.
+// Returns the place of an end's link in the list, according to the index.
 fn place_at(index: &[Vec<u16>], node: u16, port: u16) -> Option<usize>
     ensures { result ≡ place_at (index_of index.now) (node, port) }
 {
@@ -66,7 +66,7 @@ fn place_at(index: &[Vec<u16>], node: u16, port: u16) -> Option<usize>
     }
 }
 
-// Whether the index has each link for both of its ends.
+// Returns whether the index contains each link under both ends.
 fn are_indexed(links: &[Link], index: &[Vec<u16>]) -> bool
     ensures { result ≡ true → AreIndexed links.now (index_of index.now) }
 {
@@ -80,7 +80,7 @@ fn are_indexed(links: &[Link], index: &[Vec<u16>]) -> bool
     true
 }
 
-// The other end of the link at this place of the list, if it has this end.
+// Returns the other end of the link at this place of the list, if one of its ends is this one.
 fn other_end(links: &[Link], place: usize, node: usize, port: usize) -> Option<End>
     ensures { IfSome result (λ other. AreJoined links.now (node, port) other) }
 {
@@ -197,7 +197,8 @@ fn all_lead_apart(rows: &[Vec<End>]) -> bool
     true
 }
 
-/// The rows of the network that the links make; None if they have one of the first six faults, which is not proved.
+/// Returns the rows of the network of these links, or None if the links have one of the first six faults; that
+/// direction is not proved.
 pub fn filled(
     alloc: Global,
     nodes: u16,

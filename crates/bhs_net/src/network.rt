@@ -33,8 +33,8 @@ impl Model for Net {
 }
 
 impl Net {
-    /// The network of `nodes` nodes that the links make. Ports may be listed in any order, and a link from either of
-    /// its ends. Refused with the first fault, or with `NetFault::Memory` in place of any answer.
+    /// Builds the network of `nodes` nodes from these links. The list may have ports in any order, and each link from
+    /// either end. Fails with the first fault, or with `NetFault::Memory` if memory runs out.
     pub fn try_new(alloc: Global, nodes: u16, links: &[Link]) -> Result<Net, NetFault>
         ensures made { IfOk result (Makes nodes links.now) }
         ensures count { IfOk result (λ net. ports_of net ≡ 2 * length links.now) }
@@ -82,7 +82,7 @@ impl Net {
         self.rows[usize::from(v)][usize::from(p)]
     }
 
-    /// The far end of the link at an end, a node and a port there; (0, 0) if there is no such port.
+    /// Returns the far end of the link at an end (a node and a port), or (0, 0) if the node has no such port.
     pub fn far_end(&self, end: (u16, u16)) -> (u16, u16)
         ensures { result ≡ far_of self.now end.0 end.1 }
     {

@@ -11,7 +11,7 @@ ghost use Rattle.bhs_net.specs.Trees.{HasHead, Hangs, IsTree, LeadsPast, AllLead
 use crate::depth_first_search::DepthFirst;
 use crate::listing::End;
 
-// What a table has for a node.
+// Returns the table's entry for a node.
 fn entry(table: &[u16], node: usize) -> usize
     ensures { result ≡ place_in table.now node }
 {
@@ -34,7 +34,7 @@ fn has_head(row: &[End], node: usize) -> bool
 }
 
 impl DepthFirst {
-    /// Whether the tables are those of a tree of the rows.
+    /// Returns whether the tables describe a search tree of the rows.
     pub fn is_tree(&self, rows: &[Vec<End>]) -> bool
         requires { IsPortLabelled (network_of rows.now) }
         ensures { result ≡ true → IsTree (network_of rows.now) self.now }
@@ -66,7 +66,8 @@ impl DepthFirst {
         self.is_lowest(node, escape)
     }
 
-    // Whether the lowest place of a node is that of a neighbour, or the lowest of one that was found later.
+    // Returns whether the low point of a node is a neighbour's place, or the low point of a neighbour that was
+    // discovered later.
     fn is_lowest(&self, node: usize, escape: usize) -> bool
         ensures { result ≡ true → (place_in self.now.places escape ≡ place_in self.now.lows node)
             ⊎ ((place_in self.now.lows escape ≡ place_in self.now.lows node)

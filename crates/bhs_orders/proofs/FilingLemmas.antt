@@ -10,7 +10,7 @@ use Rattle.bhs_match.specs.Matches.{Play}
 use Rattle.bhs_orders.specs.Filing.{first_status}
 use Rattle.bhs_orders.specs.declared.reporting.statuses.TheConstants.{DONE}
 
--- a match that is for reading alone is the match as it was
+-- A match that was sealed is the same match.
 pub sealed_is : (is_closed : Bool) (play sealed : Play)
     → ◌≡◌ {A = Result Play Play} (Ok sealed) (if is_closed then Ok play else Err play) → sealed ≡ play
 sealed_is true play sealed is = cc
@@ -28,7 +28,7 @@ module _ {A : Type 0} (Holds : A → Type 0) (all : List A) (number : ℕ) where
   pub no_more : length all ≤ number → AllByRecursion Holds (drop number all)
   no_more le = subst (AllByRecursion Holds) (sym (drop_of_length-le all le)) tt
 
--- what holds below a number and of it holds below the next
+-- Induction step: a property of all numbers below a bound, and of the bound, holds below its successor.
 module _ (Holds : ℕ → Type 0) (number : ℕ) where
   pub below_next : ((other : ℕ) → other < number → Holds other) → Holds number
       → (other : ℕ) → other < number + 1 → Holds other
@@ -37,7 +37,8 @@ module _ (Holds : ℕ → Type 0) (number : ℕ) where
     | inr is ↦ subst Holds (sym is) here
   ]
 
--- two things that were both tried: where their status is `DONE`, so are both of theirs, and it is one of theirs
+-- Two tasks that were both tried: the combined status is `DONE` exactly if both statuses are, and else it is one of
+-- them.
 module _ (first second : ℕ) where
   both_by : (is_done : Bool) → (first == DONE) ≡ is_done → (if is_done then second else first) ≡ DONE
       → (first ≡ DONE) × (second ≡ DONE)

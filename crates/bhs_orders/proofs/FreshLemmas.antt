@@ -11,7 +11,7 @@ each_fresh : (network : Planned → Network) (matches : List Planned)
 each_fresh network [] = tt
 each_fresh network (planned ∷ others) = (refl, each_fresh network others)
 
--- those of a plan on its networks
+-- the initial matches of a plan on its networks
 pub fresh : (plan : Plan) (networks : List Network) (matches : List Ready) → matches ≡ all_ready plan networks
     → AreFresh matches
 fresh plan networks matches are =

@@ -8,7 +8,7 @@ use Rattle.bhs_wire.specs.Lines.{is_line_feed}
 use Rattle.bhs_orders.specs.LineStates.{IsPart}
 use Rattle.bhs_orders.specs.LineStates.{IsOverlong}
 
--- more of a line makes it too long, and either it ends behind that or all that was read is of it
+-- Once a line is too long, it stays so: either it ends after these bytes, or everything that was read belongs to it.
 module _ (line end : List ℕ) (part : IsPart line) (unended : list_any is_line_feed end ≡ false)
     (long : MAX_TEXT < length line + length end) where
   pub overlong : (text rest : List ℕ) → (text ≡ line ++ end) ⊎ (text ≡ (line ++ end) ++ 10 ∷ rest) → IsOverlong text

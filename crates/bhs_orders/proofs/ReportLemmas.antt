@@ -19,7 +19,7 @@ use Rattle.bhs_orders.specs.declared.reporting.statuses.TheConstants.{DONE, NO_M
 use Rattle.bhs_orders.specs.Fault.{status}
 use Rattle.bhs_orders.specs.Showing.{Prints, Reports, prints, stops}
 
--- a report that was printed if there was memory to make it
+-- A report is printed, unless memory ran out while making it.
 pub reported : {O S E : Type 0} (takes : O → List ℕ → WriteAnswer → O → Type 0) (flushes : O → Bool → O → Type 0)
     (IsReport : List ℕ → Type 0) (bytes : S → List ℕ)
     (output output' : O) (code : ℕ) (made : Result S E) → IfOk made (λ text. IsReport (bytes text))
@@ -37,7 +37,7 @@ pub filed : {O T E : Type 0} (takes : O → List ℕ → WriteAnswer → O
 filed takes old new text (Ok x) puts = (old, new, puts)
 filed takes old new text (Err e) puts = tt
 
--- no fault has the status of what was done
+-- No fault has the status `DONE`.
 pub not_done : (fault : Fault) → status fault ≡ DONE → ⊥
 not_done Read e = omega arith
 not_done Text e = omega arith

@@ -36,7 +36,7 @@ stopped_at takes a b c text bytes left (Exploring why) so_far none = absurd none
 stopped_at takes a b c text bytes left (Appeal why) so_far none = absurd none
 stopped_at takes a b c text bytes left (Unsettled game) so_far none = absurd none
 
--- the fault that comes through a `?` is this one
+-- The operator `?` passes on exactly this fault.
 pub fault_is : {T : Type 0} (r : Result T Fault) (fault : Fault) (P : Fault → Type 0) → IsErrAnd r (λ e. e ≡ fault)
     → P fault → IfErr r P
 fault_is (Ok x) fault P is holds = tt

@@ -1,4 +1,4 @@
--- Printing the lines of matches one after the other, as a loop does.
+-- Loop invariant: printing the lines of matches in order.
 use Rattle.std.proofs.Common.{◌≡◌, Bool, true, false, if◌then◌else◌, subst, ℕ, ◌+◌, ◌<◌, ◌≤◌, List, [], ◌∷◌, ◌++◌}
 use Rattle.std.proofs.Common.{length, drop, get_or, refl, sym, ap, ◌∙◌, append_assoc, map, arith}
 use Rattle.std.proofs.lemmas.List.{append-nil, drop_more}
@@ -30,7 +30,7 @@ pub length_of_map : {A B : Type 0} (f : A → B) (xs : List A) → length (map f
 length_of_map f [] = refl
 length_of_map f (x ∷ xs) = omega (arith, length_of_map f xs)
 
--- one network more, or none, where each was read
+-- one network more, unless reading it failed
 pub all_read : (is_pushed : Bool) (old new : List Network) (net : Network)
     → new ≡ (if is_pushed then old ++ net ∷ [] else old) → All IsRead old → IsRead net → All IsRead new
 all_read true old new net is all read = subst (All IsRead) (sym is) (All-push IsRead old net all read)

@@ -42,7 +42,7 @@ pub network_is : (r : Result Network FileFault) → IfOk r (IsNetworkOf (listing
     → MatchResult r (λ net. net ≡ triangle) (λ fault. fault ≡ faults.Memory)
 network_is r made refused = is_triangle_or r (listing_in NETWORK.now) network_listed made refused
 
--- what is read without a fault is given, or there is no memory
+-- A text without faults gives its value, or memory runs out.
 pub given_or : {X Y : Type 0} (view : X → Y) (r : Result X FileFault) (reading : Result Y FileFault) (y : Y)
     → reading ≡ Ok y → GivesUnlessMemory view r reading
     → MatchResult r (λ x. view x ≡ y) (λ fault. fault ≡ faults.Memory)

@@ -14,7 +14,7 @@ abbrev pub links : List Link
 links = record { v = 0; p = 0; w = 1; q = 0 } ∷ record { v = 1; p = 1; w = 2; q = 0 } ∷ record
     { v = 2; p = 1; w = 0; q = 1 } ∷ []
 
--- a place of the list is one of three
+-- case analysis over the three places of the list
 at_place : (P : ℕ → Type 0) → P 0 → P 1 → P 2 → (place : ℕ) → place < 3 → P place
 at_place P first second third zero within = first
 at_place P first second third (suc zero) within = second

@@ -1,4 +1,4 @@
--- Why an order was not done.
+-- The faults of orders.
 use Rattle.std.specs.Prelude.{◌≡◌, ℕ}
 use Rattle.std.specs.declared.io.ErrorKind.{ErrorKind}
 use Rattle.std.specs.declared.io.ErrorKind.TheVariants.{OutOfMemory}
@@ -70,7 +70,7 @@ abbrev pub of_exploring : ExploreFault → Fault
 of_exploring exploring.Memory = Memory
 of_exploring fault = Exploring fault
 
--- the exit status of a text that is no replay: it is not spelled as one, or its events are those of no match
+-- the exit status for a text that is no replay: its spelling is wrong, or no match has its events
 abbrev pub replay_status : ReplayFault → ℕ
 replay_status (replays.Event line) = statuses.REFUSED_MATCH
 replay_status (replays.Differs line) = statuses.REFUSED_MATCH

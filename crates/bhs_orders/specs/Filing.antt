@@ -1,4 +1,4 @@
--- The exit status of what is done one after the other.
+-- The exit status of a sequence of tasks.
 use Rattle.std.specs.Prelude.{◌==◌, if◌then◌else◌, ℕ}
 use Rattle.bhs_orders.specs.declared.reporting.statuses.TheConstants.{DONE}
 use Rattle.std.specs.Prelude.{◌≡◌, List, true}

@@ -6,7 +6,7 @@ use Rattle.bhs_wire.specs.Lines.{is_line_feed}
 use Rattle.bhs_orders.specs.declared.streams.lines.LineState.{LineState}
 use Rattle.bhs_orders.specs.declared.streams.lines.LineState.TheVariants.{Ended, Unfinished, Overlong}
 
--- what was read is a line that has not ended and is too long already, or begins with one that has ended and is too long
+-- The text is an unfinished line that is already too long, or begins with a finished line that is too long.
 pub record IsOverlong (text : List ℕ) : Type 0 where
   pub line : List ℕ
   pub rest : List ℕ
@@ -14,13 +14,13 @@ pub record IsOverlong (text : List ℕ) : Type 0 where
   pub unended : list_any is_line_feed line ≡ false
   pub long : MAX_TEXT < length line
 
--- a piece was taken: a line that had these bytes has those, and the state says what of the piece stands behind them
+-- A piece extends the line from `line` to `line'`; the state says which bytes of the piece come after the line.
 abbrev pub IsTaken : (line piece line' : List ℕ) → LineState → Type 0
 IsTaken line piece line' (Ended rest) = line ++ piece ≡ line' ++ 10 ∷ rest.now
 IsTaken line piece line' Unfinished = line ++ piece ≡ line'
 IsTaken line piece line' Overlong = IsOverlong (line ++ piece) × (line' ≡ line)
 
--- what was read is a part of a line, and not too long
+-- The text is a part of a line and not too long.
 pub record IsPart (text : List ℕ) : Type 0 where
   pub unended : list_any is_line_feed text ≡ false
   pub short : length text ≤ MAX_TEXT

@@ -1,4 +1,4 @@
--- What is printed of the part of a replay.
+-- The output for a replay's part.
 use Rattle.std.specs.Prelude.{◌≡◌, ℕ, List}
 use Rattle.bhs_match.specs.Matches.{Play}
 use Rattle.bhs_replay.specs.Parts.{IsOfPart}

@@ -13,7 +13,7 @@ abbrev pub Took : {P : Type 0} → (P → List ℕ → WriteAnswer → P → Typ
 Took {P} files text = (old new : P) × PutsAll files old text new
 
 module _ {O : Type 0} (takes : O → List ℕ → WriteAnswer → O → Type 0) (flushes : O → Bool → O → Type 0) where
-  -- all of a text was written, and whether what was held back was passed on
+  -- The whole text was written, and the flag says whether buffered bytes were flushed.
   pub record Shows (text : List ℕ) (is_out : Bool) (output output' : O) : Type 0 where
     pub held : O
     pub written : PutsAll takes output text held
@@ -21,24 +21,24 @@ module _ {O : Type 0} (takes : O → List ℕ → WriteAnswer → O → Type 0) 
 
   -- what the exit status says of a text that was to be shown
   pub data Prints (text : List ℕ) (output output' : O) (code : ℕ) : Type 0 where
-    -- it was written and passed on
+    -- written and flushed
     all : code ≡ DONE → Shows text true output output' → Prints text output output' code
-    -- a write failed, or took nothing, before all of it was out
+    -- A write failed, or took no bytes, before the whole text was written.
     part : code ≡ status Write → PutsPart takes output text output' → Prints text output output' code
-    -- it was written, and not passed on
+    -- written, but not flushed
     held_back : code ≡ status Write → Shows text false output output' → Prints text output output' code
 
   -- what the exit status says of a text that was made and written line by line
   pub data PrintsByLine (text : List ℕ) (output output' : O) (code : ℕ) : Type 0 where
-    -- it was written and passed on
+    -- written and flushed
     whole : code ≡ DONE → Shows text true output output' → PrintsByLine text output output' code
-    -- this fault came before all of it was out
+    -- This fault occurred before the whole text was written.
     cut_off : (fault : Fault) → code ≡ status fault → StopsPlaying takes text output output' fault
         → PrintsByLine text output output' code
-    -- it was written, and not passed on
+    -- written, but not flushed
     kept_back : code ≡ status Write → Shows text false output output' → PrintsByLine text output output' code
 
--- A report was to be printed, and is one of these texts; or a fault came before, and nothing was written.
+-- The report, one of these texts, was to be printed; or a fault occurred earlier, and nothing was written.
 pub data Reports {O : Type 0} (Printing : List ℕ → O → O → ℕ → Type 0) (IsReport : List ℕ → Type 0) (output output' : O)
     (code : ℕ) : Type 0 where
   prints : (text : List ℕ) → IsReport text → Printing text output output' code

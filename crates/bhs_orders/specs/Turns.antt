@@ -17,16 +17,16 @@ turns_text (turn ∷ turns) = turn_line turn ++ turns_text turns
 abbrev pub IsTurn : ℕ → Type 0
 IsTurn turn = turn < 2 ^ 32
 
--- the text is that of these turns
+-- The text lists these turns.
 pub record IsTextOf (turns : List ℕ) (text : List ℕ) : Type 0 where
   pub known : AllByRecursion IsTurn turns
   pub spelled : turns_text turns ≡ text
 
--- the text is that of some turns
+-- The text lists some turns.
 abbrev pub IsOfTurns : List ℕ → Type 0
 IsOfTurns text = (turns : List ℕ) × IsTextOf turns text
 
--- why a text is refused: a line is no turn, and so the text is that of no turns; or memory ran out
+-- The reason to refuse a text: some line is no turn, so the text lists no turns; or memory ran out.
 abbrev pub IsRefusedText : (text : List ℕ) → Fault → Type 0
 IsRefusedText text (Line line) = ¬ IsOfTurns text
 IsRefusedText text Memory = Unit {0}

@@ -114,12 +114,12 @@ module _ {O : Type 0} (takes : O → List ℕ → WriteAnswer → O → Type 0) 
     breaks = breaks;
   }
 
--- the line of a shell, and what is read behind it
+-- the line of a shell, with the bytes read after it
 module _ (shell : Shell) (rest : List ℕ) (part : IsPart shell.line.items) where
   pub next_line : IsNext (progress_of shell (10 ∷ rest)) shell.line.items rest
   next_line = record { held = refl; first = part.unended }
 
--- a line that is too long
+-- A line that is too long is refused.
 pub overlong_refused : (games : ℕ) (progress : ScriptProgress) → IsOverlong progress.held → IsRefused games progress
 overlong_refused games progress over = begun over.begins where
   begun : (progress.held ≡ over.line) ⊎ (progress.held ≡ over.line ++ 10 ∷ over.rest) → IsRefused games progress

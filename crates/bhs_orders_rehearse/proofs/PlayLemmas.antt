@@ -58,13 +58,13 @@ module _ {T : Type 0} (sent : T → List (ℕ × List ℕ)) (old new : Rehearsin
   prints_call (Err rehearsals.NoGame) follows pushed = of_refused rehearsals.NoGame follows pushed
   prints_call (Err rehearsals.Memory) follows pushed = absurd pushed
 
--- the instructions from a place on are the one there and those behind it
+-- The instructions from a place on are the one at this place, followed by the later ones.
 pub one_by_one : (script : List InstructionOfCode) (i : ℕ) (one : InstructionOfCode) → i < length script
     → one ≡ get_or script i one → map seen (drop i script) ≡ seen one ∷ map seen (drop (i + 1) script)
 one_by_one script i one within is = ap (map seen)
     (drop_more script i one within ∙ ap (λ (y : InstructionOfCode). y ∷ drop (i + 1) script) (sym is))
 
--- what the first instruction of a script prints, and what the others print after it
+-- the output of a script's first instruction, followed by that of the remaining script
 pub transcript-turn : (stage : Stage) (script : List Instruction) (one : Instruction) (others : List Instruction)
     → script ≡ one ∷ others
     → transcript stage script ≡ all_printed (step stage one).outs ++ transcript (step stage one).stage others

@@ -8,13 +8,13 @@ use Rattle.bhs_script.specs.Script.{Gives, Meaning, Refused, Skipped, instructio
 use Rattle.bhs_script.specs.Transcript.{all_printed, transcript}
 use Rattle.bhs_orders_rehearse.specs.Interactive.{ScriptProgress, answer, judged, onward}
 
--- what lines are answered, one after the other, in a rehearsal of this number of matches
+-- the answers to lines, in order, in a rehearsal with this number of matches
 abbrev pub answers_to : (games : ℕ) → Stage → List (List ℕ) → List ℕ
 answers_to games stage [] = []
 answers_to games stage (line ∷ lines) =
     answer stage (judged games line) ++ answers_to games (onward stage (judged games line)) lines
 
--- how the rehearsal stands behind them
+-- the stage after these lines
 abbrev pub stands_by : (games : ℕ) → Stage → List (List ℕ) → Stage
 stands_by games stage [] = stage
 stands_by games stage (line ∷ lines) = stands_by games (onward stage (judged games line)) lines
@@ -31,8 +31,8 @@ pub data Mean (games : ℕ) : List (List ℕ) → List Instruction → Type 0 wh
   gives : (line : List ℕ) (lines : List (List ℕ)) (one : Instruction) (script : List Instruction)
       → judged games line ≡ Gives one → Mean games lines script → Mean games (line ∷ lines) (one ∷ script)
 
--- This script was read, these of its lines were answered, and what is held are the others; at the end of the input a
--- line feed may have been supplied. What was written are the answers.
+-- This script was read, and its complete lines were answered, except for the buffered ones; at the end of the input a
+-- missing line feed is added. The output consists of the answers.
 pub record HasAnswered {R W : Type 0} (remaining : R → Option (List ℕ)) (contents : W → Option (List ℕ)) (stage : Stage)
     (input input' : R) (output output' : W) (progress : ScriptProgress) : Type 0 where
   pub script : List ℕ
@@ -61,7 +61,7 @@ sent_one_by_one games stage [] = []
 sent_one_by_one games stage (line ∷ lines) =
     sent_by stage (judged games line) ∷ sent_one_by_one games (onward stage (judged games line)) lines
 
--- texts one after the other, and the same with an empty line behind each
+-- the concatenation of texts, each followed by an empty line
 abbrev pub joined : List (List ℕ) → List ℕ
 joined [] = []
 joined (text ∷ texts) = text ++ joined texts

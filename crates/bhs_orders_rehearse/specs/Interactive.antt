@@ -28,13 +28,13 @@ answer stage Skipped = 10 ∷ []
 answer stage (Gives instruction) = all_printed (step stage instruction).outs ++ 10 ∷ []
 answer stage Refused = []
 
--- how the rehearsal stands behind it
+-- the stage after a line
 abbrev pub onward : Stage → Meaning → Stage
 onward stage Skipped = stage
 onward stage (Gives instruction) = (step stage instruction).stage
 onward stage Refused = stage
 
--- ---- where the rehearsal is in its script
+-- ---- the progress of the rehearsal through its script
 
 -- how it stands, how many lines were answered, and what was read behind them
 pub record ScriptProgress : Type 0 where
@@ -45,7 +45,7 @@ pub record ScriptProgress : Type 0 where
 abbrev pub at_start : Stage → ScriptProgress
 at_start stage = record { stage = stage; answered = 0; held = [] }
 
--- this line is the next, and this was read behind it
+-- This line is next, and these bytes were read after it.
 pub record IsNext (progress : ScriptProgress) (line rest : List ℕ) : Type 0 where
   pub held : progress.held ≡ line ++ 10 ∷ rest
   pub first : list_any is_line_feed line ≡ false
@@ -94,7 +94,7 @@ module _ {O : Type 0} (takes : O → List ℕ → WriteAnswer → O → Type 0) 
     pub part : PutsPart takes output (answer progress.stage (judged games line)) output'
 
   module _ (flushes : O → Bool → O → Type 0) where
-    -- why no more is answered here. Where a line is refused what was written is passed on
+    -- The reason to stop answering at this point. If a line is refused, the output is flushed.
     abbrev pub BreaksAt : ScriptProgress → (output output' : O) → Fault → Type 0
     BreaksAt progress output output' (Line line) =
         IsRefused games progress × (line ≡ progress.answered + 1) × flushes output true output'
@@ -102,7 +102,7 @@ module _ {O : Type 0} (takes : O → List ℕ → WriteAnswer → O → Type 0) 
     BreaksAt progress output output' Memory = output' ≡ output
     BreaksAt progress output output' fault = ⊥
 
-    -- the same, of one of the lines that were read
+    -- The same for one of the lines that were read.
     pub record BreaksWithin (progress : ScriptProgress) (output output' : O) (fault : Fault) : Type 0 where
       pub here : ScriptProgress
       pub there : O
@@ -117,7 +117,7 @@ module _ {I O : Type 0} (gives : I → Chunk → I → Type 0) (takes : O → Li
   -- how many reads were made, whether the last brought the end, and where the rehearsal is
   pub data Interacts : (reads : ℕ) → (is_over : Bool) → ScriptProgress → I → O → Type 0 where
     begins : Interacts 0 false (at_start stage) input output
-    -- Of what was read all lines are answered and this is passed on. Then a read brings more
+    -- All complete lines are answered, and the answers are flushed. Then a read gives further bytes.
     reads_more : (reads : ℕ) (progress : ScriptProgress) (piece : List ℕ) (here next : I) (there passed : O)
         → Interacts reads false progress here there → IsPart progress.held → flushes there true passed
         → reads < turns → IsPiece piece → gives here (Bytes piece) next

@@ -14,7 +14,7 @@ use Rattle.bhs_orders.specs.declared.reporting.faults.Fault.{Fault}
 use Rattle.bhs_orders.specs.declared.reporting.statuses.TheConstants.{DONE}
 use Rattle.bhs_orders.specs.declared.streams.lines.TheConstants.{MAX_READS}
 
--- the calls of the files that are written, of the input and of the output
+-- the transition relations of written files, input and output
 module _ {P I O : Type 0} (files : P → List ℕ → WriteAnswer → P → Type 0) (gives : I → Chunk → I → Type 0)
     (takes : O → List ℕ → WriteAnswer → O → Type 0) (flushes : O → Bool → O → Type 0) where
   -- what the exit status says
@@ -24,7 +24,7 @@ module _ {P I O : Type 0} (files : P → List ℕ → WriteAnswer → P → Type
     interaction_done : (games : List Game) → InteractsToEnd gives takes flushes MAX_READS stage input output input'
         output' games
         → code ≡ DONE → AreFiled files prefix games → InteractsWhole prefix stage input input' output output' code
-    -- all was passed on, and then a replay was not written
+    -- All output was flushed; then writing a replay failed.
     interaction_unfiled : (fault : Fault) → code ≡ status fault → IsSome prefix → (games : List Game)
         → InteractsToEnd gives takes flushes MAX_READS stage input output input' output' games
         → InteractsWhole prefix stage input input' output output' code
@@ -43,7 +43,7 @@ module _ {P I O : Type 0} (files : P → List ℕ → WriteAnswer → P → Type
     tournament_refused : (fault : Fault) → code ≡ status fault → Rests input input' output output'
         → InteractsNamed prefix input input' output output' code
 
-  -- a rehearsal of the tournament that is named, or of the built-in one if none is named
+  -- The rehearsal of the named tournament, or of the built-in one without a name.
   abbrev pub InteractsEither : (tournament prefix : Option (List ℕ)) → (input input' : I) → (output output' : O) → ℕ
       → Type 0
   InteractsEither None prefix input input' output output' code =

@@ -1,4 +1,4 @@
--- What is printed of the call of an instruction.
+-- The output for an instruction's call.
 use Rattle.std.specs.Prelude.{◌≡◌, ℕ, List, ◌++◌, Ok, Err}
 use Rattle.std.specs.declared.result.Result.{Result}
 use Rattle.bhs_rehearsal.specs.declared.faults.RehearsalFault.{RehearsalFault}

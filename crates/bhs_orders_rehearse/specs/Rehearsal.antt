@@ -110,7 +110,7 @@ module _ {I O : Type 0} (gives : I → Chunk → I → Type 0) (takes : O → Li
       Stops stage input input' output output' fault
       ⊎ ((fault ≡ Write) × PlaysOut flushes false stage input input' output output')
 
--- where replays were asked for, those of all matches that have ended
+-- If replays were requested, those of all matches that have ended are written.
 abbrev pub AreFiled : {P : Type 0} → (P → List ℕ → WriteAnswer → P → Type 0) → Option (List ℕ) → List Game → Type 0
 AreFiled files None games = Unit {0}
 AreFiled files (Some prefix) games = AllByRecursion (IsFiled files) games
@@ -123,7 +123,7 @@ pub data Rehearses {P I O : Type 0} (files : P → List ℕ → WriteAnswer → 
   done : (out : PlaysOut gives takes turns flushes true stage input input' output output') → code ≡ DONE
       → AreFiled files prefix out.games
       → Rehearses files gives takes turns flushes prefix stage input input' output output' code
-  -- all was passed on, and then a replay was not written
+  -- All output was flushed; then writing a replay failed.
   unfiled : (fault : Fault) → code ≡ status fault → IsSome prefix
       → PlaysOut gives takes turns flushes true stage input input' output output'
       → Rehearses files gives takes turns flushes prefix stage input input' output output' code

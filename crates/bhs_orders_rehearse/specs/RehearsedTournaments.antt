@@ -1,4 +1,4 @@
--- The rehearsal of a tournament that is named, or of the built-in one.
+-- The rehearsal of a named tournament, or of the built-in one.
 use Rattle.std.specs.Prelude.{◌≡◌, ℕ, Bool, List, Option, Some, None}
 use Rattle.bhs_model.specs.declared.limits.TheConstants.{MAX_TURNS}
 use Rattle.bhs_stream.specs.Streams.{Chunk, WriteAnswer}
@@ -10,7 +10,7 @@ use Rattle.bhs_orders.specs.Summary.{IsAssembled}
 use Rattle.bhs_orders.specs.declared.reporting.faults.Fault.{Fault}
 use Rattle.bhs_orders.specs.Showing.{Rests}
 
--- the calls of the files that are written, of the input and of the output
+-- the transition relations of written files, input and output
 module _ {P I O : Type 0} (files : P → List ℕ → WriteAnswer → P → Type 0) (gives : I → Chunk → I → Type 0)
     (takes : O → List ℕ → WriteAnswer → O → Type 0) (flushes : O → Bool → O → Type 0) where
   -- a rehearsal of a tournament that is named, with the prefix of its replays
@@ -23,7 +23,7 @@ module _ {P I O : Type 0} (files : P → List ℕ → WriteAnswer → P → Type
     refuses_file : (fault : Fault) → code ≡ status fault → Rests input input' output output'
         → RehearsesNamed prefix input input' output output' code
 
-  -- a rehearsal of the tournament that is named, or of the built-in one if none is named
+  -- The rehearsal of the named tournament, or of the built-in one without a name.
   abbrev pub RehearsesEither : (tournament prefix : Option (List ℕ)) → (input input' : I) → (output output' : O) → ℕ
       → Type 0
   RehearsesEither None prefix input input' output output' code =

@@ -1,4 +1,4 @@
--- Where the code is in a script that is played as it comes. Only contracts of private functions cite it.
+-- The implementation's progress through an interactive script. Only contracts of private functions cite it.
 use Rattle.std.specs.Prelude.{◌≡◌, ◌≢◌, ℕ, Bool, true, false, List, [], ◌++◌}
 use Rattle.bhs_stream.specs.Streams.{WriteAnswer}
 use Rattle.bhs_rehearsal.specs.Stages.{Stage}
@@ -8,7 +8,7 @@ use Rattle.bhs_orders.specs.declared.reporting.faults.Fault.{Fault}
 use Rattle.bhs_orders.specs.declared.reporting.faults.Fault.TheVariants.{Line, Write}
 use Rattle.bhs_orders_rehearse.specs.declared.interactive.Shell.{Shell}
 
--- where the shell is that has this still to go over
+-- the progress of a shell that has these bytes left to process
 abbrev pub progress_of : Shell → (after : List ℕ) → ScriptProgress
 progress_of shell after = record {
   stage = shell.rehearsal.stage;

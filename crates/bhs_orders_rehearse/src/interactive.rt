@@ -27,18 +27,18 @@ use std::alloc::Global;
 pub(crate) struct Shell<'s> {
     games: usize,
     rehearsal: Rehearsal<'s>,
-    // The line that has not ended.
+    // The unfinished line.
     line: Vec<u8>,
     // How many lines were answered.
     answered: usize,
-    // The memory of an answer, for the next one.
+    // The buffer of the previous answer, for reuse.
     text: Vec<u8>,
 }
 
-/// Plays the script that a reader gives as it comes, in a rehearsal of the matches with `CONNECTIONS` connections. Each
-/// line is answered: what its connections are sent is printed, each line of it behind the connection's number and a
-/// space, and then an empty line. Before each read all that was written is passed on. At most `turns` reads are made.
-/// The matches come back as the script leaves them.
+/// Plays a script interactively, in a rehearsal of the matches with `CONNECTIONS` connections. Each line is answered
+/// with the output of its connections, each line of which begins with the connection's number and a space, followed by
+/// an empty line. The output is flushed before each read. At most `turns` reads are made. Returns the matches after the
+/// script.
 ///
 /// A line has at most `MAX_TEXT` bytes. One that is longer, or no line of a script, ends the rehearsal; what was
 /// answered before stays.
@@ -146,7 +146,7 @@ fn conclude<W: Output>(alloc: Global, shell: &mut Shell<'_>, writer: &mut W) -> 
     Ok(finish(writer)?)
 }
 
-// A line of this number is refused. What was written is passed on.
+// The line with this number is refused. Flushes the output.
 fn refusal<W: Output>(line: usize, writer: &mut W) -> Fault
     ensures { IsRefusal W.flushes line writer.old writer.new result }
 {
@@ -185,7 +185,7 @@ fn answer<W: Output>(alloc: Global, shell: &mut Shell<'_>, writer: &mut W) -> Re
     Ok(())
 }
 
-// Plays a line, and adds what it is answered to a text. The answer is whether it is a line of a script.
+// Plays a line and appends its answer to a text. Returns whether the line is valid.
 fn replied(
     alloc: Global,
     games: usize,

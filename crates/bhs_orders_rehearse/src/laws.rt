@@ -8,8 +8,8 @@ ghost use Rattle.bhs_orders_rehearse.specs.Interactive.{ScriptProgress, Interact
 
 use std::io::{Read, Write};
 
-/// Where the bytes of the reader and of the writer are known, all that was written are the answers to the lines of all
-/// that was read, in order.
+/// If the bytes of reader and writer are known, then the output consists of the answers to all lines of the input, in
+/// order.
 pub fn known_answers<R: Read, W: Write>()
     ensures { (turns : ℕ) (stage : Stage) (input input' : R) (output output' : W) (reads : ℕ) (is_over : Bool)
         (progress : ScriptProgress)
@@ -19,8 +19,8 @@ pub fn known_answers<R: Read, W: Write>()
         → HasAnswered R.remaining W.contents stage input input' output output' progress }
 {}
 
-/// Lines are answered as a script of them prints, with an empty line behind what each of them sends, and leave the
-/// rehearsal as that does.
+/// The answers to lines are the output of the script of these lines, with an empty line after the output of each; both
+/// leave the rehearsal in the same stage.
 pub fn answers_are_transcripts()
     ensures { (games : ℕ) (stage : Stage) (lines : List (List ℕ)) (script : List Instruction) → Mean games lines script
         → IsTranscribed games stage lines script }

@@ -56,8 +56,8 @@ fn play_all<'s, W: Output>(
     Ok(())
 }
 
-// Carries out an instruction, and adds what is printed of it. One for a connection or a match that is not there does
-// nothing.
+// Carries out an instruction and appends its output. An instruction with the number of no connection or match has no
+// effect.
 fn obey<'s>(
     rehearsal: &mut Rehearsal<'s>,
     instruction: &'s Instruction<'s>,

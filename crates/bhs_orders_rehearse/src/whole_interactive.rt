@@ -16,9 +16,9 @@ use std::alloc::Global;
 use std::io::Write;
 use std::rt::Files;
 
-/// Rehearses the tournament of a file, or the built-in one if no file is named, by the script of `reader`, which is
-/// played as it comes, and then writes the replays, if there is a prefix for their names. Faults go to `errors`. The
-/// answer is the exit status: if replays could not be written, that of the first.
+/// Rehearses the tournament of a file, or the built-in one without a file, by the interactive script of `reader`; then
+/// writes the replays, if there is a prefix for their names. Reports faults to `errors`. Returns the exit status; if
+/// replays could not be written, that of the first one.
 pub fn rehearse_interactively_named<F: Files, R: Input, W: Output, E: Write>(
     alloc: Global,
     files: &F,

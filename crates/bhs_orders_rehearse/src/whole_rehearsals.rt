@@ -68,7 +68,7 @@ fn rehearse_whole<F: Files, R: Input, W: Output, E: Write>(
     }
 }
 
-// Rehearses, and sees that all is out.
+// Rehearses and flushes the output.
 fn rehearse_out<R: Input, W: Output>(
     alloc: Global,
     lineup: Lineup,

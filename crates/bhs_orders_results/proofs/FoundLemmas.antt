@@ -1,4 +1,4 @@
--- What was found of the matches of a contest, one after the other.
+-- The results of a contest's matches, in order.
 use Rattle.std.proofs.Common.{◌≡◌, ◌∙◌, sym, ap, subst, ℕ, ◌+◌, ◌<◌, List, [], ◌∷◌, ◌++◌, length, take, get_or}
 use Rattle.std.proofs.Common.{Result, Ok, Err, IfOk, IfErr}
 use Rattle.std.proofs.lemmas.List.{take_more}
@@ -8,7 +8,7 @@ use Rattle.bhs_orders_results.specs.ContestTables.{AreFound, IsContestRow, IsFou
 use Rattle.bhs_orders.specs.Fault.{IsOfFault}
 use Rattle.bhs_orders.specs.Filing.{first_status}
 
--- what was found of a match, by its row or its fault
+-- the result of a match: its row or its fault
 pub found_is : (ready : Ready) (found : Result Row ℕ) → IfOk found (IsContestRow ready) → IfErr found IsOfFault
     → IsFound ready found
 found_is ready (Ok row) row_is fault_is = row_is

@@ -48,7 +48,7 @@ module _ {O : Type 0} (Printing : List ℕ → O → O → ℕ → Type 0) (IsRe
   untwinned (twins.Reached place) (inl e) is = cc
   untwinned (twins.Reached place) (inr told) is = told_none (twins.Reached place) told is
 
--- the line of the next place, and those of the others
+-- the line of the next place, followed by those of the remaining places
 pub next_line : (kind : OutputKind) (play : Play) (places : List ℕ) (index d : ℕ) → index < length places
     → lines_at kind play (drop index places) ≡ line_at kind play (get_or places index d)
     ++ lines_at kind play (drop (index + 1) places)

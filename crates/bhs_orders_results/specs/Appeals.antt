@@ -35,7 +35,7 @@ use Rattle.bhs_orders.specs.declared.reporting.faults.Fault.TheVariants.{NoMatch
 abbrev pub own_head : Network → Setup → List ℕ
 own_head net setup = head_line (version_of net setup) net setup
 
--- A replay with turns, and the match of a tournament that it is said to be of.
+-- A replay with turns, and the tournament's match that it claims to be.
 pub record Case : Type 0 where
   pub lineup : Lineup
   pub game : ℕ
@@ -96,7 +96,7 @@ pub record IsOtherMatch (one : Case) (game : ℕ) : Type 0 where
   pub number : game ≡ one.game
   pub other : own_head one.play.net one.play.setup ≢ own_head ready.game.net ready.game.setup
 
--- these are the numbers of turns and of events, and they differ
+-- The number of turns differs from the number of events.
 pub record IsMiscounted (one : Case) (turns events : ℕ) : Type 0 where
   pub turns_are : turns ≡ length one.turns
   pub events_are : events ≡ length one.play.log
@@ -115,7 +115,7 @@ IsWrongWith one (Appeal (Late place)) = IsAstrayAt one place untimely.Late
 IsWrongWith one Memory = Unit {0}
 IsWrongWith one fault = ⊥
 
--- the replay is one that some text is, and the tournament is one that some texts make
+-- Some text is this replay, and some texts make this tournament.
 pub record IsCase (game : ℕ) (one : Case) : Type 0 where
   pub number : one.game ≡ game
   pub assembled : IsAssembled one.lineup
@@ -129,7 +129,7 @@ IsVerdictOn play text = text ≡ verdict_line (verdict_of play)
 module _ {O : Type 0} (takes : O → List ℕ → WriteAnswer → O → Type 0) (flushes : O → Bool → O → Type 0) where
   -- what came of an appeal to the match of this number
   pub data Appeals (game : ℕ) (output output' : O) (code : ℕ) : Type 0 where
-    -- with its turns it is a timed execution, and the verdict on it was to be printed
+    -- With its turns the log is a timed execution, and the verdict on it was to be printed.
     upholds : (one : Case) → IsCase game one → IsOnTime one
         → Reports (Prints takes flushes) (IsVerdictOn one.play) output output' code → Appeals game output output' code
     -- this is wrong, and nothing was written

@@ -1,4 +1,4 @@
--- The table of a contest's teams, by the replays of its matches that are there.
+-- The table of a contest's teams, from the replays of its matches that exist.
 use Rattle.std.specs.Prelude.{◌≡◌, ℕ, Bool, List, [], ◌∷◌, ◌++◌, Result, Ok, Err, string_bytes}
 use Rattle.bhs_stream.specs.Streams.{WriteAnswer}
 use Rattle.bhs_match.specs.Matches.{Play}
@@ -21,7 +21,8 @@ use Rattle.bhs_orders.specs.declared.reporting.statuses.TheConstants.{DONE}
 abbrev pub IsOf : Ready → Play → Type 0
 IsOf ready play = own_head play.net play.setup ≡ own_head ready.game.net ready.game.setup
 
--- the row of a match of a tournament: its team, and the verdict on a match of its kind that some text is the replay of
+-- The row of a tournament's match: its team, and the verdict on a match with the same head, of which some text is the
+-- replay.
 pub record IsContestRow (ready : Ready) (row : Row) : Type 0 where
   pub play : Play
   pub replayed : IsReplayed play
@@ -34,7 +35,7 @@ abbrev pub IsFound : Ready → Result Row ℕ → Type 0
 IsFound ready (Ok row) = IsContestRow ready row
 IsFound ready (Err code) = IsOfFault code
 
--- the row that was found, if one was
+-- the row, if there is one
 abbrev pub row_in : Result Row ℕ → List Row
 row_in (Ok row) = row ∷ []
 row_in (Err code) = []
@@ -44,8 +45,8 @@ abbrev pub status_in : Result Row ℕ → ℕ
 status_in (Ok row) = DONE
 status_in (Err code) = code
 
--- what was found of matches, one after the other: the rows of those that have one, and the exit status of the first
--- that has none
+-- The results of matches in order: the rows of those that have one, and the exit status of the first match without a
+-- row.
 pub data AreFound : List Ready → List Row → (code : ℕ) → Type 0 where
   nothing_found : AreFound [] [] DONE
   found_more : (matches : List Ready) (rows : List Row) (code : ℕ) (ready : Ready) (found : Result Row ℕ)
@@ -62,7 +63,7 @@ pub record IsTableOf (rows : List Row) (text : List ℕ) : Type 0 where
 module _ {O : Type 0} (takes : O → List ℕ → WriteAnswer → O → Type 0) (flushes : O → Bool → O → Type 0) where
   -- what came of the order to print the table of these matches
   pub data TablesMatches (matches : List Ready) (output output' : O) (code : ℕ) : Type 0 where
-    -- matches without a row are left out, and the table of the others was to be printed
+    -- Matches without a row are omitted, and the table of the others was to be printed.
     tables_found : (rows : List Row) (found printed : ℕ) → AreFound matches rows found
         → Reports (Prints takes flushes) (IsTableOf rows) output output' printed
         → code ≡ first_status found printed → TablesMatches matches output output' code

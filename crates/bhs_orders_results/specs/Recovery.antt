@@ -26,32 +26,33 @@ pub record IsLeft (ready : Ready) (play : Play) : Type 0 where
   pub part : IsOfPart play
   pub same : IsOf ready play
 
--- the first turn behind an event and its turn, if there is one; no turn is above 2 ^ 32 - 1
+-- The first turn that can follow an event with this turn, if there is one; turns do not exceed 2 ^ 32 - 1.
 abbrev pub first_behind : Option Kept → (turn : Option ℕ) → ℕ
 first_behind (Some one) (Some turn) = min (turn_behind one.event turn) (2 ^ 32 - 1)
 first_behind one turn = 0
 
--- the turn of an event behind those that have these turns: as early as the last of them allows
+-- the turn of an event after events with these turns: the earliest that is possible
 abbrev pub next_turn : List Kept → (turns : List ℕ) → ℕ
 next_turn log turns = first_behind (slice_get log (length turns - 1)) (slice_get turns (length turns - 1))
 
--- The turns of the events of a match that was recovered, by those that were left: as many as there are events. If the
--- close alone has none, since recovery added it, it happens as early as the last event allows.
+-- The turns of a recovered match's events, completed from the turns that were left. If only the close lacks a turn,
+-- because recovery added the close, then it gets the earliest possible turn.
 abbrev pub all_turns : List Kept → (left : List ℕ) → List ℕ
 all_turns log left =
     if length left + 1 == length log then left ++ next_turn log left ∷ [] else take (length log) left
 
--- The turns of a match of the tournament by some that were left, and with them the match stands its appeal.
+-- The turns of a tournament's match, completed from those that were left; with these turns an appeal on the match is
+-- upheld.
 pub record AreTurnsBy (one : Case) : Type 0 where
   pub left : List ℕ
   pub all : one.turns ≡ all_turns one.play.log left
   pub timely : IsOnTime one
 
--- the match of this number is this one, with these turns
+-- the match with this number and these turns, as a case for an appeal
 abbrev pub case_of : Lineup → (number : ℕ) → Play → (turns : List ℕ) → Case
 case_of lineup number play turns = record { lineup = lineup; game = number; play = play; turns = turns }
 
--- what was done of the turns of a match of this number with calls of the files that are written
+-- The effect of saving a match's turns, by calls of the written files.
 pub data AreSavedTurns {P : Type 0} (files : P → List ℕ → WriteAnswer → P → Type 0) (lineup : Lineup) (number : ℕ)
     (play : Play) : Type 0 where
   -- nothing: the tournament has no turns, or a match that has a replay has turns, or none were left
@@ -60,7 +61,7 @@ pub data AreSavedTurns {P : Type 0} (files : P → List ℕ → WriteAnswer → 
   timed_anew : (turns : List ℕ) → AreTurnsBy (case_of lineup number play turns) → Took files (turns_text turns)
       → AreSavedTurns files lineup number play
 
--- what was done of the match of this number of a tournament with calls of the files that are written
+-- The effect of saving a tournament's match with this number, by calls of the written files.
 pub data IsSaved {P : Type 0} (files : P → List ℕ → WriteAnswer → P
     → Type 0) (lineup : Lineup) (number : ℕ) : Type 0 where
   -- nothing: it has a replay and turns, or nothing is left of it
@@ -72,7 +73,7 @@ pub data IsSaved {P : Type 0} (files : P → List ℕ → WriteAnswer → P
   -- its turns alone: it has a replay
   has_replay : (play : Play) → IsReplayed play → AreSavedTurns files lineup number play → IsSaved files lineup number
 
--- what the exit status says of the matches of a tournament that were to be saved, one after the other
+-- The exit status for saving the matches of a tournament in order.
 pub data AreSaved {P : Type 0} (files : P → List ℕ → WriteAnswer → P
     → Type 0) (lineup : Lineup) (code : ℕ) : Type 0 where
   -- each was
@@ -81,10 +82,10 @@ pub data AreSaved {P : Type 0} (files : P → List ℕ → WriteAnswer → P
   -- one was not
   unsaved_one : (fault : Fault) → code ≡ status fault → AreSaved files lineup code
 
--- the calls of the files that are written, and of the output
+-- the transition relations of written files and output
 module _ {P O : Type 0} (files : P → List ℕ → WriteAnswer → P → Type 0) (takes : O → List ℕ → WriteAnswer → O → Type 0)
     (flushes : O → Bool → O → Type 0) where
-  -- the matches of a tournament were to be saved, and then their table was to be printed
+  -- The matches of a tournament were to be saved, and then their table was to be printed.
   pub record RecoversMatches (lineup : Lineup) (output output' : O) (code : ℕ) : Type 0 where
     pub saved : ℕ
     pub printed : ℕ

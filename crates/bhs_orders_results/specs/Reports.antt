@@ -31,7 +31,7 @@ verdict_line verdict =
     outcome_text verdict.outcome ++ (codes " moves " ++ (decimal verdict.moves
     ++ (codes " lost " ++ (decimal verdict.lost ++ codes "\n"))))
 
--- the text is the verdict on a match that some text is the replay of
+-- The text is the verdict on a match of which some text is the replay.
 pub record IsJudgement (text : List ℕ) : Type 0 where
   pub play : Play
   pub replayed : IsReplayed play
@@ -39,14 +39,14 @@ pub record IsJudgement (text : List ℕ) : Type 0 where
 
 -- ---- the table
 
--- the row of an entry: its team, and the verdict on a match that some text is the replay of
+-- The row of an entry: its team, and the verdict on a match of which some text is the replay.
 pub record IsRow (entry : TableEntry) (row : Row) : Type 0 where
   pub play : Play
   pub replayed : IsReplayed play
   pub team : string_bytes row.team ≡ entry.team
   pub judged : row.verdict ≡ verdict_of play
 
--- the rows of entries, one of each, in their order
+-- the rows of entries, one each, in order
 pub data AreRows : List TableEntry → List Row → Type 0 where
   no_rows : AreRows [] []
   one_more : (entries : List TableEntry) (rows : List Row) (entry : TableEntry) (row : Row) → AreRows entries rows
@@ -62,7 +62,7 @@ pub record IsTable (entries : List TableEntry) (text : List ℕ) : Type 0 where
 
 -- ---- the causal past of an agent
 
--- a line as an output of this kind gets it: a terminal with the characters that control it spelled, others as it is
+-- A line as printed to this kind of output: control characters are escaped for a terminal, and unchanged otherwise.
 abbrev pub displayed : OutputKind → (line : List ℕ) → List ℕ
 displayed Terminal line = visible line
 displayed Plain line = line
@@ -85,7 +85,7 @@ abbrev pub past_of : OutputKind → Play → (agent : ℕ) → List ℕ
 past_of kind play agent =
     lines_at kind play (places_of (cut agent (footprints (world_in play) (events_of play.log))))
 
--- the text is the past of this agent, for this kind of output, in a match that some text is the replay of
+-- The text is this agent's past, formatted for this kind of output, in a match of which some text is the replay.
 pub record IsPast (kind : OutputKind) (agent : ℕ) (text : List ℕ) : Type 0 where
   pub play : Play
   pub replayed : IsReplayed play
@@ -93,8 +93,8 @@ pub record IsPast (kind : OutputKind) (agent : ℕ) (text : List ℕ) : Type 0 w
 
 -- ---- the twin
 
--- The text is the replay of the twin, with its black hole at this node, of a match that some text is the replay of. So
--- it is the replay of each match that is this twin.
+-- The text is the replay of the twin, with its black hole at this node, of a match of which some text is the replay.
+-- Each match that is this twin has the same replay.
 pub record IsTwinReplay (node : ℕ) (text : List ℕ) : Type 0 where
   pub play : Play
   pub replayed : IsReplayed play

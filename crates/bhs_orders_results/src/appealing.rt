@@ -51,7 +51,7 @@ pub fn print_appealed_verdict<F: Files, W: Output, E: Write>(
     }
 }
 
-// The name of the file that a fault is about.
+// Returns the name of the file to which a fault belongs.
 fn blamed<'a>(replay: &'a str, appeal: &'a Appeal, fault: Fault) -> &'a str {
     match fault {
         Fault::NoMatch { .. } | Fault::Appeal(AppealFault::Adaptive) => appeal.tournament.as_str(),
@@ -132,7 +132,7 @@ fn late(place: usize, held: Option<usize>) -> AppealFault
     }
 }
 
-/// Whether a match that has ended has the head of a match that is ready.
+/// Returns whether a match that has ended has the same head as a match that is ready.
 pub(crate) fn is_same_match(alloc: Global, sealed: &Sealed, ready: &Ready) -> Result<bool, Memory>
     ensures { IfOk result (λ same. IsTrue same ↔ (own_head sealed.now.net sealed.now.setup
         ≡ own_head ready.now.game.net ready.now.game.setup)) }

@@ -1,4 +1,4 @@
-//! The table of a contest, by the replays of its matches that are there.
+//! The table of a contest, from the replays of its matches that exist.
 
 ghost use Rattle.std.specs.Prelude.{◌≡◌, ◌++◌, IfOk, IfErr, OnOk, string_bytes};
 ghost use Rattle.bhs_orders_results.specs.ContestTables.{AreFound, IsContestRow, IsOf, IsTableOf, TablesContest};
@@ -28,7 +28,7 @@ pub(crate) struct MatchFileName<'a> {
     pub(crate) number: usize,
 }
 
-// What was found of matches: the rows of those that have one, and the exit status of the first that has none.
+// The results of matches: the rows of those that have one, and the exit status of the first match without a row.
 #[derive(Drop)]
 struct Found {
     rows: Vec<Row>,
@@ -85,7 +85,7 @@ fn print_rows<W: Output, E: Write>(
     show_made(table(alloc, rows), writer, errors)
 }
 
-// What is found of matches, one after the other; or the exit status if memory ran out, which was reported.
+// Returns the results of matches in order, or the exit status if memory ran out, which is reported.
 fn found_of<F: Files, E: Write>(
     alloc: Global,
     files: &F,
@@ -109,7 +109,7 @@ fn found_of<F: Files, E: Write>(
     Ok(Found { rows, status })
 }
 
-// Adds the row of a match, if it has one. The answer is the exit status of what was found.
+// Adds the row of a match, if it has one. Returns the exit status of the result.
 fn added(rows: &mut Vec<Row>, found: Result<Row, u8>) -> Result<u8, Memory>
     ensures rows { OnOk result (rows.new.items ≡ rows.old.items ++ row_in found) }
     ensures status { IfOk result (λ code. code ≡ status_in found) }
@@ -143,7 +143,7 @@ fn row_of_match<F: Files, E: Write>(
     }
 }
 
-// Reports why a match has no row, and which match that is. The answer is the exit status.
+// Reports why a match has no row, and names the match. Returns the exit status.
 fn report_left_out<E: Write>(
     name: &str,
     fault: Fault,

@@ -21,9 +21,9 @@ use std::alloc::Global;
 use std::io::Write;
 use std::rt::Files;
 
-/// Writes the turns of a match that was recovered by those that are left, if its tournament has turns. They are in
-/// their part, or in the file of turns, if the server came so far. Any fault is reported, also if with its turns the
-/// match does not stand its appeal: then none are written. The answer is the exit status.
+/// Writes the turns of a recovered match, completed from those that were left, if its tournament has turns. They are in
+/// a part, or in the file of turns if the server came so far. Reports any fault; also if an appeal with these turns
+/// would fail, in which case none are written. Returns the exit status.
 pub(crate) fn save_turns<F: Files, E: Write>(
     alloc: Global,
     files: &F,
@@ -49,7 +49,7 @@ pub(crate) fn save_turns<F: Files, E: Write>(
     }
 }
 
-/// Whether there is no file of a match's turns, but their part.
+/// Returns whether a match has no file of turns, but a part of one.
 pub(crate) fn turns_are_missing<F: Files>(
     alloc: Global,
     files: &F,
@@ -75,7 +75,7 @@ fn name_of_left<F: Files>(
     }
 }
 
-// The turns of the match of this number by those of a file, if it stands its appeal with them.
+// Returns the turns of the match with this number, completed from a file, if an appeal with them is upheld.
 fn turns_by<F: Files>(
     alloc: Global,
     files: &F,
@@ -101,7 +101,7 @@ fn most_events(setup: &Setup) -> usize {
     commands.saturating_mul(2).saturating_add(1)
 }
 
-// A turn for each event of a log, by those that are left.
+// Returns a turn for each event of a log, completed from those that were left.
 fn all_turns(log: &[Kept], left: Vec<u32>) -> Result<Vec<u32>, Memory>
     ensures { IfOk result (λ turns. turns.items ≡ all_turns log.now left.items) }
 {
@@ -115,7 +115,7 @@ fn all_turns(log: &[Kept], left: Vec<u32>) -> Result<Vec<u32>, Memory>
     Ok(turns)
 }
 
-// The turn of an event behind those that have these turns.
+// Returns the turn of an event after events with these turns.
 fn next_turn(log: &[Kept], turns: &[u32]) -> u32
     ensures { result ≡ next_turn log.now turns.now }
 {

@@ -22,10 +22,10 @@ use std::alloc::Global;
 use std::io::Write;
 use std::rt::Files;
 
-/// Writes the replay of each match of a tournament that has none, if its part is there, with its turns by theirs, and
-/// removes the parts. Names of files begin with the prefix. A replay that is there is left as it is; if it has no turns
-/// and their part is there, they are written. Then the table is printed as by `print_contest_table`. Any fault goes to
-/// `errors`, and the other files are written. The answer is the exit status.
+/// Recovers a tournament: for each match without a replay but with a part, writes the replay, with its turns completed
+/// from theirs, and removes the parts. Names of files begin with the prefix. An existing replay is not changed; if its
+/// turns are missing and their part exists, they are written. Then prints the table as `print_contest_table` does.
+/// Reports faults to `errors` and continues with the other files. Returns the exit status.
 pub fn recover_matches<F: Files, W: Output, E: Write>(
     alloc: Global,
     files: &F,
@@ -41,7 +41,7 @@ pub fn recover_matches<F: Files, W: Output, E: Write>(
     first_status(saved, printed)
 }
 
-// Saves matches, one after the other. The answer is the exit status of the first that could not be saved.
+// Saves matches in order. Returns the exit status of the first match that could not be saved.
 fn save_matches<F: Files, E: Write>(
     alloc: Global,
     files: &F,
@@ -60,7 +60,7 @@ fn save_matches<F: Files, E: Write>(
     status
 }
 
-// Writes what is missing of the files of a match by what is left of it.
+// Writes the missing files of a match from its parts.
 fn save_match<F: Files, E: Write>(
     alloc: Global,
     files: &F,
@@ -81,7 +81,7 @@ fn save_match<F: Files, E: Write>(
     }
 }
 
-// Writes the turns of a match that a part says, and its replay. Without turns there is a replay all the same.
+// Writes the turns that a match's part records, and the replay. The replay is written even if the turns are missing.
 fn save_left<F: Files, E: Write>(
     alloc: Global,
     files: &F,
@@ -100,8 +100,8 @@ fn save_left<F: Files, E: Write>(
     first_status(timed, filed)
 }
 
-// Writes the turns of a match that has a replay, if they are missing and their part is there. What is wrong with the
-// replay is told with the table.
+// Writes the turns of a match that has a replay, if they are missing and their part exists. Faults of the replay are
+// reported with the table.
 fn save_turns_alone<F: Files, E: Write>(
     alloc: Global,
     files: &F,

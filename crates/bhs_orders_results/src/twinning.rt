@@ -17,8 +17,8 @@ use std::alloc::Global;
 use std::io::Write;
 use std::rt::Files;
 
-/// Reads a replay, and prints the replay of the twin of its match whose black hole is this node. Why there is no such
-/// twin, as any other fault, goes to `errors`. The answer is the exit status.
+/// Reads a replay and prints the replay of its match's twin with a black hole at this node. Reports faults to `errors`,
+/// also that no such twin exists. Returns the exit status.
 pub fn print_twin<F: Files, W: Output, E: Write>(
     alloc: Global,
     files: &F,
@@ -36,7 +36,7 @@ pub fn print_twin<F: Files, W: Output, E: Write>(
     }
 }
 
-// Prints the replay of the twin of a match that was read, or reports why there is none.
+// Prints the replay of the twin of a match, or reports why no twin exists.
 fn print_twin_of<W: Output, E: Write>(
     alloc: Global,
     sealed: &Sealed,

@@ -5,7 +5,7 @@ use Rattle.bhs_script.specs.Number.{number}
 use Rattle.bhs_orders_serve.specs.declared.asking.OperatorRequest.{OperatorRequest}
 use Rattle.bhs_orders_serve.specs.declared.asking.OperatorRequest.TheVariants as asked
 
--- that a match be closed, if there is one of this number
+-- the request to close the match with this number, if it exists
 abbrev pub closes_one : (matches : ℕ) → (game : ℕ) → Option OperatorRequest
 closes_one matches game = if nat_lt game matches then Some (asked.Close game) else None
 

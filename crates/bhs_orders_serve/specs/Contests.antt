@@ -24,7 +24,7 @@ use Rattle.bhs_orders.specs.declared.reporting.statuses.TheConstants.{DONE}
 abbrev pub listening : (port : ℕ) → List ℕ
 listening port = codes "listening " ++ (decimal port ++ codes "\n")
 
--- the match of this number is the first that has no result
+-- The match with this number is the first that has no result.
 pub record IsFirstUnsettled (settled : List (Result Settlement Refused)) (game : ℕ) : Type 0 where
   pub before : List Settlement
   pub refused : Refused
@@ -32,7 +32,7 @@ pub record IsFirstUnsettled (settled : List (Result Settlement Refused)) (game :
   pub settled_are : settled ≡ map Ok before ++ Err refused ∷ others
   pub place : game ≡ length before
 
--- why there is no table of matches: one of them has no result, or memory ran out
+-- The reason why there is no table: a match has no result, or memory ran out.
 abbrev pub IsUntabled : (settled : List (Result Settlement Refused)) → Fault → Type 0
 IsUntabled settled (faults.Unsettled game) = IsFirstUnsettled settled game
 IsUntabled settled faults.Memory = Unit {0}
@@ -49,7 +49,7 @@ abbrev pub HasTurns : {P : Type 0} → (P → List ℕ → WriteAnswer → P →
 HasTurns files Adaptive turns = Unit {0}
 HasTurns files (Oblivious law) turns = Took files (turns_text turns)
 
--- if the match settled, its replay, and its turns if it has such, were written to files with these calls
+-- If the match was settled, its replay was written by these calls, and its turns if it has any.
 abbrev pub HasReplay : {P : Type 0} → (P → List ℕ → WriteAnswer → P → Type 0) → ScheduleKind → Result Settlement Refused
     → Type 0
 HasReplay files schedule (Ok settlement) =
@@ -66,7 +66,7 @@ pub data Files {P : Type 0} (files : P → List ℕ → WriteAnswer → P → Ty
   unfiled_one : (fault : Fault) → code ≡ status fault → Files files schedule settled code
 
 module _ {O : Type 0} (takes : O → List ℕ → WriteAnswer → O → Type 0) (flushes : O → Bool → O → Type 0) where
-  -- what was printed of the matches of these teams
+  -- the output for the matches of these teams
   pub data Tables (teams : List (List ℕ)) (settled : List (Result Settlement Refused)) (output output' : O) (code : ℕ) :
       Type 0 where
     -- all settled: their table was to be printed
@@ -77,10 +77,10 @@ module _ {O : Type 0} (takes : O → List ℕ → WriteAnswer → O → Type 0) 
     untabled : (fault : Fault) → IsUntabled settled fault → code ≡ status fault → output' ≡ output
         → Tables teams settled output output' code
 
--- the calls of the files that are written, and of the output
+-- the transition relations of written files and output
 module _ {P O : Type 0} (files : P → List ℕ → WriteAnswer → P → Type 0) (takes : O → List ℕ → WriteAnswer → O → Type 0)
     (flushes : O → Bool → O → Type 0) where
-  -- the matches of these teams fared so: replays were to be written, and then a table was to be printed
+  -- The end of a contest with these results: the replays were to be written, and then the table was to be printed.
   pub record Ends (schedule : ScheduleKind) (teams : List (List ℕ)) (settled : List (Result Settlement Refused))
       (output output' : O) (code : ℕ) : Type 0 where
     pub filed : ℕ
@@ -89,8 +89,8 @@ module _ {P O : Type 0} (files : P → List ℕ → WriteAnswer → P → Type 0
     pub tables : Tables takes flushes teams settled output output' printed
     pub coded : code ≡ first_status filed printed
 
-  -- What came of a contest of these matches under this schedule, each by the words of this seed for the stream of its
-  -- number.
+  -- The effect of hosting a contest of these matches under this schedule; each match draws from the stream with its
+  -- number, with this seed.
   pub data Hosts (seed : List ℕ) (schedule : ScheduleKind) (matches : List Ready) (output output' : O) (code : ℕ) :
       Type 0 where
     -- each match settled as its sessions were answered, with deliveries that were made in time; or it was refused

@@ -69,18 +69,18 @@ unplayed_line session why =
 abbrev pub outsiders_line : (clients : ℕ) → List ℕ
 outsiders_line clients = codes "serve: " ++ (decimal clients ++ codes " more clients played nobody\n")
 
--- lines were dropped, since those before them were not read
+-- lines were dropped because earlier lines had not been read
 abbrev pub unread_line : (lines : ℕ) → List ℕ
 unread_line lines =
     codes "serve: " ++ (decimal lines ++ codes " lines were dropped here, since nobody read the log\n")
 
--- a part could not be written on, and it is tried again
+-- writing a part failed and is tried again
 abbrev pub part_waits_line : (game events : ℕ) → List ℕ
 part_waits_line game events =
     codes "serve: the part of match " ++ (decimal game ++ (codes " stops after " ++ (decimal events
     ++ codes " events: write\n")))
 
--- a part that could not be written on goes on
+-- writing a part succeeds again after a failure
 abbrev pub part_goes_on_line : (game events : ℕ) → List ℕ
 part_goes_on_line game events =
     codes "serve: the part of match " ++ (decimal game ++ (codes " goes on after " ++ (decimal events
@@ -92,7 +92,7 @@ judged_line game team turns events verdict =
     codes "serve: match " ++ (decimal game ++ (codes " (" ++ (team ++ (codes ") closed: turns " ++ (decimal turns
     ++ (codes " events " ++ (decimal events ++ (codes ", " ++ verdict_line verdict))))))))
 
--- the same where there was no memory to judge it
+-- the same if memory ran out for the verdict
 abbrev pub unjudged_line : (game : ℕ) (team : List ℕ) (turns : ℕ) → List ℕ
 unjudged_line game team turns =
     codes "serve: match " ++ (decimal game ++ (codes " (" ++ (team ++ (codes ") closed: turns " ++ (decimal turns
@@ -116,7 +116,7 @@ closed_line game team turns events =
     codes "serve: match " ++ (decimal game ++ (codes " (" ++ (team ++ (codes ") is closed: turns " ++ (decimal turns
     ++ (codes " events " ++ (decimal events ++ codes "\n")))))))
 
--- numbers, each with a space before it
+-- a number after a space
 abbrev pub number_after_space : ℕ → List ℕ
 number_after_space one = codes " " ++ decimal one
 
@@ -134,7 +134,7 @@ missing_line game team agents =
 abbrev pub standings_lines : (table absent : List ℕ) → List ℕ
 standings_lines table absent = codes "serve: if all matches were closed now:\n" ++ (table ++ absent)
 
--- a team that nobody has entered for, below the table of the others
+-- a team without any agent, listed below the table
 abbrev pub absent_line : (game : ℕ) (team : List ℕ) → List ℕ
 absent_line game team =
     codes "  - " ++ (team ++ (codes ": no agent of match " ++ (decimal game ++ codes " has entered\n")))
@@ -153,7 +153,7 @@ unknown_line lines matches =
     ++ (codes " lines of standard input: expected close, close M with M below " ++ (decimal matches
     ++ codes ", or status\n")))
 
--- the two digits of a number below 100, and what stands behind them
+-- the two digits of a number below 100, followed by more text
 abbrev pub two_digits : (number : ℕ) (behind : List ℕ) → List ℕ
 two_digits number behind = decimal (number / 10) ++ (decimal (number % 10) ++ behind)
 

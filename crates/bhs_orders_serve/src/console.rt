@@ -24,8 +24,8 @@ pub enum ConsoleInput {
 
 /// The standard input and output of a machine. A thread that outlives its caller can have a copy.
 pub trait Console {
-    /// Whether there is a standard input. To be asked before anything is opened that stays open, since that may get the
-    /// number of a standard input that was closed.
+    /// Returns whether standard input is open. Must be called before any file is opened, since a file could get the
+    /// descriptor of a closed standard input.
     fn has_input(&self) -> bool;
 
     /// Waits for standard input for at most this many milliseconds, and takes what came into `room`.

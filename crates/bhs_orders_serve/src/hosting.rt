@@ -65,7 +65,7 @@ pub fn host<R: Machine, W: Output, E: Write>(
     }
 }
 
-// What came of the matches of the contest, or why it could not begin.
+// Returns the results of the contest's matches, or why the contest could not begin.
 fn served<R: Machine>(
     alloc: Global,
     rt: &R,
@@ -95,7 +95,7 @@ fn served<R: Machine>(
     }
 }
 
-// What came of the matches of the contest, which is reported in a log, and which an operator may close.
+// Returns the results of the contest's matches, while reporting to a log and obeying an operator.
 fn settled<R: Machine>(
     alloc: Global,
     rt: &R,

@@ -15,8 +15,8 @@ pub(crate) const FEW: usize = 64;
 /// as many arrivals, and the close.
 pub(crate) const TIMES: usize = 131_073;
 
-/// How many events a match has, and the verdict on it; None while it is open. A copy of the match is judged, so that
-/// its lock is held only while a few events are copied.
+/// Returns the number of events of a match and its verdict, or None while the match is open. Judges a copy, so that the
+/// lock is held only while a few events are copied.
 pub(crate) fn judged<R: Wait>(
     rt: &R,
     alloc: Global,

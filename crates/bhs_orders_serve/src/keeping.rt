@@ -10,11 +10,11 @@ use std::rt::Files;
 /// What a contest keeps on a machine. Threads share it, which the check does not let them do with the files of a
 /// machine in general.
 pub trait Keep {
-    /// Locks the file of this name, if there is one. The lock is held until the file is closed.
+    /// Opens and locks a file, if it exists. The lock is held until the file is closed.
     fn lock(&self, name: &str) -> Result<Option<File>, Fault>;
 
-    /// Makes a file of this name to append to, which only its owner may read, and locks it until it is closed. There is
-    /// none of this name before.
+    /// Creates a file for appending that only its owner may read, and locks it until it is closed. Fails if the file
+    /// exists.
     fn begin(&self, name: &str) -> Result<File, Fault>;
 
     /// Gives a file another name, once what was written to it is on the disk. If a file of that name is there, it gets

@@ -20,7 +20,7 @@ pub(crate) struct LineFile {
 }
 
 impl LineFile {
-    /// Makes a file of this name with this head, and locks it. There is none of this name before.
+    /// Creates and locks a file with this head. Fails if the file exists.
     pub(crate) fn begun<K: Keep>(rt: &K, name: &str, head: &[u8]) -> Result<LineFile, Fault> {
         let mut file = rt.begin(name)?;
         if file.write_all(head).is_err() || file.sync_all().is_err() {
@@ -61,7 +61,7 @@ impl LineFile {
         Ok(())
     }
 
-    /// Sees that what was written is on the disk.
+    /// Syncs the file to the disk.
     pub(crate) fn sync(&mut self) -> Result<(), Fault> {
         if self.synced != self.events {
             if self.file.sync_data().is_err() {

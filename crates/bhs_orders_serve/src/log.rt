@@ -20,7 +20,7 @@ struct Waiting {
     lines: VecDeque<String>,
     /// How many lines were dropped since one was taken.
     dropped: u32,
-    /// Whether a line is being written.
+    /// Whether a thread is writing a line.
     is_writing: bool,
     is_over: bool,
 }
@@ -42,7 +42,7 @@ impl Waiting {
 #[derive(Drop)]
 pub struct Log {
     alloc: Global,
-    /// When the contest began; None if the clock could not be read.
+    /// The start of the contest; None if the clock could not be read.
     began: Option<Duration>,
     waiting: Mutex<Waiting>,
     changed: Condvar,
@@ -64,7 +64,7 @@ impl Log {
         })
     }
 
-    /// Has a text written, with the time before it. If too many wait, or there was no memory to make it, it is dropped.
+    /// Queues a text with the current time. Drops the text if too many are queued, or if memory ran out for it.
     pub(crate) fn report<R: Wait + Clock>(&self, rt: &R, made: Result<String, Memory>) {
         let made = self.timed(rt, made);
         let mut waiting = self.waiting.lock(rt);
@@ -74,7 +74,7 @@ impl Log {
         self.changed.notify_all();
     }
 
-    // A text with the time before it.
+    // Returns a text with the current time before it.
     fn timed<C: Clock>(&self, clock: &C, made: Result<String, Memory>) -> Result<String, Memory> {
         let text = made?;
         timed_line(self.alloc, self.seconds(clock), text.as_str())
@@ -100,7 +100,7 @@ impl Log {
         unreachable!()
     }
 
-    // The next text to be written: a line, or how many were dropped. None once the log is over.
+    // Returns the next text to write: a line, or the number of dropped lines. None once the log is over.
     fn next<R: Wait + Clock>(&self, rt: &R) -> Option<String> {
         let mut waiting = self.waiting.lock(rt);
         waiting.is_writing = false;

@@ -53,7 +53,7 @@ pub(crate) fn played_line(
     )
 }
 
-/// In a session this many lines were no commands, and this is the first of them in words.
+/// A session had this many lines that were no commands; quotes the first one.
 pub(crate) fn strays_line(
     alloc: Global,
     session: u32,
@@ -134,21 +134,21 @@ pub(crate) fn outsiders_line(alloc: Global, clients: u32) -> Result<String, Memo
     format!(in alloc; "serve: {clients} more clients played nobody\n")
 }
 
-/// Lines were dropped, since those before them were not read.
+/// Lines were dropped because earlier lines had not been read.
 pub(crate) fn unread_line(alloc: Global, lines: u32) -> Result<String, Memory>
     ensures { IfOk result (λ text. string_bytes text ≡ unread_line lines) }
 {
     format!(in alloc; "serve: {lines} lines were dropped here, since nobody read the log\n")
 }
 
-/// A part could not be written on, and it is tried again.
+/// Writing a part failed and is tried again.
 pub(crate) fn part_waits_line(alloc: Global, game: usize, events: usize) -> Result<String, Memory>
     ensures { IfOk result (λ text. string_bytes text ≡ part_waits_line game events) }
 {
     format!(in alloc; "serve: the part of match {game} stops after {events} events: write\n")
 }
 
-/// A part that could not be written on goes on.
+/// Writing a part succeeds again after a failure.
 pub(crate) fn part_goes_on_line(alloc: Global, game: usize, events: usize) -> Result<String, Memory>
     ensures { IfOk result (λ text. string_bytes text ≡ part_goes_on_line game events) }
 {
@@ -261,7 +261,7 @@ pub(crate) fn missing_line(
     format!(in alloc; "serve: match {game} ({team}) misses agents{agents}\n")
 }
 
-// Numbers, each with a space before it.
+// Formats numbers, each after a space.
 fn numbers(alloc: Global, all: &[u16]) -> Result<String, Memory>
     ensures { IfOk result (λ text. string_bytes text ≡ numbers all.now) }
 {
@@ -286,7 +286,7 @@ pub(crate) fn standings_lines(alloc: Global, table: &str, absent: &str) -> Resul
     format!(in alloc; "serve: if all matches were closed now:\n{table}{absent}")
 }
 
-/// A team that nobody has entered for, below the table of the others.
+/// A team without any agent, listed below the table.
 pub(crate) fn absent_line(alloc: Global, game: usize, team: &str) -> Result<String, Memory>
     ensures { IfOk result (λ text. string_bytes text ≡ absent_line game team.now) }
 {

@@ -8,9 +8,9 @@ use std::sync::Wait;
 use std::thread::Threads;
 use std::time::Clock;
 
-/// What the program needs of the machine that it runs on, beside sockets: files, threads, a clock, a stream for faults,
-/// and what an operator says meanwhile. A thread that outlives its caller can have a copy of it. Sockets are a bound of
-/// their own, since the check does not see through the types that a supertrait fixes.
+/// The parts of the machine that the program uses, besides sockets: files, threads, a clock, a stream for faults, and
+/// the operator's input. A thread that outlives its caller can have a copy. Sockets are a separate bound, since the
+/// checker does not see through associated types of a supertrait.
 pub trait Machine: Files
     + Threads
     + Wait

@@ -1,4 +1,4 @@
-//! How a contest is served, by the words that were given and those that were not.
+//! The parameters of serving a contest: from the given words, and defaults for the others.
 
 ghost use Rattle.std.specs.Prelude.{◌≡◌, ◌≢◌, [], true};
 

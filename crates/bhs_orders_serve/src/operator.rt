@@ -27,7 +27,7 @@ const EVERY: u16 = 500;
 /// What the operator asked for that is still to be reported.
 #[derive(Clone, Copy)]
 pub(crate) struct Asks {
-    /// Whether it is to be reported how the contest stands.
+    /// Whether the operator has asked for a status report.
     pub(crate) status: bool,
     /// How many lines asked for nothing.
     pub(crate) unknown: u32,
@@ -56,12 +56,12 @@ impl Operator {
         })
     }
 
-    /// How far the matches are, and which of them are closed.
+    /// Returns the progress of the matches, and which of them are closed.
     pub(crate) fn progress(&self) -> &Progress {
         &self.progress
     }
 
-    /// What was asked for since this was called last.
+    /// Returns the operator's requests since the previous call.
     pub(crate) fn take_asks<R: Wait>(&self, rt: &R) -> Asks {
         let mut asks = self.asks.lock(rt);
         let taken = *asks;
@@ -108,7 +108,7 @@ impl Operator {
         }
     }
 
-    // Does what a line asks for. An empty line asks for nothing, and that is no mistake.
+    // Carries out the request of a line. An empty line is no request and no mistake.
     fn obey<R: Wait + Clock>(&self, rt: &R, alloc: Global, log: &Log, line: &[u8]) {
         if line.is_empty() {
             return;

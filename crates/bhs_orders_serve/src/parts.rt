@@ -1,5 +1,5 @@
-//! The parts of replays and of the turns of their events, which are written on while their matches go on. Once a match
-//! is closed its part is the replay, and that of its turns is the file of turns.
+//! The parts of replays and of their turns, which grow while the matches go on. Once a match is closed, its part
+//! becomes the replay, and the part of its turns becomes the file of turns.
 
 ghost use Rattle.std.specs.Prelude.{◌≡◌, IfOk, IfErr, string_bytes};
 ghost use Rattle.bhs_replay.specs.Replay.{end_line};
@@ -42,9 +42,10 @@ struct Part {
     game: usize,
     names: Names,
     events: LineFile,
-    /// The turns of the events, under the oblivious schedule. Those of an event are on the disk before it is written.
+    /// The turns of the events, under the oblivious schedule. An event's turn is on the disk before the event is
+    /// written.
     turns: Option<LineFile>,
-    /// Whether it could not be written on when that was tried last.
+    /// Whether the latest attempt to write failed.
     has_failed: bool,
     state: PartState,
 }
@@ -58,18 +59,18 @@ struct Names {
     turns: String,
 }
 
-// How far the part of a match is on its way to be the replay.
+// How far a closed match's part has been turned into the replay.
 #[derive(Clone, Copy, Debug, PartialEq, Eq)]
 enum PartState {
     /// More events may come.
     GoesOn,
     /// It has the close, and lacks the end line.
     IsClosed,
-    /// It is the whole replay, and it and its turns have the names of parts.
+    /// The part contains the whole replay; it and its turns still have the names of parts.
     IsWhole,
-    /// Its turns have their name, if it has turns.
+    /// The turns, if any, have their final name.
     IsTimed,
-    /// It has the name of the replay.
+    /// The replay has its final name.
     IsNamed,
 }
 
@@ -254,7 +255,7 @@ impl Part {
         }
     }
 
-    // Appends a few events that its match has newly kept, and answers how many. Each of them has its turn.
+    // Appends a few events that the match has kept since, each with its turn. Returns their number.
     fn appended<R: Wait>(&mut self, rt: &R, alloc: Global, cell: &Cell) -> Result<usize, Fault> {
         let events = self.events.events();
         let most = match &self.turns {
@@ -323,7 +324,7 @@ impl Part {
         let _ = rt.put_others_aside(alloc, turns, own.file());
     }
 
-    // It could not be written on, which is reported once.
+    // Records that writing failed; the first failure is reported.
     fn fails<R: Wait + Clock>(&mut self, rt: &R, alloc: Global, log: &Log) {
         if !self.has_failed {
             log.report(rt, part_waits_line(alloc, self.game, self.events.events()));

@@ -32,10 +32,11 @@ const OUTSIDERS: u32 = 64;
 // How many looks lie between two reports of the clients that were counted.
 const COUNTED: u32 = 20;
 
-/// What is known of a contest while it goes on, and to whom it is reported.
+/// The state of a running contest, and the recipients of its reports.
 #[derive(Clone, Copy, Drop)]
 pub(crate) struct RunningContest<'a> {
-    /// Whether it is reported what happens. What cannot be written, and what the operator asks for, is reported anyway.
+    /// Whether events of the contest are reported. Write failures, and the answers to an operator's requests, are
+    /// always reported.
     pub(crate) is_reporting: bool,
     /// How many turns a match takes at most.
     pub(crate) turns: u32,
@@ -109,7 +110,7 @@ impl<R: Keep + Wait + Clock> Recorder<'_, R> {
         }
     }
 
-    // The line about the lines of a session that were no commands.
+    // Returns the line on a session's lines that were no commands.
     fn strays_reported(&self, session: u32, strays: &Strays) -> Result<String, Memory> {
         let first = stray_words(self.alloc, &strays.first)?;
         strays_line(self.alloc, session, strays.lines, first.as_str())
@@ -195,7 +196,8 @@ impl<R: Keep + Wait + Clock> Recorder<'_, R> {
         standings_lines(self.alloc, table.as_str(), absent.as_str())
     }
 
-    // The verdict on a match if it were closed now. One that is closed was judged then, if that was reported.
+    // Returns the verdict that a match would get if it were closed now. A closed match was judged when it closed, if
+    // that was reported.
     fn verdict_now(&self, game: u32, cell: &Cell) -> Result<Verdict, Memory> {
         match self.standings.verdict(game) {
             Some(verdict) => Ok(verdict),

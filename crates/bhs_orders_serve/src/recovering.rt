@@ -62,7 +62,7 @@ fn locked_parts<K: Keep, E: Write>(
     Ok(locks)
 }
 
-// The part of a match and that of its turns, locked, if they are there.
+// The locked part of a match, and that of its turns, if they exist.
 #[derive(Drop)]
 struct Locked {
     _part: Option<File>,
@@ -83,7 +83,7 @@ fn locked_part<K: Keep>(
     })
 }
 
-// The file of this name, locked, if it is there.
+// Opens and locks a file, if it exists.
 fn lock<K: Keep>(rt: &K, name: &str) -> Result<Option<File>, Fault> {
     match rt.lock(name) {
         Ok(lock) => Ok(lock),

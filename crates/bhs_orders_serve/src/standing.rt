@@ -1,4 +1,4 @@
-//! Who plays in the matches of a contest, and how these stand.
+//! The agents in a contest's matches, and the state of the matches.
 
 use bhs_lock::Cell;
 use bhs_net::Memory;
@@ -7,20 +7,20 @@ use bhs_standings::Showcase;
 use std::alloc::Global;
 use std::sync::{Mutex, Wait};
 
-/// What is known of a match beside its events.
+/// The data of a match other than its events.
 #[derive(Clone, Drop)]
 pub(crate) struct MatchStatus {
     /// The agents that have not entered, in order.
     pub(crate) missing: Vec<u16>,
-    /// After how many turns it was closed; None while it is open.
+    /// The number of turns at its close; None while the match is open.
     pub(crate) closed: Option<u32>,
 }
 
-/// What is known of the matches of a contest, by their numbers.
+/// The data of a contest's matches, by number.
 #[derive(Drop)]
 pub(crate) struct MatchStatuses {
     all: Mutex<Vec<MatchStatus>>,
-    /// The verdicts on those that are closed.
+    /// The verdicts on closed matches.
     verdicts: Showcase,
 }
 
@@ -55,14 +55,14 @@ impl MatchStatuses {
         }
     }
 
-    /// Shows the verdict on a match that is closed. If there is no memory for it, it is not shown.
+    /// Shows the verdict on a closed match, unless memory runs out.
     pub(crate) fn show(&self, game: u32, verdict: Verdict) {
         if let Some(mut note) = self.verdicts.note(game) {
             let _shown = self.verdicts.show(game, verdict, &mut note);
         }
     }
 
-    /// The verdict that is shown on a match, if there is one.
+    /// Returns the verdict that is shown on a match, if any.
     pub(crate) fn verdict(&self, game: u32) -> Option<Verdict> {
         let mut note = self.verdicts.note(game)?;
         self.verdicts.shown(game, &mut note)

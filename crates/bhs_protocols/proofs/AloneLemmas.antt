@@ -79,7 +79,7 @@ silent_unsolved false false rest is h = cc
 
 -- ---- one agent
 
--- a number below 3 that is neither of two
+-- A number below 3 that differs from both given ones.
 pub record IsThird (one two : ℕ) : Type 0 where
   pub it : ℕ
   pub small : it < 3
@@ -145,7 +145,7 @@ module _ (world : World) (wakeups : ℕ) (strategies : Strategies) where
     leaves : IsLeaving (configuration.position 0)
     honest : configuration.accused 0 ≡ None
 
-  -- the world, but for where the black hole is
+  -- the world without its black hole
   abbrev some_world : World
   some_world = (trial 0).world
 
@@ -154,7 +154,7 @@ module _ (world : World) (wakeups : ℕ) (strategies : Strategies) where
   IsTalking (At node came) = node ≡ world.home
   IsTalking position = ⊥
 
-  -- where a command leaves the agent, and whom it has accused then
+  -- The agent's position after a command, and the link that it has accused.
   next_place : (place : Position) (command : Command) (shown : ℕ → List ℕ) (accused : Option (ℕ × ℕ)) → IsTalking place
       → IsHonest place accused → IsNext (position_after some_world place command)
       (accused_by (Some (answer_at some_world shown place command)) command place accused)
@@ -328,7 +328,7 @@ module _ (world : World) (wakeups : ℕ) (strategies : Strategies) where
       (ap (λ (a : Option (ℕ × ℕ)). not (passes (λ link. true) a || false)
       || (not (is_hole_accused w (found_in configuration) hole) || false) || false) going.honest)
 
-  -- ---- so there is a black hole with which it fails
+  -- ---- hence the agent fails for some black hole
 
   outcome_is : (hole : ℕ) (schedule : List ℕ)
       → (verdict (trial hole) (under (trial hole) schedule)).outcome

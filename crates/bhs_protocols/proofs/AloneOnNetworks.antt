@@ -10,7 +10,7 @@ use Rattle.bhs_model.proofs.StepLemmas.{by_cases}
 use Rattle.bhs_protocols.specs.Alone.{HasThree, OneAloneFailsOnNetworks}
 use Rattle.bhs_protocols.proofs.AloneLemmas.{one_alone_fails}
 
--- a node that has a port is one
+-- Only nodes have ports.
 pub is_node : (net : Network) (node port : ℕ) → port < degree_of net node → node < nodes_of net
 is_node net node port has = by_cases (nat_lt node (nodes_of net)) (node < nodes_of net)
     (λ yes. ltb-true node (nodes_of net) yes)

@@ -90,7 +90,7 @@ faces_is world old new other i =
     is_same_sight (faced world (old.position other)) (shown_to_is world old (faced world (old.position other)) i)
     (faced world (new.position other)) (shown_to_is world new (faced world (new.position other)) i)
 
--- the configuration of a state, with what was found and what was heard
+-- the configuration of a state, with findings and histories
 abbrev configuration_with : World → State → Findings → (ℕ → History) → (ℕ → ℕ) → Configuration
 configuration_with world state found history woken = record {
   position = state.position;
@@ -224,7 +224,7 @@ apt_deed trial scene agent =
     (apt_at trial.held trial.wakeups (position_of trial scene agent) (scene.woken agent)
     (trial.strategies agent (scene.history agent)) agent) (apt_rests (position_of trial scene agent))
 
--- a scene after an event: its configuration is that of the state after it, with what is found then and what is answered
+-- The configuration after an event: the next state, with the new findings and the reply.
 event_configuration : (trial : Trial) (scene : Scene) (agent : ℕ) (event : Event) (after : State)
     (answer : Option Reply)
     → next trial.world (state_of trial scene) event ≡ after
@@ -245,7 +245,7 @@ event_configuration trial scene agent event after answer becomes says =
     (changed scene.history agent (hearing (says i) (scene.history agent)))
     (λ other. if faces_same trial.world state (same i) other then scene.woken other else 0)
 
--- what is found after a command with this answer
+-- the findings after a command with this reply
 found_with : (world : World) (state : State) (found : Findings) (agent : ℕ) (command : Command) (answer : Option Reply)
     → reply world state (Tell agent command) ≡ answer →
     found_after world state found (Tell agent command) ≡ record {
@@ -384,7 +384,7 @@ module _ (trial : Trial) (scene : Scene) (agent : ℕ) (is_open : (state_of tria
   done_configuration Wakes own apt moves = refl
   done_configuration Rests own apt moves = absurd (true≢false (sym moves))
 
--- who is no agent does not move
+-- Only an agent of the match can move.
 pub mover_within : (world : World) (position : Position) (b : Bool) (it : Action)
     → is_move world position (if b then it else Rests) ≡ true → b ≡ true
 mover_within world position true it moves = refl

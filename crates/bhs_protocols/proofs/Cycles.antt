@@ -14,7 +14,7 @@ pub record IsCycle (net : Network) (n : ℕ) : Type 0 where
   pub back : (node : ℕ) → node + 1 < n → Leads net (node + 1) node
   pub around : Leads net 0 (n - 1)
 
--- a node of the cycle from which paths that keep off the cut lead to all its others
+-- A node of the cycle with paths to all others that avoid the cut.
 pub record IsStart (net : Network) (n cut : ℕ) : Type 0 where
   pub start : ℕ
   pub reaches : (node : ℕ) → node < n → node ≢ cut → IsPath (Without cut (Leads net)) start node
@@ -23,7 +23,7 @@ module _ (net : Network) (n : ℕ) (is : IsCycle net n) (cut : ℕ) where
   abbrev Step : ℕ → ℕ → Type 0
   Step = Without cut (Leads net)
 
-  -- the nodes before the cut, from the first one on
+  -- the nodes before the cut, reached from node 0 upward
   onward : (node : ℕ) → node < cut → node < n → IsPath Step 0 node
   onward zero before below = IsPath-none Step 0
   onward (suc node) before below =
@@ -34,7 +34,7 @@ module _ (net : Network) (n : ℕ) (is : IsCycle net n) (cut : ℕ) where
         (λ h. omega (arith, h, before)),
       )
 
-  -- and those after it, from the last one back
+  -- the nodes after the cut, reached from the last node downward
   backward : (count node : ℕ) → node + count + 1 ≡ n → cut < node → IsPath Step (n - 1) node
   backward zero node is_last after =
       subst (IsPath Step (n - 1)) (let same : n - 1 ≡ node = omega (arith, is_last) in same)

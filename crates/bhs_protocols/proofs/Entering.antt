@@ -59,7 +59,7 @@ heard_new configuration agent k past new was = elim (eqb_tells k agent) [
       (sym (changed_other configuration.history agent k past h.0)) was
 ]
 
--- who is at a node is inside after a command
+-- An agent at a node stays inside the network after a command.
 inside_after : (world : World) (node : ℕ) (came : Option ℕ) (command : Command) (past : History)
     → IsNewAt (position_after world (At node came) command) past
 inside_after world node came Enter past = tt

@@ -40,7 +40,7 @@ module _ (game : Game) where
       → trips game s m.mine + 2 * all game s m ≤ trips game s (distance game.search s - 1)
   next_costs s m = below_next game s m.mine
 
-  -- only who is lost has made all the moves of its side
+  -- Only a lost agent has made all moves of its side.
   spent_less : (s o : ℕ) (configuration : Configuration) (pair : Pair s o) (inv : Inv game s o configuration)
       (phase : Phase)
       → (mem game configuration s).phase ≡ phase →
@@ -95,7 +95,7 @@ module _ (game : Game) where
           inl (omega (arith, next, longer))
       by_phase Ends is most long longer = inl (omega (arith, most, long))
 
-  -- by what an agent is about: its departures and arrivals, by its moves
+  -- The agent's departures and arrivals, counted by its phase and its moves.
   few_paces : (s : ℕ) (m : Memory) (phase : Phase) (position : Position) (accused : Option (ℕ × ℕ))
       → IsPlaced game s m phase position accused →
       (paces (all game s m) phase ≤ 2 * (trip (all game s m) phase + ended phase) + 1) × (ended phase ≤ 1)

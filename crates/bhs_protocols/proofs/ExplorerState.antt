@@ -90,7 +90,7 @@ module _ (game : Game) where
   abbrev pub all : (s : ℕ) → Memory → ℕ
   all s m = (way s m).steps
 
-  -- the node at this step of it
+  -- the node at this step of the route
   abbrev pub along : (s : ℕ) → Memory → (step : ℕ) → ℕ
   along s m step = node s ((way s m).place step)
 
@@ -111,7 +111,7 @@ module _ (game : Game) where
     pub last : step + 1 ≡ all s m
     pub link : accused ≡ Some (along s m step, (way s m).ahead step)
 
-  -- where an agent is, and whom it has accused, by what it is about
+  -- The agent's position and accusation, according to its phase.
   abbrev pub IsPlaced : (s : ℕ) → Memory → Phase → Position → Option (ℕ × ℕ) → Type 0
   IsPlaced s m Begins position accused = (position ≡ Before) × (accused ≡ None)
   IsPlaced s m (GoesOut step port) position accused =
@@ -198,7 +198,7 @@ module _ (game : Game) where
     pub more : progress s (mem old s) + 1 ≤ progress s (mem new s)
     pub same : mem new o ≡ mem old o
 
-  -- all that a turn of an agent has to keep
+  -- the obligations of an agent's turn
   pub record Keeps (s o : ℕ) (old : Configuration) (after : Memory) (place : Position) (costs moved : ℕ)
       (accused : Option (ℕ × ℕ)) (shown : ℕ → List ℕ) (reached : ℕ → Bool) : Type 0 where
     pub fit : IsFit s after place accused (old.used s + costs) reached
@@ -251,7 +251,7 @@ module _ (game : Game) where
       beyond_two : (k : ℕ) → 2 ≤ k → (k == s) ≡ false
       beyond_two k beyond = ne_eqb k s (λ h. omega (arith, h, beyond, pair.own))
 
-  -- ---- the turns of an agent, by what it is about
+  -- ---- the turns of an agent, by phase
 
   pub placed_as : (s : ℕ) (configuration : Configuration) (phase : Phase) → (mem configuration s).phase ≡ phase
       → IsFitIn configuration s

@@ -46,7 +46,7 @@ does_by n way m (ComesBack step port) = Says (Depart port)
 does_by n way m Writes = Says (Write (text_by m.side m.mine m.theirs) (text_by m.side (m.mine + 1) m.theirs))
 does_by n way m phase = Stops
 
--- it has come out to this step
+-- the agent has walked out to this step
 abbrev pub out_by : Way → Memory → (step : ℕ) → Memory
 out_by way m step =
     if step == way.steps
@@ -102,7 +102,7 @@ module _ (n : ℕ) (strategies : Strategies) (holds : (agent : ℕ) → History 
         → holds s (Heard (Changed board) ∷ past)
         ≡ record (holds s past) { theirs = other_in (holds s past).side board }
 
--- ---- what it costs, by what an agent is about; `all` is the number of steps of the way to its next node
+-- ---- potential by phase; `all` is the number of steps of the route to the next node
 
 -- moves since the agent was last at the home base
 abbrev pub trip : (all : ℕ) → Phase → ℕ

@@ -96,8 +96,8 @@ module _ {game : Game} (on : Turn game) where
   pub read : other_in M.side (configuration.shown world.home) ≡ O.mine
   read = (λ i. other_in (inv.own.side i) (inv.board i)) ∙ read_other s M.mine O.mine pair.own
 
-  -- It turns to something else, and knows as much as before, or also what the other one has told. What it has then come
-  -- to was reached before or is now.
+  -- The agent changes its phase and knows as much as before, or also its partner's news. Its new node was reached
+  -- earlier or is reached now.
   pub paced : (was now : Phase) (theirs : ℕ) (place : Position) (news : Observation) (costs moved : ℕ)
       (accused : Option (ℕ × ℕ)) (reached : ℕ → Bool) → M.phase ≡ was
       → Becomes configuration

@@ -98,7 +98,7 @@ module _ (game : Game) where
         | inr h ↦ h
       ]
 
-  -- then the other accuses, and all moves but its last one are made
+  -- Then the partner accuses, and all moves but the partner's last one are made.
   all_made : (s o : ℕ) (configuration : Configuration) → Pair s o → Inv game o s configuration
       → IsLost game s (mem game configuration s)
       → can_move_in trial configuration o ≡ false → configuration.moves ≡ most_moves game s + most_moves game o - 1

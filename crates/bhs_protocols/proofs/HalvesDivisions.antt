@@ -69,7 +69,7 @@ module _ {game : Game} (on : Turn game) where
       let part_is : part n O w ≡ O.mine = ap (part n O) unmarked ∙ sym reached in
       omega (arith, further, part_is)
 
-  -- the other agent is where it was, with another mark ahead of it
+  -- The partner keeps its position, with one more mark ahead of it.
   told_more : IsDone game M v → (mark : ℕ) → (phase : Phase)
       → IsPlaced game o O M.mine w phase (configuration.position o) (configuration.accused o)
       → IsPlaced game o O M.mine mark phase (configuration.position o) (configuration.accused o)

@@ -9,7 +9,7 @@ use Rattle.bhs_protocols.specs.declared.halves.Phase.TheVariants.{Writes, GoesHo
 use Rattle.bhs_protocols.specs.declared.halves.Phase.TheVariants.{ComesHome, NearsBack, Ends}
 use Rattle.bhs_protocols.specs.Halves.{target_by, theirs_by}
 
--- what an agent holds, where it is, and whom it has accused
+-- An agent's memory, position and accusation.
 pub record Seat : Type 0 where
   pub memory : Memory
   pub position : Position

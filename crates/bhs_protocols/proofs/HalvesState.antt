@@ -1,4 +1,4 @@
--- The search by halves: what holds of it at each time, and what a turn has to keep.
+-- The search by halves: its invariant, and the obligations of each turn.
 use Rattle.std.proofs.Common.{ℕ, ◌+◌, ◌-◌, ◌*◌, ◌/◌, ◌<◌, ◌≤◌, ◌≡◌, ◌⊎◌, Bool, true, false, ◌==◌, Option, Some, None}
 use Rattle.std.proofs.Common.{List, sym, ap, ◌∙◌, subst, if◌then◌else◌, nat_lt, inl, inr, arith}
 use Rattle.std.specs.Prelude.{◌≢◌, bytes_eq}
@@ -78,7 +78,7 @@ module _ (game : Game) where
 
   -- ---- where agents are
 
-  -- at this node of a side
+  -- The agent stands at this node of a side.
   pub record IsAtNode (side steps : ℕ) (position : Position) : Type 0 where
     pub came : Option ℕ
     pub at : position ≡ At (ways.node side steps) came
@@ -143,7 +143,7 @@ module _ (game : Game) where
       (position ≡ After) × (m.mine + far + 2 ≡ n) × ((accused ≡ link (ways.node s m.mine) (ways.ahead s m.mine))
       ⊎ (accused ≡ link (ways.node (opposite s) far) (ways.ahead (opposite s) far)))
 
-  -- ---- what holds of one agent, of both, and of the whiteboards
+  -- ---- the invariant of one agent, of both agents, and of the whiteboards
 
   pub record Fit (s : ℕ) (a : Seat) (far mark : ℕ) (seen : ℕ → Bool) : Type 0 where
     pub side : a.memory.side ≡ s
@@ -248,7 +248,7 @@ module _ (game : Game) where
         → moved + due s now mark + due o other mark_too + walks_at n (rest_of s was v)
         ≡ due s was v + due o other w + 2 * (n - 1 - rest) + walks_at n (rest - rest / 2)
 
-  -- Or it has come all the way to the other side and sees there that one node is left.
+  -- Or the agent has walked the whole way to the opposite side, and reads there that one node is left.
   pub record IsLate (s v : ℕ) (was other : Memory) : Type 0 where
     pub one : was.mine + other.mine + 2 ≡ n
     pub explored : part n was v ≡ was.mine
@@ -270,7 +270,7 @@ module _ (game : Game) where
     pub fewer : turns_due s (mem new s) mark new.shown + turns_due o (mem new o) mark_too new.shown
         < turns_due s (mem old s) v old.shown + turns_due o (mem old o) w old.shown
 
-  -- all that a turn of an agent has to keep
+  -- the obligations of an agent's turn
   pub record Keeps (s o v w : ℕ) (old : Configuration) (a : Seat) (costs moved mark mark_too : ℕ) (shown : ℕ → List ℕ)
       (seen : ℕ → Bool) : Type 0 where
     pub state : State s o mark mark_too a (seat old o) shown seen

@@ -149,7 +149,7 @@ module _ {game : Game} (on : Turn game) where
         fewer = omega (arith, dues, due_is, rounds_are, fewer);
       })
 
-  -- one that spends what was owed
+  -- a turn that spends owed moves
   pub paced : (target theirs own other : ℕ) (phase : Phase) (place : Position) (news : Observation) (costs moved : ℕ)
       (accused : Option (ℕ × ℕ)) (seen : ℕ → Bool)
       → Becomes configuration (turn_in trial configuration s) s place news costs moved accused configuration.shown seen
@@ -192,7 +192,7 @@ module _ {game : Game} (on : Turn game) where
       let left : tasks M.phase ≡ 1 = tasks_some M.phase some in
       omega (arith, used, quota, left)
 
-  -- ---- it goes on by a port
+  -- ---- the agent departs by a port
 
   goes : (phase : Phase) (node port : ℕ) (came : Option ℕ)
       → after_in n M M.phase (Heard Gone) ≡ held M.target M.theirs M.own M.other phase
@@ -281,7 +281,7 @@ module _ {game : Game} (on : Turn game) where
       let two : M.mine + O.mine + 2 ≤ n = two_sides in
       omega (arith, known, same, two)
 
-  -- so it has a move to go there
+  -- Hence the potential pays for the move.
   node_due : M.mine < M.target → 1 ≤ B
   node_due more =
       let safe : M.mine < distance game s = own_fit.safe in

@@ -42,7 +42,7 @@ rounds_are k =
 abbrev IsWorst : (left rounds : ℕ) → Type 0
 IsWorst left times = ((left ≡ 1) × (times ≡ 0)) ⊎ ((k : ℕ) × (left ≡ doubled k + 1) × (times ≡ suc k))
 
--- half of it is so, too, and a way to the other side and back is just paid for
+-- The half satisfies the same, and the round trip to the opposite side is paid exactly.
 record IsHalved (n left ways : ℕ) : Type 0 where
   worst : IsWorst (left - left / 2) (rounds (left - left / 2))
   paid : ways ≡ 2 * (n - 1 - left) + walks_at n (left - left / 2)

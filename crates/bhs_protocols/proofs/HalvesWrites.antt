@@ -138,7 +138,7 @@ module _ {game : Game} (on : Turn game) where
 
   -- ---- it writes that the next node is safe
 
-  -- the other agent is where it was, with one more node known
+  -- The partner keeps its position, with one more known node.
   far_more : M.mine + 1 < distance game s → (phase : Phase)
       → IsPlaced game o O M.mine w phase (configuration.position o) (configuration.accused o)
       → IsPlaced game o O (M.mine + 1) w phase (configuration.position o) (configuration.accused o)

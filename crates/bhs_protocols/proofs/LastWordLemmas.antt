@@ -1,5 +1,5 @@
--- Where a node was not reached, nobody could know that it is not the black hole: under some schedule the same would
--- have happened if it were, and the accusation would be wrong.
+-- Indistinguishability: while a node is unreached, no agent can exclude that it is the black hole. Under some schedule
+-- the same run happens with the black hole at that node, where the accusation is wrong.
 use Rattle.std.proofs.Common.{ℕ, zero, suc, ◌+◌, ◌<◌, ◌≤◌, ◌≡◌, ◌⊎◌, Bool, true, false, not, ◌||◌, ◌==◌, Option, Some}
 use Rattle.std.proofs.Common.{None, List, [], ◌∷◌, ◌++◌, refl, sym, ap, ◌∙◌, subst, if◌then◌else◌, nat_lt, inl, inr}
 use Rattle.std.proofs.Common.{arith}
@@ -80,7 +80,7 @@ reached_later trial configuration (agent ∷ schedule) node was =
     reached_later trial (turn_in trial configuration agent) schedule node
     (reached_told trial configuration agent node (deed_in trial configuration agent) was)
 
--- an accusation is the last that an agent does
+-- An accusation is the agent's last command.
 abbrev pub IsHonest : Position → Option (ℕ × ℕ) → Type 0
 IsHonest position accused = (accused ≡ None) ⊎ (position ≡ After)
 
@@ -370,7 +370,7 @@ module _ (world : World) (held : Held) (wakeups : ℕ) (strategies : Strategies)
   abbrev two : Trial
   two = searched world held wakeups strategies node
 
-  -- a turn makes the same of both, or nothing of the one
+  -- A turn has the same effect in both matches, or none in the first one.
   record IsAlike (configuration : Configuration) (agent : ℕ) : Type 0 where
     either : (turn_in two configuration agent ≡ turn_in one configuration agent) ⊎ (turn_in one configuration agent
         ≡ configuration)

@@ -191,7 +191,7 @@ module _ (world : World) (held : Held) (wakeups : ℕ) (strategies : Strategies)
   always_open schedule = under_each two (λ (scene : Scene). (state_of two scene).closed ≡ false) schedule
       (record { turned = open_turn two }) refl
 
-  -- who is delivered is an agent of the match
+  -- A delivered agent belongs to the match.
   is_agent : (configuration : Configuration) (agent : ℕ) → deed_in one configuration agent ≡ Makes (Deliver agent)
       → agent < world.agents
   is_agent configuration agent delivers = by_cases (nat_lt agent world.agents) (agent < world.agents)

@@ -29,7 +29,7 @@ module _ (trial : Trial) (configuration : Configuration) (agent : ℕ) (within :
       then action_at trial.held trial.wakeups (at i) (configuration.woken agent) (says i) agent else Rests))
       ∙ ap (is_move trial.world place) makes
 
-  -- who is on a link that is not held can move if the link does not destroy
+  -- An agent on a link that is not held can move if the link does not destroy.
   pub bound_moves : (node port : ℕ) → configuration.position agent ≡ Bound node port → trial.held node port ≡ false
       → can_move_in trial configuration agent ≡ not (doomed trial.world node port)
   bound_moves node port at free =

@@ -28,7 +28,7 @@ use Rattle.bhs_protocols.proofs.ShuttleLemmas.{shuttle_solves}
 
 -- ---- counting
 
--- where a number is among the values of a function
+-- The value occurs among the function's values on an interval.
 record IsValue (f : ℕ → ℕ) (start count q : ℕ) : Type 0 where
   place : ℕ
   after : start ≤ place
@@ -131,7 +131,7 @@ module _ (net : Network) (setup : Setup) (hole : ℕ) (is : IsSetOn net setup ho
   back_to end it =
       ap (λ (e : End). far_of net e.0 e.1) (sym (out_of end it)) ∙ labelled.back end.0 end.1 (has_port end it)
 
-  -- the other port of the node
+  -- the opposite port of the node
   abbrev turned : End → End
   turned end = (end.0, 1 - end.1)
 
@@ -177,7 +177,7 @@ module _ (net : Network) (setup : Setup) (hole : ℕ) (is : IsSetOn net setup ho
       twice : (port : ℕ) → port < 2 → 1 - (1 - port) ≡ port
       twice port small = omega (arith, small)
 
-  -- who is twice at one end was earlier too
+  -- If the path visits one end twice, then it also does so one step earlier.
   earlier : (i j : ℕ) → path (suc i) ≡ path (suc j) → path i ≡ path j
   earlier i j same =
       sym (back_to (path i) (on_path i)) ∙ ap (λ (e : End). far_of net e.0 (1 - e.1)) same

@@ -51,7 +51,7 @@ abbrev pub opposite : ℕ → ℕ
 opposite zero = 1
 opposite (suc k) = 0
 
--- an agent and the other one
+-- an agent and its partner
 pub record Pair (s o : ℕ) : Type 0 where
   pub own : s < 2
   pub other : o < 2
@@ -90,7 +90,7 @@ either_goes_on trial Holds turned goes_on configuration left (suc zero) below mo
 either_goes_on trial Holds turned goes_on configuration left (suc (suc k)) below moves held =
     absurd (omega (arith, below))
 
--- what holds of 0 and of 1 holds of both agents
+-- Case analysis: an agent is number 0 or number 1.
 pub both : (P : ℕ → Type 0) → P 0 → P 1 → (s : ℕ) → s < 2 → P s
 both P zeroth first zero below = zeroth
 both P zeroth first (suc zero) below = first
@@ -205,7 +205,7 @@ module _ {world : World} {n right left : ℕ} {node_at : (side place : ℕ) → 
       both (λ (k : ℕ). node_at k (distance k) ≡ node_at 0 right) refl
       (search.around left right (omega (arith, sum)) search.nor_around search.not_home) s below
 
-  -- before the black hole there is none
+  -- No node before the black hole is a black hole.
   safe_right : (steps : ℕ) → steps < right → (node_at 0 right == node_at 0 steps) ≡ false
   safe_right steps before = ne_eqb (node_at 0 right) (node_at 0 steps) (λ h.
       let below : right < n = within_n 0 (omega arith) in
@@ -386,7 +386,7 @@ module _ {world : World} {n right left : ℕ} {node_at : (side place : ℕ) → 
     pub far : world.net.far start port ≡ (node_at 0 right, label)
     pub accused : configuration.accused s ≡ Some (start, port)
 
-  -- so it is if that link leads to the next node of a side of whose nodes no other is left
+  -- The accusation is right if its link leads to the next node of a side on which all other nodes are reached.
   pub accuser : (configuration : Configuration) (agent s mine start port label : ℕ) → s < 2 → mine + 1 ≡ distance s
       → world.net.far start port ≡ (node_at s (mine + 1), label) → configuration.accused agent ≡ Some (start, port)
       → IsAccuser agent configuration

@@ -33,7 +33,7 @@ module _ (n : ℕ) where
   pub degree_is : (node : ℕ) → node < n → networks.degree_of (standard_ring n) node ≡ 2
   degree_is node within = ap (λ (row : List End). length row) (row_is node within)
 
-  -- there is no node beyond them
+  -- Numbers from n on are no nodes.
   pub no_degree : (node : ℕ) → n ≤ node → networks.degree_of (standard_ring n) node ≡ 0
   no_degree node beyond =
       let least : networks.nodes_of (standard_ring n) ≤ node = subst (λ (k : ℕ). k ≤ node) (sym size_is) beyond in
@@ -57,7 +57,7 @@ module _ (n : ℕ) where
   pub across : 0 < n → networks.far_of (standard_ring n) 0 1 ≡ (n - 1, 0)
   across some = far_is 0 1 some
 
-  -- and from the last one to node 0
+  -- The last node leads back to node 0.
   pub to_first : (node : ℕ) → node + 1 ≡ n → networks.far_of (standard_ring n) node 0 ≡ (0, 1)
   to_first node last =
       far_is node 0 (omega (arith, last))

@@ -16,7 +16,8 @@ module _ (n : ℕ) (three : 3 ≤ n) (fits : n ≤ MAX_NODES) where
   abbrev net : Network
   net = standard_ring n
 
-  -- the kinds of ports: to the next node, from the last one to node 0, to the one before, and from node 0 to the last
+  -- The kinds of ports: to the successor; from the last node to node 0; to the predecessor; from node 0 to the last
+  -- node.
   data Kind (node port : ℕ) : Type 0 where
     Right : node + 1 < n → port ≡ 0 → far_of net node port ≡ (node + 1, 1) → Kind node port
     Around : node + 1 ≡ n → port ≡ 0 → far_of net node port ≡ (0, 1) → Kind node port

@@ -1,5 +1,5 @@
--- What a turn makes of a configuration, by what the agent does: a lemma for all commands, one for each, one for an
--- arrival, and two for an agent that waits.
+-- The effect of a turn on a configuration, by the agent's step: a lemma for all commands, one for each command, one for
+-- arrivals, and two for waiting agents.
 use Rattle.std.proofs.Common.{ℕ, ◌+◌, ◌<◌, ◌≤◌, ◌≡◌, Bool, true, false, ◌==◌, Option, Some, None, List, ◌∷◌, length}
 use Rattle.std.proofs.Common.{refl, sym, ap, ◌∙◌, subst, if◌then◌else◌, nat_lt, inl, inr, arith}
 use Rattle.std.specs.Prelude.{bytes_eq}
@@ -47,7 +47,7 @@ module _ (trial : Trial) (configuration : Configuration) (agent : ℕ) (within :
   within_true : nat_lt agent trial.world.agents ≡ true
   within_true = lt-ltb agent trial.world.agents within
 
-  -- what an agent at a node does
+  -- the action of an agent at a node
   acts : (node : ℕ) (came : Option ℕ) (step : Step) → configuration.position agent ≡ At node came
       → trial.strategies agent (configuration.history agent) ≡ step
       → deed_in trial configuration agent

@@ -19,7 +19,7 @@ pub record IsSetOn (net : Network) (setup : Setup) (hole : ℕ) : Type 0 where
   pub dark : setup.dark ≡ []
   pub agents : setup.agents ≡ 2
 
--- from a node by a port to the next node, and there to the other port
+-- the far end of a port, followed by the opposite port of that node
 abbrev pub onward : Network → End → End
 onward net end = ((far_of net end.0 end.1).0, 1 - (far_of net end.0 end.1).1)
 

@@ -41,7 +41,7 @@ OneAloneFails = (world : World) (wakeups : ℕ) (strategies : Strategies) (hole 
     → IsAtRest (alone world wakeups strategies hole) (under (alone world wakeups strategies hole) schedule)
     → FailsSomewhere world wakeups strategies
 
--- so it is on each network of a file, from each home base
+-- The same holds on each network of a file, from each home base.
 abbrev pub OneAloneFailsOnNetworks : Type 0
 OneAloneFailsOnNetworks =
     (net : Network) (setup : Setup) (wakeups : ℕ) (strategies : Strategies) (hole : ℕ) (schedule : List ℕ)

@@ -44,7 +44,7 @@ ShuttleAttainsSquares = (world : World) (n wakeups : ℕ) (ways : Ways) → IsSe
     → 4 ≤ world.board → (n - 2) * (n - 1) + 2 * n ≤ world.quota
     → IsAttained (shuttle_trial world wakeups n) ((n - 1) * (n - 1))
 
--- so it is on each ring of a file, from each home base
+-- The same holds on each ring of a file, from each home base.
 abbrev pub ShuttleAttainsOnAllRings : Type 0
 ShuttleAttainsOnAllRings = (net : Network) (setup : Setup) (hole wakeups : ℕ) → IsSetOn net setup hole → 4 ≤ setup.board
     → (nodes_of net - 2) * (nodes_of net - 1) + 2 * nodes_of net ≤ setup.quota
@@ -64,7 +64,7 @@ worst_in part (suc k) = part - doubled k
 abbrev pub worst_distance : (n : ℕ) → ℕ
 worst_distance n = worst_in (n / 2) (rounds (n / 2))
 
--- that is a node of the ring, and not the home base
+-- The worst black hole is a node of the ring other than the home base.
 abbrev pub WorstIsWithin : Type 0
 WorstIsWithin = (n : ℕ) → 3 ≤ n → (0 < worst_distance n) × (worst_distance n < n)
 

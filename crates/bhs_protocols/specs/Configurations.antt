@@ -75,7 +75,7 @@ can_move_in trial configuration agent =
 abbrev pub IsResting : Trial → Configuration → Type 0
 IsResting trial configuration = (agent : ℕ) → can_move_in trial configuration agent ≡ false
 
--- ---- what a turn makes of it
+-- ---- the effect of a turn
 
 -- what the whiteboard shows that is faced
 abbrev pub shown_in : (ℕ → List ℕ) → Option ℕ → List ℕ
@@ -93,7 +93,7 @@ abbrev pub is_heard : World → Configuration → (agent : ℕ) → Command → 
 is_heard world configuration agent command =
     accepts (standing_at (configuration.position agent)) (nat_lt (configuration.used agent) world.quota) command
 
--- what is answered to a command that is heard
+-- the reply to a command that is heard
 abbrev pub answer_at : World → (shown : ℕ → List ℕ) → Position → Command → Reply
 answer_at world shown position Leave = Bye
 answer_at world shown (Bound node port) command = No whys.Away
@@ -112,7 +112,7 @@ shown_after limit shown (At node came) (Write expect put) =
     changed shown node (swapped limit (shown node) expect put)
 shown_after limit shown position command = shown
 
--- after a command that is heard of an agent at this place
+-- the configuration after a command that is heard, from an agent at this position
 abbrev pub told_at : World → Configuration → (agent : ℕ) → (place : Position) → Command → Configuration
 told_at world configuration agent place command =
     let answer = answer_at world configuration.shown place command in
@@ -166,7 +166,7 @@ arrived_in world configuration agent node label =
       moves = configuration.moves;
     }
 
--- after a delivery of an agent at this position: who is on a link that destroys does not arrive
+-- The configuration after a delivery; an agent on a destroying link does not arrive.
 abbrev pub delivered_in : World → Configuration → (agent : ℕ) → Position → Configuration
 delivered_in world configuration agent (Bound node port) =
     if doomed world node port
@@ -188,7 +188,7 @@ done_in trial configuration agent (Makes Close) = configuration
 done_in trial configuration agent Wakes = woken_in configuration agent
 done_in trial configuration agent Rests = configuration
 
--- after the turn of an agent
+-- the configuration after the turn of an agent
 abbrev pub turn_in : Trial → Configuration → (agent : ℕ) → Configuration
 turn_in trial configuration agent = done_in trial configuration agent (deed_in trial configuration agent)
 

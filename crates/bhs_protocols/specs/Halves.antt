@@ -23,8 +23,9 @@ use Rattle.bhs_protocols.specs.Shuttle.{right_in, left_in, other_in, text_by}
 
 -- ---- the whiteboard
 
--- A whiteboard has a mark for each side, of the link that leads on from its node on that side. 0: nothing is known; 1:
--- the link is safe; 2 + k: what is left was divided anew, by an agent that had explored k nodes of its own side.
+-- The search by halves. A whiteboard has a mark for each side, which belongs to the link that leads on from its node on
+-- that side. 0: nothing is known; 1: the link is safe; 2 + k: the unexplored nodes were divided anew, by an agent that
+-- had explored k nodes of its own side.
 
 -- the mark of this side on a whiteboard
 abbrev pub own_in : (side : ℕ) → List ℕ → ℕ
@@ -106,7 +107,7 @@ abbrev pub goes_back : Memory → (steps port : ℕ) → Memory
 goes_back m zero port = record m { phase = GoesOut 0 port }
 goes_back m (suc steps) port = record m { phase = ComesHome (suc steps) port }
 
--- it has divided what is left
+-- The agent has divided the unexplored nodes.
 abbrev pub divided : (n : ℕ) → Memory → (steps port : ℕ) → Memory
 divided n m steps port = goes_back (record m {
   theirs = steps;

@@ -20,7 +20,7 @@ example n hole = record {
   board = 4;
 }
 
--- under this schedule the match is solved, with the most moves that there may be
+-- Under this schedule the match is solved with the largest possible number of moves.
 abbrev pub IsWorst : (n hole : ℕ) → List ℕ → Type 0
 IsWorst n hole schedule =
     (outcome_in (example n hole) (turns_in (halves_trial (example n hole) 0 n) blank schedule) ≡ Solved)

@@ -26,7 +26,7 @@ abbrev pub HalvesSolve : Type 0
 HalvesSolve = (world : World) (n one other wakeups : ℕ) (ways : Ways) → IsSearch world n one other ways
     → 4 ≤ world.board → most_commands n ≤ world.quota → IsSolved (halves_trial world wakeups n) (halves_bounds n)
 
--- and so it solves each ring of a file
+-- Hence the team solves each ring of a file.
 abbrev pub HalvesSolveAllRings : Type 0
 HalvesSolveAllRings = (net : Network) (setup : Setup) (hole wakeups : ℕ) → IsSetOn net setup hole → 4 ≤ setup.board
     → most_commands (nodes_of net) ≤ setup.quota

@@ -46,7 +46,7 @@ abbrev pub WaysArePaid : Type 0
 WaysArePaid = (n known left : ℕ) → 2 ≤ left → left ≤ known
     → 2 * (n - 1 - left) + walks_at n (left - left / 2) ≤ walks_at n known
 
--- and so is a way to the black hole, if that is all that is left
+-- A walk to the black hole is paid as well, when it is the only unexplored node.
 abbrev pub LastWaysArePaid : Type 0
 LastWaysArePaid = (n known : ℕ) → 2 ≤ known → 2 * known ≤ n → n - 2 ≤ walks_at n known
 

@@ -29,7 +29,7 @@ EachBlackHoleDestroys = (world : World) (held : Held) (wakeups : ℕ) (strategie
     → SolvesEverywhere world held wakeups strategies → (hole : ℕ) → hole < world.net.nodes → hole ≢ world.home
     → LosesOne (searched world held wakeups strategies hole)
 
--- so it does not solve any of these matches with no agent lost
+-- Hence the team cannot solve any of these matches without losing an agent.
 abbrev pub ALossIsNeeded : Type 0
 ALossIsNeeded = (world : World) (held : Held) (wakeups : ℕ) (strategies : Strategies) → 3 ≤ world.net.nodes
     → SolvesEverywhere world held wakeups strategies → (hole moves : ℕ) → hole < world.net.nodes → hole ≢ world.home

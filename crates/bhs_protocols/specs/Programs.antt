@@ -3,7 +3,7 @@ use Rattle.std.specs.Prelude.{ℕ, [], ◌∷◌}
 use Rattle.bhs_schedules.specs.declared.answers.Step.{Step}
 use Rattle.bhs_schedules.specs.Strategies.{Observation, History, Strategies}
 
--- what an agent holds at the start, what it holds after something has happened to it, and what it does by what it holds
+-- A program: the initial memory of each agent, the memory after an observation, and the step for a memory.
 pub record Program (M : Type 0) : Type 0 where
   pub start : (agent : ℕ) → M
   pub after : M → Observation → M

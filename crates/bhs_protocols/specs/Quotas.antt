@@ -6,13 +6,13 @@ use Rattle.bhs_protocols.specs.Halving.{most_commands}
 abbrev pub largest_quota : ℕ
 largest_quota = 65535
 
--- The quota of the search by halves on n nodes, on a ring or along a tour: a file has it up to 2,579 nodes, and from
--- 2,580 nodes on no file has it.
+-- The quota that the search by halves needs on n nodes, on a ring or along a tour: a file can give it up to 2,579
+-- nodes, and from 2,580 nodes on no file can.
 abbrev pub HalvesHaveTheirQuota : Type 0
 HalvesHaveTheirQuota = (n : ℕ)
     → (n ≤ 2579 → most_commands n ≤ largest_quota) × (2580 ≤ n → largest_quota < most_commands n)
 
--- the quota of the shuttle, and of each search by a guide: up to 256 nodes
+-- The quota that the shuttle, and each search by a guide, needs: a file can give it up to 256 nodes.
 abbrev pub ShuttlesHaveTheirQuota : Type 0
 ShuttlesHaveTheirQuota = (n : ℕ)
     → (n ≤ 256 → (n - 2) * (n - 1) + 2 * n ≤ largest_quota)

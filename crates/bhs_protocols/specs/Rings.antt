@@ -2,8 +2,8 @@
 use Rattle.std.specs.Prelude.{ℕ, ◌+◌, ◌-◌, ◌≡◌, ◌<◌, ◌≤◌, [], ◌∷◌}
 use Rattle.bhs_model.specs.Worlds.{World}
 
--- For each of the two sides, 0 and 1: the node at this number of steps from the home base on this side, and the port by
--- which an agent goes on there. It arrives by the other port.
+-- For each side, 0 and 1: the node at a number of steps from the home base, and the port by which an agent goes on. The
+-- agent arrives by the opposite port.
 pub record Ways : Type 0 where
   pub node : (side steps : ℕ) → ℕ
   pub ahead : (side steps : ℕ) → ℕ

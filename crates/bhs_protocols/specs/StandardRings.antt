@@ -24,7 +24,7 @@ node_before n node = if node == 0 then n - 1 else node - 1
 abbrev pub standard_row : (n node : ℕ) → List End
 standard_row n node = (next_node n node, 1) ∷ (node_before n node, 0) ∷ []
 
--- the rows of the network, as a file of it is read
+-- the rows of the network, in the form in which a file is read
 abbrev pub standard_ring : (n : ℕ) → networks.Network
 standard_ring n = map (standard_row n) (range_with_len 0 n)
 
@@ -68,9 +68,8 @@ ShuttleSolvesStandardRings = (n hole wakeups : ℕ) (setup : Setup) → IsSetUp 
 abbrev pub MovesAreSquares : Type 0
 MovesAreSquares = (distance : ℕ) → 0 < distance → moves_on distance ≡ distance * distance
 
--- On the triangle, whose node 2 is the black hole: agent 0 goes to node 1, comes back, writes that it is safe, goes
--- there again and accuses the link ahead, with 3 moves. Then so does the other, which is lost: it was on its way
--- before.
+-- Worked example: on the triangle with the black hole at node 2, agent 0 walks to node 1, returns, writes that it is
+-- safe, walks there again and accuses the link ahead: 3 moves. Agent 1 departed earlier and is lost.
 abbrev pub TheTriangleIsSolved : Type 0
 TheTriangleIsSolved =
     (verdict (shuttle_trial triangle 0 3) (under (shuttle_trial triangle 0 3)

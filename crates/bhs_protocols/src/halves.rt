@@ -1,4 +1,4 @@
-//! The search by halves as a program: what an agent holds, what it does, and what it holds after a reply.
+//! The search by halves as a program: an agent's memory, its step, and its memory after a reply.
 
 ghost use Rattle.std.specs.Prelude.{◌≡◌, ◌<◌, ◌≤◌, ◌+◌, ◌-◌, ◌/◌, Some, None, IfOk};
 ghost use Rattle.bhs_model.specs.declared.replies.Reply.TheVariants.{Here, Written, Changed, Gone, Noted};
@@ -10,7 +10,7 @@ use bhs_model::{Command, Reply};
 use bhs_schedules::Step;
 use std::alloc::{AllocError, Global};
 
-/// What an agent is about, with how many steps it is from the home base, and the port by which it goes on.
+/// The phase of an agent, with its number of steps from the home base and the port by which it goes on.
 #[derive(Clone, Copy, Debug, PartialEq, Eq)]
 pub enum Phase {
     /// It has not entered.
@@ -23,7 +23,7 @@ pub enum Phase {
     Tries,
     /// It has come out to a new node.
     Turns { port: u16 },
-    /// It comes back from there, and is on the link.
+    /// The agent returns from the new node and is on the link.
     Returns,
     /// It is at its last safe node, and writes that the next one is safe.
     Writes { port: u16 },
@@ -31,15 +31,15 @@ pub enum Phase {
     GoesHome { steps: u16, port: u16 },
     /// It has explored its part, goes home on its own side, and is on a link.
     NearsHome { steps: u16 },
-    /// It goes out on the other side, and is at a node before a safe link.
+    /// The agent follows the opposite side and is at a node before a safe link.
     Follows { steps: u16, port: u16 },
-    /// It goes out on the other side, and is on a link.
+    /// The agent follows the opposite side and is on a link.
     Passes { steps: u16 },
     /// It is at the last safe node of the other side, and divides what is left.
     Tells { steps: u16, port: u16 },
-    /// It goes home on the other side, and is at a node.
+    /// The agent walks home on the opposite side and is at a node.
     ComesHome { steps: u16, port: u16 },
-    /// It goes home on the other side, and is on a link.
+    /// The agent walks home on the opposite side and is on a link.
     NearsBack { steps: u16 },
     /// It has accused.
     Ends,

@@ -1,4 +1,4 @@
-//! Searches that are proved for networks of all sizes, and what no team can do.
+//! Search protocols, proved for networks of all sizes, and impossibility results.
 
 #![tactic(auto)]
 

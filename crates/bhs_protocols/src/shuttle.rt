@@ -1,4 +1,4 @@
-//! The shuttle as a program: what an agent holds, what it does, and what it holds after a reply.
+//! The shuttle as a program: an agent's memory, its step, and its memory after a reply.
 
 ghost use Rattle.std.specs.Prelude.{◌≡◌, ◌<◌, ◌≤◌, ◌+◌, ◌/◌, ◌%◌, ◌++◌, [], ◌∷◌, IfOk, OnOk, string_bytes};
 ghost use Rattle.bhs_schedules.specs.Strategies.{Heard};
@@ -9,14 +9,14 @@ use bhs_schedules::Step;
 use bhs_text::Text;
 use std::alloc::{AllocError, Global};
 
-/// What an agent is about, with how many steps it is from the home base, and the port by which it goes on.
+/// The phase of an agent, with its number of steps from the home base and the port by which it goes on.
 #[derive(Clone, Copy, Debug, PartialEq, Eq)]
 pub enum Phase {
     /// It has not entered.
     Begins,
-    /// It goes out, and is at a node.
+    /// The agent walks out and is at a node.
     GoesOut { steps: u16, port: u16 },
-    /// It goes out, and is on the link ahead.
+    /// The agent walks out and is on the link ahead.
     Leaves { steps: u16 },
     /// It comes back, and is at a node.
     ComesBack { steps: u16, port: u16 },
@@ -59,7 +59,7 @@ pub fn does(alloc: Global, nodes: u16, memory: Memory) -> Result<Step, AllocErro
     }
 }
 
-// Accuses the link ahead if that is all that is left, and else goes on.
+// Accuses the link ahead if only the node behind it is left, and otherwise goes on.
 fn onward(nodes: u16, memory: Memory, steps: u16, port: u16) -> Command
     ensures { specs.says result ≡ specs.does_in nodes memory (specs.out_at steps port) }
 {

@@ -1,5 +1,5 @@
--- What a team that finds the black hole does where nodes were not reached: if two were not, nobody has accused; not all
--- agents are on links to one; and if all others are, the last one accuses.
+-- What a team that finds the black hole must do with unreached nodes: while two nodes are unreached, nobody has
+-- accused; the agents are not all on links to one node; and if all others are on such links, the last agent accuses.
 use Rattle.std.proofs.Common.{ℕ, zero, suc, ◌<◌, ◌≤◌, ◌≡◌, Bool, true, false, Option, Some, None, List, [], ◌∷◌, ◌++◌}
 use Rattle.std.proofs.Common.{refl, sym, ap, ◌∙◌, subst, if◌then◌else◌, nat_lt, inl, inr, arith}
 use Rattle.std.specs.Prelude.{◌≢◌}
@@ -156,7 +156,7 @@ module _ (world : World) (held : Held) (wakeups : ℕ) (strategies : Strategies)
       (ap (λ (p : Configuration). p.accused said.agent) (sym (all_stay configuration node wait said.more))
       ∙ said.accused)
 
-  -- if all others are on links to a new node, this one accuses, and comes to no link to that node before
+  -- While all other agents are on links to a new node, this agent accuses, and is never on a link to that node before.
   pub record AccusesAlone (configuration : Configuration) (agent node : ℕ) : Type 0 where
     pub turns : ℕ
     pub link : ℕ × ℕ

@@ -1,5 +1,5 @@
--- Two configurations that an agent can't tell apart, as long as it stands in a zone: it does the same in both. So what
--- each of two agents does alone from links, they also do one after the other, if they stand at different nodes.
+-- Indistinguishability: an agent acts alike in two configurations while it stands in a zone where they agree. Hence two
+-- agents at different nodes can act one after the other exactly as each of them acts alone.
 use Rattle.std.proofs.Common.{ℕ, zero, suc, ◌+◌, ◌≤◌, ◌≡◌, Bool, true, false, Some, List, ◌∷◌, refl, sym, ap, ◌∙◌, ◌==◌}
 use Rattle.std.proofs.Common.{subst, if◌then◌else◌, nat_lt, inl, inr, arith}
 use Rattle.std.specs.Prelude.{◌≢◌}
@@ -77,7 +77,7 @@ module _ (world : World) (held : Held) (wakeups : ℕ) (strategies : Strategies)
       ]
   shows_alike limit place command old new inside same v there = same v there
 
-  -- what a turn makes of both
+  -- the results of a turn in both configurations
   record StayAlike (agent : ℕ) (new old_next new_next : Configuration) : Type 0 where
     alike : LooksAlike zone agent old_next new_next
     entered : HasEntered (old_next.position agent)
@@ -267,7 +267,7 @@ module _ (world : World) (held : Held) (wakeups : ℕ) (strategies : Strategies)
         (done_alike old new (deed_in empty old agent) (own_in empty old agent) alike
         (is_in zone (old.position agent) entered stands) entered stands_too)
 
-    -- what it does in the one it does in the other, and reaches the same nodes
+    -- The agent acts alike in both configurations, and reaches the same nodes.
     record GoAlike (old new : Configuration) (count : ℕ) : Type 0 where
       position : (after new agent count).position agent ≡ (after old agent count).position agent
       never : (node : ℕ) → new.reached node ≡ false → (after old agent count).reached node ≡ false

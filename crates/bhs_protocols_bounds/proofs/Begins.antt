@@ -37,7 +37,7 @@ module _ (world : World) (held : Held) (wakeups : ℕ) (strategies : Strategies)
   abbrev IsUnexplored : Configuration → Type 0
   IsUnexplored configuration = (node : ℕ) → node ≢ world.home → configuration.reached node ≡ false
 
-  -- an agent is on a link to the first one
+  -- An agent is on a link to the first new node.
   record FirstArrival : Type 0 where
     configuration : Configuration
     reachable : IsReachable world held wakeups strategies configuration

@@ -1,5 +1,4 @@
--- What a run of one agent costs: the number of where it is, or of where its link leads, changes by one at most for each
--- move.
+-- Moves of one agent's run: each move changes the number of its node, or of its link's target, by at most one.
 use Rattle.std.proofs.Common.{ℕ, zero, suc, ◌+◌, ◌-◌, ◌*◌, ◌<◌, ◌≤◌, ◌≡◌, ◌⊎◌, Bool, true, false, List, refl, sym, ap}
 use Rattle.std.proofs.Common.{◌∙◌, subst, if◌then◌else◌, inl, inr, nat_lt, Option, Some, arith}
 use Rattle.std.proofs.lemmas.Bool.{true≢false, cond-true, cond-false, ltb-true}
@@ -33,7 +32,7 @@ pub record IsPaid (old new before after : ℕ) : Type 0 where
   pub up : new + before ≤ old + after
   pub down : old + before ≤ new + after
 
--- an agent is at a node or on a link
+-- The agent stands at a node or travels on a link.
 abbrev pub IsInside : Position → Type 0
 IsInside Before = ⊥
 IsInside (At node came) = Unit {0}

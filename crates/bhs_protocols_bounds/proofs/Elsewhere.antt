@@ -1,5 +1,5 @@
--- What an agent does elsewhere changes nothing that an agent on a link can know: where this one is, what it has met,
--- and what the whiteboards of a zone show, if the other one stands at no node of the zone.
+-- Non-interference: an agent elsewhere changes nothing that an agent on a link can observe, neither its position nor
+-- its history, nor the zone's whiteboards, while the former stands at no node of the zone.
 use Rattle.std.proofs.Common.{ℕ, zero, suc, ◌≤◌, ◌≡◌, Bool, true, false, Option, Some, List, refl, sym, ap, ◌∙◌, ◌==◌}
 use Rattle.std.proofs.Common.{subst, if◌then◌else◌, nat_lt, inl, inr, arith}
 use Rattle.std.proofs.lemmas.Bool.{true≢false, cond-true, cond-false}
@@ -22,7 +22,7 @@ use Rattle.bhs_protocols.proofs.LastWordLemmas.{own_in}
 use Rattle.bhs_protocols_bounds.proofs.Holeless.{free}
 use Rattle.bhs_protocols_bounds.proofs.Places.{runs}
 
--- an agent is where it was and has met the same, and the whiteboards of a zone show the same
+-- The agent's position and history and the whiteboards of the zone are unchanged.
 pub record LooksAlike (zone : ℕ → Bool) (agent : ℕ) (old new : Configuration) : Type 0 where
   pub position : new.position agent ≡ old.position agent
   pub history : new.history agent ≡ old.history agent
@@ -54,7 +54,7 @@ looks_on zone agent one two three first second = record {
 abbrev pub ShowAlike : (zone : ℕ → Bool) → (old new : ℕ → List ℕ) → Type 0
 ShowAlike zone old new = (node : ℕ) → zone node ≡ true → new node ≡ old node
 
--- an agent has entered, and stands at a node of the zone if at any
+-- The agent has entered; if it stands at a node, that node belongs to the zone.
 abbrev pub IsIn : (zone : ℕ → Bool) → Position → Type 0
 IsIn zone Before = ⊥
 IsIn zone (At node came) = zone node ≡ true

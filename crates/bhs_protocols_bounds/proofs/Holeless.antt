@@ -1,5 +1,5 @@
--- The match without a black hole, for calculation only. Where a node was not reached in it, the same happens in the
--- match in which this node is the black hole; and all that happens there happens in the match without one.
+-- The match without a black hole, an auxiliary construction. While a node is unreached in that match, the match with
+-- the black hole at this node behaves the same; conversely every run with a black hole is a run without one.
 use Rattle.std.proofs.Common.{ℕ, ◌≡◌, ◌⊎◌, true, false, List, [], ◌∷◌, ◌++◌, refl, sym, ap, ◌∙◌, inl, inr}
 use Rattle.std.proofs.lemmas.Bool.{true≢false, cond-true, cond-false}
 use Rattle.std.proofs.lemmas.Bool.Decides.{eqb_tells}
@@ -43,8 +43,8 @@ module _ (world : World) (held : Held) (wakeups : ℕ) (strategies : Strategies)
   abbrev pub hidden : (hole : ℕ) → Trial
   hidden hole = searched world held wakeups strategies hole
 
-  -- what a deed makes is the same in both, and reaches the node in neither; or it reaches the node in the one and makes
-  -- nothing in the other
+  -- An action has the same result in both matches and does not reach the node; or it reaches the node in one match and
+  -- changes nothing in the other.
   pub record IsAlike (hole : ℕ) (configuration : Configuration) (agent : ℕ) (it : Action) : Type 0 where
     pub either :
         ((done_in (hidden hole) configuration agent it ≡ done_in free configuration agent it)

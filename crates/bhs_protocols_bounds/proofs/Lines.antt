@@ -1,5 +1,5 @@
--- Rings seen from a front: nodes in a line from one end of what is explored to the other, and what a run of one agent
--- that goes on does there.
+-- Rings as lines: the nodes are numbered from one border of the explored part to the other, and one agent's run is
+-- followed along the line.
 use Rattle.std.proofs.Common.{ℕ, ◌+◌, ◌-◌, ◌<◌, ◌≤◌, ◌≡◌, ◌⊎◌, Option}
 use Rattle.bhs_model.specs.Worlds.{World, Network}
 use Rattle.bhs_model.specs.Draws.{Held}
@@ -9,7 +9,7 @@ use Rattle.bhs_protocols.specs.Configurations.{Configuration}
 use Rattle.bhs_protocols_bounds.proofs.Holeless.{IsReachable}
 use Rattle.bhs_protocols_bounds.proofs.Places.{IsSafe, IsOnLinkTo, runs}
 
--- the number that a node has, and the node of a number
+-- the number of a node, and the node with a number
 pub record Line : Type 0 where
   pub number : (node : ℕ) → ℕ
   pub at : (number : ℕ) → ℕ
@@ -41,7 +41,7 @@ IsShort world line last (Bound node port) =
     (line.number node < last) × (line.number (world.net.far node port).0 ≤ last)
 IsShort world line last After = ⊥
 
--- an agent is on the link from the number before this one to this one
+-- The agent is on the link between the previous number and this number.
 pub record IsBeside (world : World) (configuration : Configuration) (line : Line) (agent number : ℕ) : Type 0 where
   pub start : ℕ
   pub port : ℕ
@@ -74,7 +74,7 @@ module _ (world : World) (held : Held) (wakeups : ℕ) (strategies : Strategies)
     pub short : (i : ℕ) → i ≤ count
         → IsShort world line last ((runs world held wakeups strategies configuration agent i).position agent)
 
-  -- on its way it stands at a node of a number below this one
+  -- The agent's run visits a node with a number below `bound`.
   pub record GoesBelow (configuration : Configuration) (line : Line) (agent count bound : ℕ) : Type 0 where
     pub turn : ℕ
     pub within : turn ≤ count

@@ -1,5 +1,5 @@
--- If each of two agents goes on to the same node from its side, and neither goes far back before, both are on links to
--- that node in the end, and it is new: that cannot be. For what they do alone they do one after the other, too.
+-- If each of two agents advanced to the same new node from its side without going far back, then both could be on links
+-- to that node, a contradiction: what two agents do alone they can also do one after the other.
 use Rattle.std.proofs.Common.{ℕ, zero, suc, ◌+◌, ◌-◌, ◌<◌, ◌≤◌, ◌≡◌, ◌⊎◌, Bool, true, false, ◌||◌, refl, sym, ap, ◌∙◌}
 use Rattle.std.proofs.Common.{subst, inl, inr, arith, nat_lt, Option}
 use Rattle.std.specs.Prelude.{◌≢◌}
@@ -24,7 +24,7 @@ module _ (world : World) (held : Held) (wakeups : ℕ) (strategies : Strategies)
   abbrev after : Configuration → (agent count : ℕ) → Configuration
   after configuration agent count = runs world held wakeups strategies configuration agent count
 
-  -- an agent goes below a number or it does not
+  -- Case analysis: an agent's run goes below a number, or stays above.
   pub StaysAbove : Configuration → Line → (agent count bound : ℕ) → Type 0
   StaysAbove configuration line agent count bound = (i : ℕ) → i ≤ count → (node : ℕ) (came : Option ℕ)
       → (after configuration agent i).position agent ≡ At node came → bound ≤ line.number node
@@ -230,7 +230,7 @@ module _ (world : World) (held : Held) (wakeups : ℕ) (strategies : Strategies)
           | inr h ↦ let total : turn + last_too + 1 ≡ n + front = h.1 in omega (arith, total, sum)
         ]
 
-    -- so one of them goes far
+    -- Hence one of the two agents goes far back.
     pub one_goes_far : OneGoesFar world held wakeups strategies n net
     unfolding StaysAbove
     one_goes_far configuration line front agent last last_too count count_too bound is it further inside least sum first

@@ -1,4 +1,4 @@
--- A line seen from the other border: what is explored is turned round, and so is what is not.
+-- Mirror symmetry: a line numbered from the opposite border, with the explored and the new nodes reversed.
 use Rattle.std.proofs.Common.{ℕ, ◌+◌, ◌-◌, ◌<◌, ◌≤◌, ◌≡◌, ◌⊎◌, sym, ap, ◌∙◌, subst, inl, inr, if◌then◌else◌, nat_lt}
 use Rattle.std.proofs.Common.{arith}
 use Rattle.std.proofs.lemmas.Bool.{cond-true, cond-false, ltb-true, ltb-false}

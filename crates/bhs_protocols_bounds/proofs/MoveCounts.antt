@@ -75,7 +75,7 @@ turns_more trial (agent ∷ schedule) configuration =
     let rest : next.moves ≤ (turns_in trial next schedule).moves = turns_more trial schedule next in
     omega (arith, first, rest)
 
--- ---- who is on a link, or has come by one, has moved
+-- ---- an agent on a link, or that arrived over one, has made a move
 
 abbrev has_moved : Position → ℕ
 has_moved (At node (Some label)) = 1

@@ -249,7 +249,7 @@ module _ (world : World) (held : Held) (wakeups : ℕ) (strategies : Strategies)
       abbrev GoesTo : Configuration → (count : ℕ) → Type 0
       GoesTo configuration count = Goes world held wakeups strategies n configuration line agent last count
 
-      -- the agent is there, or its link, if it is on one, leads elsewhere
+      -- Case analysis: the agent's link leads to the front, or elsewhere.
       decide : (configuration : Configuration) (front : ℕ) → IsUnder configuration front → GoesTo configuration 0
           ⊎ ((start port : ℕ) → configuration.position agent ≡ Bound start port
           → line.number (world.net.far start port).0 ≢ last)

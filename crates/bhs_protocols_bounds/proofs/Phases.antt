@@ -98,7 +98,7 @@ module _ (world : World) (held : Held) (wakeups : ℕ) (strategies : Strategies)
       (omega (arith, low, less), omega (arith, high, less))
   short_more line one last less After it = it
 
-  -- who goes on to one number, and then to another
+  -- the composition of two runs, from one number to another and onward
   pub composed : (configuration : Configuration) (line : Line) (agent one last count count_too : ℕ) → one ≤ last
       → GoesTo configuration line agent one count → GoesTo (after configuration agent count) line agent last count_too
       → GoesTo configuration line agent last (count + count_too)
@@ -237,8 +237,8 @@ module _ (world : World) (held : Held) (wakeups : ℕ) (strategies : Strategies)
           ];
         }
 
-    -- Each goes on to the middle of what is new. One of them has come back over half of what is explored before, and is
-    -- the one that is let go on.
+    -- Each agent advances to the middle of the new nodes. By the lemma above one of them first walks back over half of
+    -- the explored nodes; the adversary lets that agent continue.
     pub halves : PhasesCost world held wakeups strategies n
     halves half moves two stage =
         let spread = stage.spread in

@@ -1,4 +1,4 @@
--- Where agents are: at nodes of the network that are safe, or on links from those.
+-- Invariant of positions: each agent stands at a safe node of the network, or travels on a link from a safe node.
 use Rattle.std.proofs.Common.{ℕ, ◌<◌, ◌≡◌, ◌⊎◌, Bool, true, false, List, [], ◌∷◌, refl, sym, ap, ◌∙◌, subst, inl, inr}
 use Rattle.std.proofs.Common.{nat_lt, Some}
 use Rattle.std.proofs.lemmas.Bool.{cond-true, cond-false, ltb-true}
@@ -73,7 +73,7 @@ module _ (world : World) (held : Held) (wakeups : ℕ) (strategies : Strategies)
   abbrev empty : Trial
   empty = free world held wakeups strategies
 
-  -- who stays where it was, if what was reached is still
+  -- An agent that stays where it was keeps the invariant while the reached nodes stay reached.
   moved : (reached : ℕ → Bool) (position : ℕ → Position) (agent : ℕ) (now : Position)
       → ((k : ℕ) → IsPlacedAt world reached (position k)) → IsPlacedAt world reached now → (k : ℕ)
       → IsPlacedAt world reached (changed position agent now k)

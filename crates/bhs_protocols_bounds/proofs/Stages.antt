@@ -1,4 +1,5 @@
--- The stages of the adversary. In each of them both borders are held. A stage counts the new nodes and the moves made.
+-- The stages of the adversary. At the start of each stage agents are held at both borders of the explored part. A stage
+-- accounts for the new nodes and for the moves.
 use Rattle.std.proofs.Common.{ℕ, zero, suc, ◌+◌, ◌-◌, ◌*◌, ◌<◌, ◌≤◌, ◌≡◌, false, sym, ◌∙◌, subst, inl, inr, arith}
 use Rattle.bhs_model.specs.Worlds.{World}
 use Rattle.bhs_model.specs.Draws.{Held}
@@ -52,7 +53,7 @@ module _ (world : World) (held : Held) (wakeups : ℕ) (strategies : Strategies)
       doubled_positive zero = omega arith
       doubled_positive (suc k) = let it = doubled_positive k in omega (arith, it)
 
-  -- a node is new that is not before the front
+  -- A node not before the front is new.
   pub new_at : (n : ℕ) (configuration : Configuration) (line : Line) (front k : ℕ) → IsLine world.net n line
       → world.home < n → IsFront world n configuration line front → k < n → front ≤ k
       → IsNew world configuration (line.at k)

@@ -1,6 +1,6 @@
--- A phase with two places among the new nodes, the nearer one of which is as far from one border as the other one is
--- from the other border. Each agent goes on to the nearer place and then to the other one. How far they come back
--- before they reach the first place decides who is let go on, and how far.
+-- A phase with two target places among the new nodes, at equal distances from opposite borders. Each agent advances to
+-- its nearer place, then to the farther one. The adversary chooses the agent to release, and how far, by how far each
+-- agent walks back before its first target.
 use Rattle.std.proofs.Common.{ℕ, zero, suc, ◌+◌, ◌-◌, ◌*◌, ◌<◌, ◌≤◌, ◌≡◌, ◌⊎◌, refl, sym, ap, subst, inl}
 use Rattle.std.proofs.Common.{inr}
 use Rattle.std.proofs.Common.{arith}

@@ -24,7 +24,7 @@ use Rattle.bhs_protocols.specs.Halves.{halves}
 abbrev pub least_moves : (n : ℕ) → ℕ
 least_moves n = rounds (n - 1) * (n - 2) + 1
 
--- 1, 2, 3, 5, 8, ..: each number is the sum of the two before it
+-- The Fibonacci numbers 1, 2, 3, 5, 8, ..: each number is the sum of its two predecessors.
 abbrev pub fibonacci : (k : ℕ) → ℕ
 fibonacci zero = 1
 fibonacci (suc zero) = 2

@@ -59,7 +59,7 @@ module _ (game : Game) where
       times_more : (factor k : ℕ) → factor * (k + 1) ≡ factor * k + factor
       times_more factor k = omega arith
 
-  -- a change of a port pays what others have to do again
+  -- A changed state of a port pays for the repeated trips of the other agents.
   shared_more : (chart new_chart : Chart) → changes new_chart ≡ changes chart + 1
       → shared game new_chart ≡ shared game chart + terms.agents * (2 * refill game)
   shared_more chart new_chart is =
@@ -176,7 +176,7 @@ module _ (game : Game) where
 
     module _ (row port : ℕ) (found : Option ChartRow) (count : ℕ) (text : List ℕ)
         (is : mine ≡ Reports row port found count text) where
-      -- where it is, and what it has claimed and found
+      -- The agent's position, and the port that it has claimed with the node that it has found.
       pub record IsReporting : Type 0 where
         pub holds : Holds game inv.chart inv.place (row, port)
         pub finds : Found game shown (far game (inv.place row) port).0 found

@@ -25,9 +25,9 @@ module _ (game : Game) {chart : Chart} {place : ℕ → ℕ} {shown : ℕ → Li
     (drawn : IsDrawn game chart place shown reached) where
   open game use {net, terms, tells, home, hole, can}
 
-  -- ---- the chart with what an agent has found behind a port, before it has written that it has come back from there
+  -- ---- the chart together with what an agent has found behind a port and not yet reported
 
-  -- the chart has a row for the node behind the port; it may be a new one, and then the last
+  -- The chart has a row for the node behind the port; a new row is the last one.
   pub record HasGrown (row port : ℕ) (found : Option ChartRow) (holder : ℕ → Option (ℕ × ℕ)) : Type 0 where
     pub chart_then : Chart
     pub place_then : ℕ → ℕ
@@ -41,7 +41,7 @@ module _ (game : Game) {chart : Chart} {place : ℕ → ℕ} {shown : ℕ → Li
     pub same_changes : changes chart_then ≡ changes chart
     pub is : reported chart row port found ≡ with_state chart_then row port done
 
-  -- the node that has a name
+  -- the node with this name
   record IsNamed (node father port : ℕ) : Type 0 where
     pub within : father < length chart
     pub has : port < degree game (place father)
@@ -65,7 +65,7 @@ module _ (game : Game) {chart : Chart} {place : ℕ → ℕ} {shown : ℕ → Li
         }))
   ]
 
-  -- if no row of a chart of before has the name, the node is none of that chart's places
+  -- If no row of an earlier chart has the name, then the node is none of that chart's places.
   no_place : (old : Chart) → IsPast game old chart → (node father port count : ℕ) → node ≢ home
       → shown node ≡ name_of father port → has_row old (new_row father port count) ≡ false
       → (i : ℕ) → i < length old → place i ≢ node
@@ -113,7 +113,7 @@ module _ (game : Game) {chart : Chart} {place : ℕ → ℕ} {shown : ℕ → Li
     last_state p = ap (λ (row : ChartRow). slice_index_or row.states p free) last_row
         ∙ new_states father port (degree game node) p
 
-    -- what holds of each row of before, and of the new one
+    -- A property of each earlier row and of the new row holds for each row.
     each_row : (P : ℕ → Type 0) → ((i : ℕ) → i < length chart → P i) → P (length chart) → (i : ℕ) → i < length more
         → P i
     each_row P early last i lt = each_below P (length chart) early last i (omega (arith, longer))
@@ -284,7 +284,7 @@ module _ (game : Game) {chart : Chart} {place : ℕ → ℕ} {shown : ℕ → Li
     is = is;
   }
 
-  -- a row that has the name of a node has it as its place
+  -- A row with a node's name has that node as its place.
   row_there : (old : Chart) → IsPast game old chart → (node father port count : ℕ) → IsNamed node father port
       → has_row old (new_row father port count) ≡ true → LeadsToRow game chart place node
   row_there old past node father port count named there =
@@ -328,7 +328,7 @@ module _ (game : Game) {chart : Chart} {place : ℕ → ℕ} {shown : ℕ → Li
 
   -- ---- texts fit on whiteboards
 
-  -- the ports of all other nodes than the hole, and the hole's
+  -- The ports of the black hole and those of all other nodes are the ports of the network.
   beside : ports game + degree game hole ≡ total (degree game) (size game)
   beside = beside_is net can.network.labelled hole can.within
 
@@ -351,7 +351,7 @@ module _ (game : Game) {chart : Chart} {place : ℕ → ℕ} {shown : ℕ → Li
       beside,
     )
 
-    -- also with a row for a node that has none
+    -- The text still fits after adding a row for a new node.
     more_fits : (node father port : ℕ) → node < size game → node ≢ hole → ((i : ℕ) → i < length old → place i ≢ node)
         → length (text_of (old ++ new_row father port (degree game node) ∷ [])) ≤ 6 * (size game - 1) + ports game
     more_fits node father port within safe new =

@@ -136,10 +136,10 @@ module _ (game : Game) where
     }
     placed_kept woken woken_now Ends position holds wakes is = (is.0, all_kept is.1)
 
-  -- ---- what others owe after a turn
+  -- ---- the debts of other agents after a turn
 
-  -- The whiteboard of the home base shows the same text, and an agent that stands there has woken as often. Or the turn
-  -- pays for what others have to do again.
+  -- The home base's whiteboard is unchanged, and an agent that stands there has the same number of wake-ups; or the
+  -- turn pays for the repeated trips of the other agents.
   abbrev pub IsQuietFor : (rise woken woken_now : ℕ) → (text text_now : List ℕ) → Position → Type 0
   IsQuietFor rise woken woken_now text text_now position =
       ((text_now ≡ text) × (IsAt game home position → woken_now ≡ woken)) ⊎ (rise ≡ refill game)
@@ -223,8 +223,8 @@ module _ (game : Game) where
       → woken_now ≡ woken
   woken_same old new woken woken_now is same = is ∙ cond-true _ _ _ ((bytes_eq-Decides old new).1 (sym same))
 
-  -- All that a turn of an agent has to keep. It may pay for moves, for commands, and for what other agents have to do
-  -- again.
+  -- The obligations of an agent's turn. The turn may pay for moves, for commands, and for repeated trips of other
+  -- agents.
   pub record Keeps {old : Configuration} {left : ℕ} (inv : Inv game old left) (agent : ℕ) (showing : ℕ → List ℕ)
       (seen : ℕ → Bool) (woken : ℕ) (after : Charting) (there : Position) (accusation : Option (ℕ × ℕ))
       (cost moved : ℕ) : Type 0 where

@@ -70,7 +70,7 @@ module _ (chart : Chart) (row port state : ℕ) (within : row < length chart) (h
     length-set (row_at chart row).states port state,
   )
 
-  -- a sum over all states changes by the one
+  -- The sum over all ports changes by the change of one state.
   pub state_sum : (f : ℕ → ℕ) → sum_by (λ it. sum_by f it.states) (with_state chart row port state)
       + f (state_at chart row port) ≡ sum_by (λ it. sum_by f it.states) chart + f state
   state_sum f = omega (
@@ -108,7 +108,7 @@ pub new_sum : (f : ℕ → ℕ) (father port ports : ℕ) → f free ≡ 0 → s
 new_sum f father port ports none =
     sum_by-replicate f ports free ∙ ap (λ (n : ℕ). ports * n) none ∙ mul-zero ports
 
--- where no row, but for the home base's, has this name, or where one has
+-- Case analysis: no row except the home base's has this name, or some row has.
 pub has_none : (chart : Chart) (it : ChartRow) → has_row chart it ≡ false → (i : ℕ) → 0 < i → i < length chart
     → ((row_at chart i).father ≡ it.father) → ((row_at chart i).port ≡ it.port) → ⊥
 has_none [] it none i later within father port = absurd (omega arith)
@@ -179,7 +179,7 @@ pub record IsEnd (chart : Chart) (test : ℕ → Bool) (row port : ℕ) : Type 0
   pub has : port < ports_at chart row
   pub passes : test (state_at chart row port) ≡ true
 
--- it is in the first row, or in a later one
+-- Case analysis: the port belongs to the first row, or to a later one.
 here_or_later : (row : ℕ) (here : Option ℕ) (later : Option (ℕ × ℕ)) (end : ℕ × ℕ) → or_later row here later ≡ Some end
     → ((end.0 ≡ row) × (here ≡ Some end.1)) ⊎ (later ≡ Some end)
 here_or_later row None later end found = inr found

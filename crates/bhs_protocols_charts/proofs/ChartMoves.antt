@@ -54,7 +54,7 @@ module _ (game : Game) {configuration : Configuration} {left : ℕ} (inv : Inv g
   abbrev Onward : Type 0
   Onward = GoesOn (Inv game) left new
 
-  -- the port that it has claimed
+  -- the port that the agent has claimed
   pub claim_of : (it : Charting) (end : ℕ × ℕ) → M ≡ it → held it ≡ Some end → Holds game inv.chart inv.place end
   claim_of it end is some = inv.claims.holds agent within end (ap held is ∙ some)
 
@@ -151,7 +151,7 @@ module _ (game : Game) {configuration : Configuration} {left : ℕ} (inv : Inv g
       true≢false (sym moves ∙ bound_moves (trial_of game) configuration agent within node port at refl
       ∙ ap not (doomed_is game node port ∙ eq-eqb hole (far game node port).0 (sym same)))
 
-  -- who has a way on can move
+  -- An agent with a route ahead can move.
   pub way_moves : (it : Charting) (node next : ℕ) (rest : List ℕ) → M ≡ it → does_in it ≡ Says (Depart next)
       → IsOn game node (next ∷ rest) here → (far game node next).0 ≢ hole
       → can_move_in (trial_of game) configuration agent ≡ true

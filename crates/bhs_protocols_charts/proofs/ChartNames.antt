@@ -40,7 +40,7 @@ module _ (game : Game) where
           omega (arith, some, is, same)
     ]
 
-    -- what is read behind a port while one is claimed: nothing, or what is found there
+    -- What an agent with a claimed port reads behind it: nothing yet, or the node that it finds.
     abbrev pub Reading : (node : ℕ) → Type 0
     Reading node = ((node ≢ home) × (shown node ≡ []))
         ⊎ ((0 < length (shown node)) × Found game shown node (row_named (degree game node) (shown node)))

@@ -34,7 +34,7 @@ way_out net hole node (next ∷ []) place port way = (way.0, way.1, (way.2, refl
 way_out net hole node (next ∷ more ∷ ports) place port way =
     (way.0, way.1, way_out net hole (net.far node next).0 (more ∷ ports) place port way.2)
 
--- each row but the first is reached from an earlier one, by a port that does not lead to the hole
+-- Each row except the first is reached from an earlier row, by a port that does not lead to the black hole.
 pub record HasPlaces (net : Network) (home hole : ℕ) (chart : Chart) (place : ℕ → ℕ) : Type 0 where
   pub start : place 0 ≡ home
   pub early : (i : ℕ) → 0 < i → i < length chart → (row_at chart i).father < i

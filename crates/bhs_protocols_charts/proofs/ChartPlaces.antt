@@ -7,7 +7,7 @@ use Rattle.bhs_model.specs.Runs.{changed}
 use Rattle.bhs_model.proofs.StepLemmas.{changed_same, changed_other}
 use Rattle.bhs_protocols_charts.proofs.HoleEnds.{ArePlaces}
 
--- what holds of each number below this one, and of this one
+-- a property of all numbers below a bound, and of the bound
 pub each_below : (P : ℕ → Type 0) (rows : ℕ) → ((i : ℕ) → i < rows → P i) → P rows → (i : ℕ) → i < suc rows → P i
 each_below P rows early last i lt = elim (below_or_at i rows (omega arith)) [
   | inl h ↦ early i h
@@ -23,7 +23,7 @@ first_places nodes hole place rows few are fewer = record {
   apart = λ i j lt low. are.apart i j (omega arith) (omega arith);
 }
 
--- the places, and after them this node
+-- the places, extended by one node
 module _ (place : ℕ → ℕ) (rows node : ℕ) where
   abbrev pub with_node : ℕ → ℕ
   with_node = changed place rows node

@@ -47,7 +47,7 @@ module _ (game : Game) {configuration : Configuration} {left : ℕ} (inv : Inv g
 
   -- ---- at rest
 
-  -- it is on the link to the black hole
+  -- The agent is on a link to the black hole.
   pub record IsLost : Type 0 where
     pub row : ℕ
     pub port : ℕ
@@ -65,7 +65,7 @@ module _ (game : Game) {configuration : Configuration} {left : ℕ} (inv : Inv g
   abbrev pub Rests : Type 0
   Rests = (mine ≡ Ends) ⊎ (IsLost ⊎ IsStuck)
 
-  -- who can move is not at rest
+  -- A configuration in which an agent can move is not at rest.
   restless : can_move_in (trial_of game) configuration agent ≡ true
       → can_move_in (trial_of game) configuration agent ≡ false → Rests
   restless moves still = absurd (true≢false (sym moves ∙ still))

@@ -36,7 +36,7 @@ module _ (game : Game) {configuration : Configuration} {left : ℕ} (inv : Inv g
 
   -- ---- on the way back
 
-  -- what it has found behind the port that it has claimed
+  -- what the agent has found behind its claimed port
   abbrev Finds : (row port : ℕ) → (found : Option ChartRow) → Type 0
   Finds row port found =
       Found game shown (behind_port game inv.place row port) found × (behind_port game inv.place row port ≢ hole)

@@ -111,8 +111,9 @@ module _ (game : Game) where
     pub within : row < length chart
     pub is : node ≡ place row
 
-  -- The chart is right: each row is of the node at its place, and has the name there. Who has written a name has come
-  -- by the port that it says, and the ports from which somebody has come back lead to nodes of rows.
+  -- The chart is correct: each row describes the node at its place, whose whiteboard has the row's name. The agent that
+  -- wrote a name arrived by the port that the name gives, and each port from which an agent has returned leads to the
+  -- node of a row.
   pub record IsDrawn (chart : Chart) (place : ℕ → ℕ) (shown : ℕ → List ℕ) (reached : ℕ → Bool) : Type 0 where
     pub some : 0 < length chart
     pub places : HasPlaces graph home hole chart place
@@ -130,7 +131,7 @@ module _ (game : Game) where
     pub drawn : IsDrawn chart place shown reached
     pub text : IsShown chart (shown home)
 
-  -- a chart that the whiteboard has shown before: its rows are the first ones, but for the states of ports
+  -- An earlier chart of the whiteboard: its rows are the first rows of the present one, up to the states of ports.
   pub record IsPast (old chart : Chart) : Type 0 where
     pub shorter : length old ≤ length chart
     pub father : (i : ℕ) → i < length old → (row_at old i).father ≡ (row_at chart i).father
@@ -149,7 +150,7 @@ module _ (game : Game) where
     pub within : agent < terms.agents
     pub is : holder agent ≡ Some end
 
-  -- the ports that are claimed are those that agents hold, each by one
+  -- Exactly the claimed ports are held by agents, each by one.
   pub record AreHeld (chart : Chart) (place : ℕ → ℕ) (holder : ℕ → Option (ℕ × ℕ)) : Type 0 where
     pub holds : (k : ℕ) → k < terms.agents → (end : ℕ × ℕ) → holder k ≡ Some end → Holds chart place end
     pub one : (k j : ℕ) → k < terms.agents → j < terms.agents → (end : ℕ × ℕ) → holder k ≡ Some end
@@ -163,7 +164,7 @@ module _ (game : Game) where
     pub came : Option ℕ
     pub at : position ≡ At node came
 
-  -- on the link by the first of these ports
+  -- The agent is on the link of the first of these ports.
   abbrev pub IsBound : (node : ℕ) → List ℕ → Position → Type 0
   IsBound node [] position = ⊥
   IsBound node (next ∷ rest) position = position ≡ Bound node next
@@ -171,7 +172,7 @@ module _ (game : Game) where
   abbrev pub IsOn : (node : ℕ) → List ℕ → Position → Type 0
   IsOn node way position = IsAt node position ⊎ IsBound node way position
 
-  -- behind the port that it has claimed it has found this: a node with a name, or the home base
+  -- Behind its claimed port the agent has found this node: one with a name, or the home base.
   pub record IsFound (shown : ℕ → List ℕ) (node : ℕ) (found : Option ChartRow) : Type 0 where
     pub father : ℕ
     pub port : ℕ
@@ -227,7 +228,7 @@ module _ (game : Game) where
   abbrev pub behind_port : (place : ℕ → ℕ) → (row port : ℕ) → ℕ
   behind_port place row port = (far (place row) port).0
 
-  -- where an agent is, by what it is about
+  -- The agent's position, according to its phase.
   abbrev pub IsPlaced : Chart → (place : ℕ → ℕ) → (shown : ℕ → List ℕ) → (reached : ℕ → Bool) → (woken : ℕ) → Charting
       → Position → Type 0
   IsPlaced chart place shown reached woken Begins position = position ≡ Before

@@ -168,7 +168,7 @@ module _ (game : Game) {chart : Chart} {place : ℕ → ℕ} {shown : ℕ → Li
     held_so end apart =
         holds_kept chart_so place (omega (arith, as_long)) (λ i lt. refl) end (state_else end.0 end.1 apart)
 
-    -- a sum over all states changes by this one
+    -- The sum over all ports changes by this state.
     state_sums : (f : ℕ → ℕ) → sum_by (λ it. sum_by f it.states) chart_so + f (state_at chart row port)
         ≡ sum_by (λ it. sum_by f it.states) chart + f state
     state_sums = state_sum chart row port state within has_port

@@ -75,7 +75,7 @@ same_names father port father_too port_too same = (
   sym (value_again port) ∙ ap port_in same ∙ value_again port_too,
 )
 
--- a text that is longer than a name is none
+-- A text that is longer than a name is no name.
 pub no_name : (ports : ℕ) (text : List ℕ) → 4 < length text → row_named ports text ≡ None
 no_name ports [] long = refl
 no_name ports (a ∷ []) long = refl

@@ -33,7 +33,8 @@ use Rattle.bhs_protocols_charts.proofs.ChartPast.{past_itself}
 module _ (game : Game) where
   open game use {net, terms, tells, home, hole, can}
 
-  -- who stands at the home base before and after has woken as often as before, if the text there is the same
+  -- An agent that stands at the home base before and after a turn has the same number of wake-ups if the text there is
+  -- unchanged.
   abbrev pub Rewakes : (old new : Configuration) → (k : ℕ) → Type 0
   Rewakes old new k = IsAt game home (old.position k) → IsAt game home (new.position k)
       → new.woken k ≡ (if bytes_eq (old.shown home) (new.shown home) then old.woken k else 0)
@@ -57,7 +58,7 @@ module _ (game : Game) where
         (record { came = at.came; at = becomes.other_place k apart ∙ at.at });
   }
 
-  -- how often an agent has woken after an event, by where it is in the old and in the new configuration
+  -- The number of wake-ups of an agent after an event, by its old and its new position.
   rewoken : (world : World) → world.home ≡ home → (old new : Position) (shown showing : ℕ → List ℕ) (woken : ℕ)
       → IsAt game home old → IsAt game home new
       → (if faces_alike world old shown new showing then woken else 0)
@@ -70,7 +71,7 @@ module _ (game : Game) where
     abbrev new : Configuration
     new = turn_in (trial_of game) configuration agent
 
-    -- after a command that is heard
+    -- the number of wake-ups after a command that is heard
     pub told_rewakes : (place : Position) (command : Command) → configuration.position agent ≡ place
         → action_at (trial_of game).held (trial_of game).wakeups place (configuration.woken agent) (Says command) agent
         ≡ Makes (Tell agent command)
@@ -159,9 +160,9 @@ module _ (game : Game) where
         ap (λ (history : History). (held_after (charters (size game) tells) agent history).duty) news
         ∙ ap (λ (m : Charting). after_in (size game) tells m item) is
 
-    -- ---- a turn after which the chart is as it was
+    -- ---- turns that leave the chart unchanged
 
-    -- all that such a turn has to keep, by what the agent was about and where it was
+    -- The obligations of such a turn, by the agent's phase and position.
     pub record Quiet (it : Charting) (here : Position) (showing : ℕ → List ℕ) (seen : ℕ → Bool) (woken : ℕ)
         (after : Charting) (there : Position) (accusation : Option (ℕ × ℕ)) (cost moved : ℕ) : Type 0 where
       pub charted : IsCharted game inv.chart inv.place showing seen

@@ -50,8 +50,8 @@ module _ (game : Game) where
   abbrev world : World
   world = (trial_of game).world
 
-  -- all agents are at rest: none is at a node, each has accused nobody or the black hole, and one has; and all other
-  -- nodes were reached
+  -- All agents are at rest: no agent is at a node; each has accused nobody or the black hole, and some agent has
+  -- accused; all other nodes are reached.
   pub record IsDone (configuration : Configuration) : Type 0 where
     pub accused : (k : ℕ) → k < terms.agents
         → (configuration.accused k ≡ None) ⊎ HasAccused game (configuration.accused k)

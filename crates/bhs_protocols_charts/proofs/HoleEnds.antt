@@ -24,7 +24,7 @@ total_times : (f : ℕ → ℕ) (factor n : ℕ) → total (λ k. f k * factor) 
 total_times f factor zero = omega arith
 total_times f factor (suc n) = omega (arith, total_times f factor n)
 
--- a value that is counted at the one number that passes, or at none
+-- The sum counts a value once if exactly one number passes the test, else not at all.
 counted_once : (test : ℕ → Bool) (n value : ℕ)
     → ((i j : ℕ) → i < n → j < n → test i ≡ true → test j ≡ true → i ≡ j)
     → total (λ k. one_if (test k) * value) n ≤ value
@@ -57,7 +57,7 @@ differing f place rows nodes within apart = omega (
     at_node node low = counted_once (λ i. place i == node) rows (f node) (λ i j below under one other.
         apart i j below under (eqb-true (place i) node one ∙ sym (eqb-true (place j) node other)))
 
--- If each node is one of the places, these have together no less than all nodes.
+-- If every node is among the places, then the sum over the places is at least the sum over all nodes.
 covering : (f place : ℕ → ℕ) (rows nodes : ℕ)
     → ((node : ℕ) → node < nodes → (i : ℕ) × (i < rows) × (place i ≡ node))
     → total f nodes ≤ total (λ i. f (place i)) rows
@@ -81,7 +81,7 @@ covering f place rows nodes all = omega (
     at_place i low = counted_once (λ node. place i == node) nodes (f (place i)) (λ a b below under one other.
         sym (eqb-true (place i) a one) ∙ eqb-true (place i) b other)
 
--- the hole, and then the places
+-- the sequence of the black hole followed by the places
 abbrev with_hole : ℕ → (ℕ → ℕ) → ℕ → ℕ
 with_hole hole place zero = hole
 with_hole hole place (suc i) = place i
@@ -143,7 +143,7 @@ module _ (nodes hole : ℕ) (within : hole < nodes) (place : ℕ → ℕ) (rows 
       (suc found.0, (let below : found.0 < rows = found.1 in omega arith), found.2))
       (cases_eq node hole)
 
-  -- Then they have together just what all nodes have.
+  -- Then the sum over the places, with the black hole, equals the sum over all nodes.
   pub all_have : rows + 1 ≡ nodes → (f : ℕ → ℕ) → total (λ i. f (place i)) rows + f hole ≡ total f nodes
   all_have all f = omega (
     arith,
@@ -236,7 +236,7 @@ module _ (net : Network) (labelled : IsPortLabelled net) (hole : ℕ) (within : 
           (λ node low. ap one_if (turned far.0 node))
           ∙ one_is (nodes_of net) far.0 (HasPort-node net far.0 far.1 (labelled.within hole port lt))
 
-  -- none of them is the hole's own
+  -- No link of the black hole leads to itself.
   pub hole_has_none : ways_in hole ≡ 0
   hole_has_none = none_pass (λ port. (far_of net hole port).0 == hole) (degree_of net hole)
       (λ port lt. ne_eqb (far_of net hole port).0 hole (labelled.no_loop hole port lt))

@@ -50,7 +50,7 @@ module _ (net : Network) (labelled : IsPortLabelled net) where
 
 -- ---- at most so many
 
--- the summands other than one are at most this
+-- Every summand except one is at most this bound.
 others_within : (f : ℕ → ℕ) (n at most : ℕ) → at < n → ((k : ℕ) → k < n → f k ≤ most)
     → total f n + most ≤ n * most + f at
 others_within f zero at most lt each = absurd (omega (arith, lt))

@@ -1,4 +1,4 @@
--- What the loops of the program keep: what is left of a list, of a text and of a path.
+-- Loop invariants of the program: the remaining part of a list, of a text, and of a path.
 use Rattle.std.proofs.Common.{ℕ, zero, suc, ◌+◌, ◌-◌, ◌<◌, ◌≤◌, ◌≡◌, ◌≢◌, inl, inr}
 use Rattle.std.proofs.Common.{List, [], ◌∷◌, ◌++◌, length, take, drop, refl, sym, ap, ◌∙◌, arith}
 use Rattle.std.proofs.Common.{append_assoc, sub-one, get_or, drop-drop}
@@ -60,7 +60,7 @@ drop_least count rest = elim (cases_lt count (length rest)) [
       rw e (drop_all (length rest) rest (omega arith) ∙ sym (drop_all count rest many))
 ]
 
--- the first row of a text, and the others
+-- the first row of a text, followed by the other rows
 pub rows_here : (text : List ℕ) (ports : ℕ) → 6 ≤ length text
     → ports ≡ min (value (get_or text 4 0) (get_or text 5 0)) (length (drop 6 text))
     → rows_in (length text) text

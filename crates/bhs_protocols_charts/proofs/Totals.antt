@@ -60,7 +60,7 @@ total_rises : (f g : ℕ → ℕ) (n rise : ℕ) → ((k : ℕ) → k < n → g 
 total_rises f g n rise rises =
     omega (arith, total_grows g (λ k. f k + rise) n rises, total_add f (λ k. rise) n, total_constant rise n)
 
--- and all others rise by at most this
+-- and every other summand increases by at most this bound
 pub total_raised : (f g : ℕ → ℕ) (n at rise : ℕ) → at < n
     → ((k : ℕ) → k < n → (k == at) ≡ false → g k ≤ f k + rise)
     → total g n + f at ≤ total f n + g at + n * rise
@@ -120,7 +120,7 @@ one_is n at lt =
       ap one_if (eq-eqb at at refl),
     )
 
--- fewer than all pass, so one does not
+-- If fewer numbers pass than exist, then some number fails.
 pub some_fails : (test : ℕ → Bool) (n : ℕ) → total (λ k. one_if (test k)) n < n
     → (k : ℕ) × (k < n) × (test k ≡ false)
 some_fails test zero few = absurd (omega arith)

@@ -27,7 +27,7 @@ abbrev pub chart_commands : (nodes ports wakeups : ℕ) → ℕ
 chart_commands nodes ports wakeups =
     (2 * nodes - 1) * ports + (wakeups + 3) * (2 * ports) + (nodes + wakeups)
 
--- two turns for each command of a trip, and of all agents for the others
+-- Each command of a trip costs two turns; the other commands cost turns of all agents.
 abbrev pub chart_turns : (nodes ports agents wakeups : ℕ) → ℕ
 chart_turns nodes ports agents wakeups =
     2 * ((2 * nodes - 1) * ports + (wakeups + 3) * (2 * ports)) + agents * (2 * (wakeups + 3) * (2 * ports))

@@ -13,9 +13,8 @@ use Rattle.bhs_protocols.specs.Programs.{Program}
 use Rattle.bhs_protocols_charts.specs.Charts.{Chart, ChartRow, claimed, new_row, with_state, reported, path, first_end}
 use Rattle.bhs_protocols_charts.specs.Charts.{is_free, is_open, is_sure, name_of, row_named, text_of, chart_of}
 
--- What an agent is about, with what it holds for that. At the home base it holds the number of ports and the text on
--- the whiteboard. On a trip it holds its claimed port, the ports that lead on, the ports that lead back, and what it
--- has found.
+-- The phase of an agent with its data. At the home base: the number of ports and the whiteboard's text. On a trip: the
+-- claimed port, the remaining route, the route back, and the node that the agent has found.
 pub data Charting : Type 0 where
   Begins : Charting
   Waits : (ports : ℕ) → (text : List ℕ) → Charting
@@ -65,12 +64,12 @@ does_in it = Stops
 
 -- ---- what it holds after something has happened
 
--- it has crossed the port that it has claimed, to a node with this number of ports and this whiteboard
+-- The agent has crossed its claimed port to a node with this number of ports and this whiteboard.
 abbrev pub crossed : (row port ports : ℕ) → (board behind : List ℕ) → Charting
 crossed row port ports [] behind = Names row port ports behind
 crossed row port ports (code ∷ board) behind = GoesBack row port (row_named ports (code ∷ board)) behind
 
--- it has arrived on its way out
+-- The agent has arrived on its way out.
 abbrev pub came_out : (row port ports : ℕ) → (board ahead behind : List ℕ) → Charting
 came_out row port ports board [] behind = crossed row port ports board behind
 came_out row port ports board (next ∷ ahead) behind = GoesOut row port (next ∷ ahead) behind
@@ -104,7 +103,7 @@ after_in nodes tells it item = it
 
 -- ---- the program
 
--- what an agent holds: what it is about, and whether it has departed and not yet arrived
+-- The memory of an agent: its phase, and whether it is between a departure and an arrival.
 pub record Memory : Type 0 where
   pub duty : Charting
   pub has_departed : Bool

@@ -47,7 +47,7 @@ with_state chart row port state =
 abbrev pub is_same_name : (one other : ChartRow) → Bool
 is_same_name one other = one.father == other.father && one.port == other.port
 
--- whether some row, other than the home base's, is of this node
+-- whether some row other than the home base's describes this node
 abbrev pub has_row : Chart → ChartRow → Bool
 has_row chart row = list_any (is_same_name row) (drop 1 chart)
 
@@ -109,7 +109,7 @@ is_sure nodes tells chart = length chart + 1 == nodes && open_ends_of chart == t
 abbrev pub value : (by_64 ones : ℕ) → ℕ
 value by_64 ones = (by_64 - 32) * 64 + (ones - 32)
 
--- the text on the whiteboard of a node that is not the home base: the row of its father, and the port there
+-- The name on the whiteboard of a node other than the home base: its father's row, and the port there.
 abbrev pub name_of : (father port : ℕ) → List ℕ
 name_of father port =
     (32 + father / 64) ∷ (32 + father % 64) ∷ (32 + port / 64) ∷ (32 + port % 64) ∷ []

@@ -52,7 +52,7 @@ abbrev pub tells_of : Told → (ports : ℕ) → ℕ
 tells_of (Links links) = by_links links
 tells_of Parity = by_parity
 
--- what an agent holds that has this to report
+-- the phase of an agent with this report
 abbrev pub report_of : Report → Charting
 report_of it = Reports it.claim.row it.claim.port (rows_found it.found) it.seen.ports it.seen.text
 
@@ -84,7 +84,7 @@ abbrev pub next_in : (ports : List ℕ) → Option ℕ
 next_in [] = None
 next_in (port ∷ ports) = Some port
 
--- it departs by this port if there is one
+-- departs by the next port, if there is one
 abbrev pub departs : (next : Option ℕ) → (other : Step) → Step
 departs (Some port) other = Says (Depart port)
 departs None other = other

@@ -1,4 +1,4 @@
-//! The search by a chart as a program: what an agent does, and what it holds after a reply or a wake-up.
+//! The search by a chart as a program: an agent's step, and its memory after a reply or a wake-up.
 
 ghost use Rattle.std.specs.Prelude.{◌≡◌, ℕ, [], ◌∷◌, false, IfOk, IfErr, IfSome, IfNone};
 ghost use Rattle.bhs_schedules.specs.Strategies.{Heard, Woke};
@@ -53,7 +53,7 @@ pub fn does(alloc: Global, memory: &Memory) -> Result<Step, ChartFault>
     }
 }
 
-// Departs by the first of these ports, or else does this.
+// Departs by the first of these ports, or takes another step without one.
 fn departs(ports: &VecDeque<u16>, other: Step) -> Step
     ensures { result ≡ programs.departs (programs.next_in ports.now.items) other }
 {
@@ -274,7 +274,7 @@ fn next_of(ports: &mut VecDeque<u16>) -> Option<u16>
     ports.pop_front()
 }
 
-// It has crossed the port that it has claimed, to a node with this number of ports and this whiteboard.
+// The agent has crossed its claimed port to a node with this number of ports and this whiteboard.
 fn crossed(claim: Claim, ports: u16, board: &Text, behind: VecDeque<u16>) -> Memory
     ensures { programs.charting_of result ≡ specs.crossed claim.row claim.port ports board.now behind.items }
 {

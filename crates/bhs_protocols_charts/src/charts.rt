@@ -14,7 +14,7 @@ use std::marker::Model;
 /// The state of a port that nobody has claimed.
 pub const FREE: u8 = 0;
 
-/// The state of a port that an agent has claimed, and from which it has not come back.
+/// The state of a port that an agent has claimed and from which it has not returned.
 pub const CLAIMED: u8 = 1;
 
 /// The state of a port from which an agent has come back.
@@ -117,7 +117,7 @@ impl NodeRow {
         })
     }
 
-    // The row of its father, and the port there.
+    // Returns the father's row and the port there.
     fn name(&self) -> (usize, u16)
         ensures { result ≡ (self.now.father, self.now.port) }
     {
@@ -152,7 +152,7 @@ impl NodeRow {
         }
     }
 
-    // Whether it is the row of this node.
+    // Returns whether the row describes this node.
     fn is_of(&self, found: FoundNode) -> bool
         ensures { result ≡ specs.is_same_name (programs.row_found found) self.now }
     {
@@ -242,7 +242,7 @@ pub fn join(
     Ok(())
 }
 
-// The row of the father of the node of this row, and the port there.
+// Returns the row of the father of a row's node, and the port there.
 fn name_at(chart: &[NodeRow], row: usize) -> (usize, u16)
     ensures { result ≡ ((specs.row_at chart.now row).father, (specs.row_at chart.now row).port) }
 {
@@ -354,7 +354,7 @@ pub fn text_of(alloc: Global, chart: &[NodeRow]) -> Result<Text, ChartFault>
     Ok(Text::new(alloc, text.as_str())?)
 }
 
-/// The text on the whiteboard of a node, by the row of the node before it and the port there.
+/// Returns the name for a node's whiteboard, from its father's row and the port there.
 pub fn name_of(alloc: Global, father: usize, port: u16) -> Result<Text, ChartFault>
     ensures text { IfOk result (λ text. text ≡ specs.name_of father port) }
     ensures large { IfErr result (λ fault. fault ≡ ChartFault.TooLarge

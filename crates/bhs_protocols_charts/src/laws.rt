@@ -1,4 +1,4 @@
-//! What is proved of the search by a chart. The functions do nothing: their contracts are laws.
+//! The laws of the search by a chart. The functions have empty bodies: their contracts are the laws.
 
 #![tactic(auto)]
 

@@ -20,7 +20,7 @@ pub struct NetworkFacts {
     pub told: Told,
 }
 
-/// A port of the chart, by its row and its number there.
+/// A port of the chart: a row, and a port number.
 #[derive(Clone, Copy, Debug, PartialEq, Eq)]
 pub struct Claim {
     pub row: usize,
@@ -34,8 +34,7 @@ pub struct NodeSight {
     pub text: Text,
 }
 
-/// What an agent has to report at the home base: the port that it has crossed, what it has found behind that, and what
-/// it sees here.
+/// A report for the home base: the claimed port, the node found behind it, and what the agent sees at home.
 #[derive(Debug, Drop)]
 pub struct Report {
     pub claim: Claim,
@@ -43,7 +42,7 @@ pub struct Report {
     pub seen: NodeSight,
 }
 
-/// What an agent is about, and what it holds for that.
+/// The phase of an agent with its data.
 #[derive(Debug, Drop)]
 pub enum Memory {
     /// It has not entered.
@@ -57,7 +56,7 @@ pub enum Memory {
         seen: NodeSight,
         claim: Claim,
     },
-    /// It goes to the port that it has claimed, and crosses it.
+    /// The agent walks to its claimed port and crosses it.
     GoesOut {
         claim: Claim,
         ahead: VecDeque<u16>,
@@ -75,7 +74,7 @@ pub enum Memory {
         found: Option<FoundNode>,
         behind: VecDeque<u16>,
     },
-    /// It writes what it has found.
+    /// The agent reports the node that it has found.
     Reports(Report),
     /// It goes to a port that leads to the black hole.
     GoesToAccuse {

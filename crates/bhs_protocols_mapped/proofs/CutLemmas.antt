@@ -146,7 +146,7 @@ module _ (net : Network) (setup : Setup) (held : Held) (wakeups : ℕ) (strategi
     reached = λ node was. absurd (true≢false (sym was));
   })
 
-  -- ---- so some node is not reached
+  -- ---- the agents leave some node unreached
 
   -- a node that is neither the home base nor the black hole, and was not reached
   record IsHidden (configuration : Configuration) : Type 0 where
@@ -176,7 +176,7 @@ module _ (net : Network) (setup : Setup) (held : Held) (wakeups : ℕ) (strategi
         ]
       ]
 
-  -- so the match is not solved
+  -- A match whose agents stay on one side of a cut node is not solved.
   never_solved : IsCutIn net cut → (configuration : Configuration) → IsInside configuration
       → outcome_in trial.world configuration ≢ Solved
   never_solved is configuration all =

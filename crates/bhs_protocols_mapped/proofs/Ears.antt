@@ -21,16 +21,16 @@ module _ (net : Network) (is : IsNetwork net) where
   back : (a b : ℕ) → Leads net a b → Leads net b a
   back = walks.Leads-back net is.labelled
 
-  -- a node that one of these leads to
+  -- One of these nodes has a link to this node.
   abbrev pub IsNear : List ℕ → ℕ → Type 0
   IsNear nodes v = (u : ℕ) × (is_in u nodes ≡ true) × Leads net u v
 
-  -- each of the nodes of the second list has a neighbour before it, with those of the first list before all
+  -- Each node of the second list has a link to an earlier node of this list or to a node of the first.
   abbrev pub HasEarlier : (seen : List ℕ) → List ℕ → Type 0
   HasEarlier seen [] = Unit
   HasEarlier seen (v ∷ vs) = IsNear seen v × HasEarlier (v ∷ seen) vs
 
-  -- each has a neighbour after it, with these nodes after all
+  -- Each node has a link to a later node of this list or to a node of the end list.
   abbrev pub HasLater : (ends : List ℕ) → List ℕ → Type 0
   HasLater ends [] = Unit
   HasLater ends (v ∷ vs) = IsNear (vs ++ ends) v × HasLater ends vs
@@ -50,15 +50,15 @@ module _ (net : Network) (is : IsNetwork net) where
   earlier_more S T (v ∷ vs) more has =
       (near_more S T v more has.0, earlier_more (v ∷ S) (v ∷ T) vs (cons_more S T v more) has.1)
 
-  -- ---- ears: the nodes that are in order are these
+  -- ---- Ears: an open ear decomposition orders the nodes.
 
   module _ (old : List ℕ) where
-    -- the node that comes first, with this one after all
+    -- the first node of a list, or `w` if the list is empty
     abbrev next : (w : ℕ) → List ℕ → ℕ
     next w [] = w
     next w (y ∷ ys) = y
 
-    -- new nodes, each of them once, that lead one to the other and the last of them to w
+    -- An ear is a path of distinct new nodes; its last node has a link to `w`.
     abbrev IsEar : (w : ℕ) → List ℕ → Type 0
     IsEar w [] = Unit
     IsEar w (y ∷ ys) = (is_in y old ≡ false) × (is_in y ys ≡ false) × (y < n) × Leads net y (next w ys) × IsEar w ys

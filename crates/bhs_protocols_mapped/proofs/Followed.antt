@@ -1,5 +1,5 @@
--- What strategies do on a part of a network, others do on the network: they solve the match there within the same
--- bounds.
+-- Simulation: agents with a map copy on the whole network what strategies do on a part, and solve the match within the
+-- same bounds.
 use Rattle.std.proofs.Common.{ℕ, ◌+◌, ◌<◌, ◌≡◌, Bool, true, false, not, ◌||◌, ◌&&◌, ◌==◌, Option, Some, None, List}
 use Rattle.std.proofs.Common.{[], ◌∷◌, ◌++◌, refl, sym, ap, ◌∙◌, subst, if◌then◌else◌, arith}
 use Rattle.std.specs.Prelude.{◌≢◌, count_by, find}
@@ -127,7 +127,7 @@ module _ (world : World) (part : Network) (port : (node port : ℕ) → ℕ) (wa
   never wrong apart place Stops fine = fine
   never wrong apart place Fails fine = fine
 
-  -- who has not entered says Enter in the network where it does in the part
+  -- An agent says Enter on the network when its strategy says Enter on the part.
   enters_same : (there here : Position) (step : Step) → SamePlace there here → OnlyEnters here step
       → OnlyEnters there (step_of port here step)
   enters_same there Before (Says command) like enters =
@@ -153,7 +153,7 @@ module _ (world : World) (part : Network) (port : (node port : ℕ) → ℕ) (wa
       → followed_by.strategies k (outer.history k) ≡ step_of port (it.position k) (strategies k (it.history k))
   says_as = following.says_same world part port wakeups strategies is
 
-  -- once it is over, where the agent is on a link
+  -- Match over: the invariant holds for an agent on a link.
   over_as : (outer it : Configuration) (k : ℕ) (place : Position) → IsAlike outer it → it.position k ≡ place
       → ((node by : ℕ) → place ≡ Bound node by → strategies k (Heard Over ∷ it.history k) ≢ Fails)
       → (node by : ℕ) → SamePlace (outer.position k) place → outer.position k ≡ Bound node by
@@ -208,7 +208,7 @@ module _ (world : World) (part : Network) (port : (node port : ℕ) → ℕ) (wa
     lost = λ k. refl;
   }
 
-  -- who is lost after a deed
+  -- The agents that an action delivers into the black hole are lost in both matches.
   abbrev delivers : Action → Bool
   delivers = turns.delivers world part port wakeups strategies is
 

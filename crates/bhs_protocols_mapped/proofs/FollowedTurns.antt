@@ -1,4 +1,4 @@
--- Agents that do on a network what strategies do on a part of it: any turn.
+-- Simulation: any turn on the network matches the same turn on the part.
 use Rattle.std.proofs.Common.{ℕ, ◌≡◌, Bool, true, false, not}
 use Rattle.std.proofs.Common.{refl, sym, ap, ◌∙◌, subst, if◌then◌else◌, nat_lt}
 use Rattle.std.proofs.lemmas.Bool.{cond-true, cond-false}

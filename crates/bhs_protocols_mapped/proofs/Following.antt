@@ -30,7 +30,7 @@ use Rattle.bhs_protocols_mapped.specs.Parts.{on_part, through_part}
 
 module _ (world : World) (part : Network) (port : (node port : ℕ) → ℕ) (wakeups : ℕ) (strategies : Strategies)
     (is : IsPart world part port) where
-  -- the match on the part, and the one on the network
+  -- the worlds of both matches, with the part and with the whole network
   abbrev pub inner : World
   inner = record world { net = part }
 
@@ -195,7 +195,7 @@ module _ (world : World) (part : Network) (port : (node port : ℕ) → ℕ) (wa
       (accused_by (Some r) command_too here (it.accused k))) (sym b) link))
       ((λ i. moves_by (Some (a i)) outer.moves) ∙ moves ∙ sym (λ i. moves_by (Some (b i)) it.moves))
 
-  -- ---- what leaves an agent where it is
+  -- ---- replies that leave the position of an agent unchanged
 
   still_strategy : (outer it : Configuration) (k : ℕ) (news news_too : Observation) → IsAlike outer it
       → followed part world.home strategies (record { agent = k; past = it.history k; place = it.position k }) news
@@ -281,7 +281,7 @@ module _ (world : World) (part : Network) (port : (node port : ℕ) → ℕ) (wa
       (ap (λ (p : Position). refusal (standing_at p) command) at ∙ why
       ∙ sym (ap (λ (p : Position). refusal (standing_at p) command_too) at_too)) stays)))
 
-  -- an agent that has not entered
+  -- The agent has not entered yet.
   module _ (outer it : Configuration) (k : ℕ) (same : IsAlike outer it) (out : outer.position k ≡ Before)
       (out_too : it.position k ≡ Before) where
     hears_before : (command : Command) → strategies k (it.history k) ≡ Says command → (reply : Reply)
@@ -396,7 +396,7 @@ module _ (world : World) (part : Network) (port : (node port : ℕ) → ℕ) (wa
             (λ long. by_answer (No whys.Long) (cond-false _ _ _ long) (refused_at (Write expect put) says whys.Long)
             (same.accused k) same.moves)
 
-    -- a port of the part is one of the network, and only such a port is
+    -- A number is a port of the part exactly if its translation is a port of the network.
     has_port : (by : ℕ) → nat_lt by (part.degree node) ≡ true → nat_lt (port node by) (world.net.degree node) ≡ true
     has_port by has =
         lt-ltb (port node by) (world.net.degree node) (is.ports node by below (ltb-true by (part.degree node) has))

@@ -126,7 +126,7 @@ module _ (net : Network) (node : ℕ → ℕ) where
 
 -- ---- from the order
 
--- where in the list a node is
+-- the index of a member in a list
 place_of : (q : ℕ) (qs : List ℕ) → is_in q qs ≡ true → (j : ℕ) × (j < length qs) × (get_or qs j 0 ≡ q)
 place_of q [] any = absurd (true≢false (sym any))
 place_of q (y ∷ ys) any = elim (in_split q y ys any) [

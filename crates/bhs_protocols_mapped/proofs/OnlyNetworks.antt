@@ -55,7 +55,7 @@ module _ (net : Network) (home : ℕ) (has : HasGuide net home) (cut : ℕ) wher
     to_last = subst (λ (place : ℕ). IsPath Step (node side 0) (node side place)) is.last
         (as_far route.steps (omega arith))
 
-  -- so from the home base to each other node there is a path that keeps off the cut
+  -- Since no single node disconnects the network, a path from the home base avoids the cut node.
   keeps_off : home ≢ cut → cut < n → (other : ℕ) → other < n → other ≢ cut → IsPath Step home other
   keeps_off apart here other below off =
       let at = has.guides.all other below in
@@ -98,7 +98,7 @@ module _ (net : Network) (home : ℕ) (has : HasGuide net home) (cut : ℕ) wher
           (omega (arith, later))) ∙ same ∙ sym at) in
           omega (arith, there, later)
 
--- a number below 3 other than these two
+-- Among 0, 1 and 2 some number differs from both `a` and `b`.
 third : (a b : ℕ) → (c : ℕ) × (c < 3) × (c ≢ a) × (c ≢ b)
 third a b = elim (eqb_tells 0 a) [
   | inl h ↦ elim (eqb_tells 1 b) [

@@ -32,7 +32,7 @@ module _ (world : World) (n hole wakeups : ℕ) (tour : Tour) (is : IsTour world
   abbrev net : Network
   net = world.net
 
-  -- where one comes to a node
+  -- The tour visits this node at some index.
   record Comes (node : ℕ) : Type 0 where
     step : ℕ
     below : step < n

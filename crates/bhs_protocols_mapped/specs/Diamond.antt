@@ -28,8 +28,8 @@ abbrev pub nodes_on : (side : ℕ) → List ℕ
 nodes_on zero = 0 ∷ 1 ∷ 3 ∷ 2 ∷ []
 nodes_on (suc side) = 0 ∷ 2 ∷ 3 ∷ 1 ∷ []
 
--- To its first node, 1 or 2, and to its last, 2 or 1, each side has a link from the home base: to the first by the port
--- with its number, to the last by the other one. To its second, node 3, it goes on from the first by port 2.
+-- A side's first node (1 or 2) and last node (2 or 1) are adjacent to the home base: its port to the first has the
+-- number of that node, its port to the last has the other number. From the first node, port 2 leads to node 3.
 abbrev pub route_on : (side place : ℕ) → Route
 route_on zero (suc (suc zero)) =
     record { steps = 2; place = λ step. step; ahead = λ step. 2 * step; behind = λ step. 0 }

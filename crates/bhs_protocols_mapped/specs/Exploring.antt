@@ -1,8 +1,7 @@
--- A search of any network by two agents that have a map of it, and so a guide and the number of its nodes. Agent 0
--- explores the nodes of side 0, and agent 1 those of side 1, each one node at a time: it goes out to the next node past
--- nodes of its side that it knows to be safe, comes back, and writes on the home base's whiteboard how many nodes of
--- each side are safe. Once one node is left, that is the black hole: an agent that knows it goes its way there as far
--- as the last link, and accuses that.
+-- Two agents with a map search any network by a guide. Agent 0 explores the nodes of side 0 and agent 1 those of side
+-- 1, one node at a time: the agent walks out to the next node past safe nodes of its side, returns, and writes on the
+-- home base's whiteboard how many nodes of each side are safe. The last unexplored node is the black hole: an agent
+-- that reads so walks to the last link before that node and accuses the link.
 use Rattle.std.specs.Prelude.{ℕ, zero, suc, ◌+◌, ◌-◌, ◌*◌, ◌==◌, Bool, ◌&&◌, List, if◌then◌else◌}
 use Rattle.bhs_model.specs.declared.commands.Command.TheVariants.{Enter, Write, Depart, Accuse}
 use Rattle.bhs_model.specs.declared.replies.Reply.TheVariants.{Here, Written, Changed, Gone, Noted}
@@ -14,7 +13,7 @@ use Rattle.bhs_protocols.specs.Programs.{Program}
 use Rattle.bhs_protocols.specs.Shuttle.{other_in, text_by}
 use Rattle.bhs_protocols_mapped.specs.Guides.{Route, Guide}
 
--- what an agent is about: it is at this step of the way to the next node of its side, or on the link from there
+-- the phase of an agent, with the step on its route to the next node of its side
 pub data Phase : Type 0 where
   Begins : Phase
   GoesOut : (step : ℕ) → Phase
@@ -24,7 +23,7 @@ pub data Phase : Type 0 where
   Writes : Phase
   Ends : Phase
 
--- what an agent holds: its side, how many nodes of this and of the other it knows to be safe, and what it is about
+-- The memory of an agent: its side, how many nodes of each side it knows to be safe, and its phase.
 pub record Memory : Type 0 where
   pub side : ℕ
   pub mine : ℕ

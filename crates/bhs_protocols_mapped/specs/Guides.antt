@@ -13,8 +13,7 @@ pub record Route : Type 0 where
   pub ahead : (step : ℕ) → ℕ
   pub behind : (step : ℕ) → ℕ
 
--- For each of the two sides, 0 and 1: its nodes, one after the other, and a way to each. The home base is the node with
--- number 0 of both.
+-- For each side, 0 and 1: a sequence of nodes, and a route to each node. Index 0 of both sequences is the home base.
 pub record Guide : Type 0 where
   pub node : (side place : ℕ) → ℕ
   pub route : (side place : ℕ) → Route
@@ -55,8 +54,8 @@ abbrev pub NetworksHaveGuides : Type 0
 NetworksHaveGuides = (net : networks.Network) (home : ℕ) → networks.IsNetwork net → home < networks.nodes_of net
     → HasGuide net home
 
--- and only these: a simple graph with port labels that has one from each home base is connected, also without any one
--- node
+-- Conversely, a simple port-labelled graph with a guide from each home base is 2-connected: it stays connected without
+-- any single node.
 abbrev pub OnlyNetworksHaveGuides : Type 0
 OnlyNetworksHaveGuides = (net : networks.Network) → networks.IsPortLabelled net
     → ((home : ℕ) → home < networks.nodes_of net → HasGuide net home) → networks.IsNetwork net

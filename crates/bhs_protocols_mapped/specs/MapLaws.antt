@@ -40,7 +40,7 @@ GuidedAgentsSolve = (world : World) (n one other wakeups : ℕ) (guide : Guide) 
     → 4 ≤ world.board → commands_by guide n 0 one ≤ world.quota → commands_by guide n 1 other ≤ world.quota
     → IsSolved (guided_trial world wakeups n guide) (guided_bounds guide n one other)
 
--- and under some schedule they make all these moves
+-- Some schedule makes the agents spend the bound on moves exactly.
 abbrev pub GuidedAgentsAttain : Type 0
 GuidedAgentsAttain = (world : World) (n one other wakeups : ℕ) (guide : Guide) → IsGuided world n one other guide
     → 4 ≤ world.board → commands_by guide n 0 one ≤ world.quota → commands_by guide n 1 other ≤ world.quota

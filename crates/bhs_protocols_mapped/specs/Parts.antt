@@ -1,5 +1,5 @@
--- Agents that have a map can do on a network what others do on a part of it that has all its nodes, such as a ring:
--- they use the links of that part alone.
+-- Agents with a map simulate strategies for a spanning part of the network, such as a Hamiltonian ring: they use the
+-- links of that part only.
 use Rattle.std.specs.Prelude.{ℕ, ◌≡◌, ◌<◌, ◌≤◌, Some, List, [], ◌∷◌}
 use Rattle.bhs_model.specs.declared.commands.Command.{Command}
 use Rattle.bhs_model.specs.declared.commands.Command.TheVariants.{Depart, Accuse}
@@ -16,8 +16,8 @@ use Rattle.bhs_protocols.specs.Attained.{IsAttained}
 use Rattle.bhs_protocols.specs.Invariants.{CostBounds, IsSolved}
 use Rattle.bhs_protocols.specs.Programs.{Program, strategies_by}
 
--- The part has the nodes of the network. A port of a node in the part is one of its ports in the network, by which one
--- goes to the same node; a number that is no port in the part is none in the network. No link is dark.
+-- The part is a spanning subnetwork without dark links. `port` translates ports: a port of the part becomes the port of
+-- the network that leads to the same node, and a number that is no port in the part becomes no port of the network.
 pub record IsPart (world : World) (part : Network) (port : (node port : ℕ) → ℕ) : Type 0 where
   pub home : world.home < part.nodes
   pub size : part.nodes ≡ world.net.nodes
@@ -28,8 +28,8 @@ pub record IsPart (world : World) (part : Network) (port : (node port : ℕ) →
   pub within : (node it : ℕ) → node < part.nodes → it < part.degree node → (part.far node it).0 < part.nodes
   pub none_dark : world.dark ≡ []
 
--- what an agent holds that does what a strategy does on the part: what would have happened to it there, and where it
--- would be
+-- The memory of an agent that simulates a strategy on the part: the agent's number, the history that its strategy would
+-- have on the part, and its position.
 pub record Follower : Type 0 where
   pub agent : ℕ
   pub past : History
@@ -39,34 +39,34 @@ pub record Follower : Type 0 where
 abbrev pub bare : Network → (home : ℕ) → World
 bare part home = record { net = part; home = home; holes = []; dark = []; agents = 0; quota = 0; board = 0 }
 
--- the command in the network for one in the part
+-- translates a command for the part into a command for the network
 abbrev pub command_of : (port : (node port : ℕ) → ℕ) → Position → Command → Command
 command_of port (At node came) (Depart it) = Depart (port node it)
 command_of port (At node came) (Accuse it) = Accuse (port node it)
 command_of port place command = command
 
--- what an agent does in the network where the strategy would do this in the part
+-- translates a step on the part into a step on the network
 abbrev pub step_of : (port : (node port : ℕ) → ℕ) → Position → Step → Step
 step_of port place (Says command) = Says (command_of port place command)
 step_of port place step = step
 
--- what is heard in the part, where this is heard in the network
+-- translates a reply of the network into the reply that the part would give
 abbrev pub reply_at : Network → Position → Reply → Reply
 reply_at part (At node came) (Here ports seen board) = Here (part.degree node) came board
 reply_at part place reply = reply
 
--- after a reply that leaves the agent where it is
+-- appends a reply that leaves the agent's position unchanged
 abbrev pub noted : Follower → Reply → Follower
 noted it reply = record it { past = Heard reply ∷ it.past }
 
--- After an answer to a command. If the command was not refused, the agent is at this place then.
+-- Appends the reply to a command. Unless the command was refused, the agent moves to `place`.
 abbrev pub answered : Network → Follower → (place : Position) → Reply → Follower
 answered part it place (No why) = noted it (No why)
 answered part it place Over = noted it Over
 answered part it place reply =
     record { agent = it.agent; past = Heard (reply_at part place reply) ∷ it.past; place = place }
 
--- after an arrival over a link of the part
+-- appends an arrival over a link of the part
 abbrev pub come_by : Network → Follower → (far : ℕ × ℕ) → (board : List ℕ) → Follower
 come_by part it far board = record {
   agent = it.agent;
@@ -87,8 +87,8 @@ abbrev pub followed : Network → (home : ℕ) → Strategies → Follower → O
 followed part home strategies it (Heard reply) = heard_at part home it it.place (strategies it.agent it.past) reply
 followed part home strategies it Woke = record it { past = Woke ∷ it.past }
 
--- Agents that know the part, its ports in the network and the home base, and do on the network what these strategies do
--- on the part. They do not know where the black hole is.
+-- The program of agents that simulate these strategies on the part. It uses the part, the translation of ports and the
+-- home base, and no black hole.
 abbrev pub followers : (part : Network) (home : ℕ) (port : (node port : ℕ) → ℕ) → Strategies → Program Follower
 followers part home port strategies = record {
   start = λ agent. record { agent = agent; past = []; place = Before };
@@ -101,7 +101,7 @@ abbrev pub on_part : World → (part : Network) → (wakeups : ℕ) → Strategi
 on_part world part wakeups strategies =
     record { world = record world { net = part }; held = none_held; wakeups = wakeups; strategies = strategies }
 
--- one of agents that do on the network what these strategies do on the part
+-- a match on the network whose agents simulate these strategies on the part
 abbrev pub through_part : World → (part : Network) → (port : (node port : ℕ) → ℕ) → (wakeups : ℕ) → Strategies → Trial
 through_part world part port wakeups strategies = record {
   world = world;
@@ -117,7 +117,8 @@ PartsSuffice = (world : World) (part : Network) (port : (node port : ℕ) → �
     → IsPart world part port → (bounds : CostBounds) → IsSolved (on_part world part wakeups strategies) bounds
     → IsSolved (through_part world part port wakeups strategies) bounds
 
--- And if they make this number of moves on the part under some schedule, so do the others on the network.
+-- If the strategies spend this number of moves on the part under some schedule, then their simulations spend as many on
+-- the network.
 abbrev pub PartsAttain : Type 0
 PartsAttain = (world : World) (part : Network) (port : (node port : ℕ) → ℕ) (wakeups : ℕ) (strategies : Strategies)
     → IsPart world part port → (most : ℕ) → IsAttained (on_part world part wakeups strategies) most

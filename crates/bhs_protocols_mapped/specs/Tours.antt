@@ -11,7 +11,7 @@ use Rattle.bhs_protocols.specs.Halving.{most_moves, most_commands}
 use Rattle.bhs_protocols.specs.Attained.{IsAttained, worst_distance}
 use Rattle.bhs_protocols_mapped.specs.Parts.{through_part}
 
--- the nodes one after the other, and at each of them the port to the next one and the port to the one before
+-- A cyclic sequence of all nodes, with each node's port to its successor and its port to its predecessor.
 pub record Tour : Type 0 where
   pub node : (step : ℕ) → ℕ
   pub ahead : (node : ℕ) → ℕ
@@ -40,7 +40,7 @@ far_on net tour node (suc port) = ((net.far node (tour.behind node)).0, 0)
 abbrev pub ring_of : Network → (n : ℕ) → Tour → Network
 ring_of net n tour = record { nodes = n; degree = λ node. 2; far = far_on net tour }
 
--- the ports of the network for those of the ring
+-- translates ports of the ring into ports of the network
 abbrev pub port_of : Network → Tour → (node port : ℕ) → ℕ
 port_of net tour node zero = tour.ahead node
 port_of net tour node (suc zero) = tour.behind node

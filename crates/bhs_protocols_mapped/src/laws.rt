@@ -15,8 +15,9 @@ pub fn networks_have_guides()
     ensures only { OnlyNetworksHaveGuides }
 {}
 
-/// Two agents that explore by a guide solve the match wherever the black hole is. They go to each node and back by its
-/// way, and under some schedule they make all these moves, which are no more than those of the shuttle on a ring.
+/// Two agents with a guide solve the match wherever the black hole is, within the moves of this bound: each agent walks
+/// to every node of its side and returns by the same route. Some schedule makes them spend the bound exactly; it is at
+/// most the shuttle's bound on a ring.
 pub fn guided_agents_solve()
     ensures solves { GuidedAgentsSolve }
     ensures attained { GuidedAgentsAttain }

@@ -62,7 +62,7 @@ module _ (world : World) (n right left wakeups : ℕ) (ways : Ways) (search : Is
   home_degree s below =
       ap world.net.degree (sym (search.ring.home s)) ∙ search.ring.two s 0 below (omega (arith, three))
 
-  -- how far the black hole is on a side: one step on the one side, and two on the other
+  -- The distance of the black hole on a side: one step on its own side, two on the opposite side.
   abbrev distance : ℕ → ℕ
   distance = lemmas.distance (sides search)
 
@@ -139,7 +139,7 @@ module _ (world : World) (n right left wakeups : ℕ) (ways : Ways) (search : Is
   turned Accuses = 5
   turned Ends = 6
 
-  -- whether it was at the next node of its side, and by which port it goes back, if it is about that
+  -- whether the agent has visited the next node of its side, and the port back, according to its phase
   abbrev was_there : Phase → Bool
   was_there Begins = false
   was_there Departs = false
@@ -150,7 +150,7 @@ module _ (world : World) (n right left wakeups : ℕ) (ways : Ways) (search : Is
   port_in otherwise (Turns port) = port
   port_in otherwise phase = otherwise
 
-  -- who was there knows that the black hole is on the other side
+  -- An agent that has visited the node knows that the black hole lies on the other side.
   abbrev IsSafe : (s : ℕ) → Phase → (reached : ℕ → Bool) → Type 0
   IsSafe s phase reached = was_there phase ≡ true → (distance s ≡ 2) × (reached (next s) ≡ true)
 
@@ -170,7 +170,7 @@ module _ (world : World) (n right left wakeups : ℕ) (ways : Ways) (search : Is
   IsFitIn picture s =
       IsFit s (phase_in picture s) (picture.position s) (picture.used s) (picture.accused s) picture.reached
 
-  -- what holds of both: it is the same seen from either, so one lemma a phase serves both
+  -- The invariant of both agents. It is symmetric, so one lemma per phase serves both.
   record Inv (s o : ℕ) (picture : Configuration) : Type 0 where
     own : IsFitIn picture s
     other : IsFitIn picture o
@@ -189,7 +189,7 @@ module _ (world : World) (n right left wakeups : ℕ) (ways : Ways) (search : Is
     more : turned (phase_in new s) ≡ turned (phase_in old s) + 1
     same : phase_in new o ≡ phase_in old o
 
-  -- what a turn takes that leads from what an agent is about to what it is about later: all by refl
+  -- The commands and turns between two phases: computed by `refl`.
   abbrev Takes : (s : ℕ) (now later : Phase) (costs steps : ℕ) → Type 0
   Takes s now later costs steps =
       (commands later ≡ commands now + costs) × (moved later ≡ moved now + steps) × (turned later ≡ turned now + 1)
@@ -396,7 +396,7 @@ module _ (world : World) (n right left wakeups : ℕ) (ways : Ways) (search : Is
         ]
       ]
 
-  -- what an agent does is no failure, and it does not sleep
+  -- An agent neither fails nor sleeps.
   never : (s : ℕ) (phase : Phase) → (does_in s phase ≢ Fails) × (does_in s phase ≢ Sleeps)
   never s Begins = (λ h. cc, λ h. cc)
   never s Departs = (λ h. cc, λ h. cc)
@@ -425,7 +425,7 @@ module _ (world : World) (n right left wakeups : ℕ) (ways : Ways) (search : Is
     few 1 (phase_in picture 1) (positive 1 (omega arith)) (λ there. (inv.other.safe there).0),
   )
 
-  -- the invariant with the turns that are left: those of the bound that no agent has had
+  -- The invariant, together with the remaining turns of the bound.
   record Holds (picture : Configuration) (turns : ℕ) : Type 0 where
     inv : Inv 0 1 picture
     total : turned (phase_in picture 0) + turned (phase_in picture 1) + turns ≡ 8
@@ -496,7 +496,7 @@ module _ (world : World) (n right left wakeups : ℕ) (ways : Ways) (search : Is
         };
   }
 
--- each ring of a file is a ring, and with three nodes it is one of the above
+-- Every ring of a file with three nodes is one of the triangles above.
 pub triangle_is_solved : TriangleIsSolved
 triangle_is_solved net setup hole wakeups is three enough =
     let away : IsAway net setup hole = rings_are_rings net setup hole is in

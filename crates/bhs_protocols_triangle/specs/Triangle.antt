@@ -41,7 +41,7 @@ does_in side (Turns port) = Says (Depart port)
 does_in side Accuses = Says (Accuse (1 - side))
 does_in side phase = Stops
 
--- what it is about after something has happened
+-- the phase after an observation
 abbrev pub next_phase : Phase → Observation → Phase
 next_phase Begins (Heard (Here ports came board)) = Departs
 next_phase Departs (Heard Gone) = Goes

@@ -1,5 +1,5 @@
--- What a turn makes of a configuration depends on the network only by the number of links of the nodes where agents
--- are, and by where the links lead on which they are.
+-- A turn changes a configuration by the degrees of the agents' nodes and the targets of their links alone: two networks
+-- that agree on these are indistinguishable.
 use Rattle.std.proofs.Common.{ℕ, ◌<◌, ◌≡◌, Bool, true, false, ◌||◌, ◌==◌, Option, Some, None}
 use Rattle.std.proofs.Common.{refl, sym, ap, ◌∙◌, subst, if◌then◌else◌, nat_lt, inl, inr}
 use Rattle.std.specs.Prelude.{◌≢◌}
@@ -222,7 +222,7 @@ module _ (nodes : ℕ) (degree : ℕ → ℕ) (hole : ℕ) (terms : Limits) (str
     deed_kind (At node came) woken Stops at = rests_kind
     deed_kind (At node came) woken Fails at = rests_kind
 
-    -- each turn is of one of these kinds
+    -- case analysis: the kinds of turn
     pub turn_kind : Kind (turn_in (over far) configuration agent)
     turn_kind = either (λ (d : Action). Kind (done_in (over far) configuration agent d)) (nat_lt agent terms.agents)
         (action_at none_held terms.wakeups (configuration.position agent) (configuration.woken agent)

@@ -1,6 +1,5 @@
--- The networks that a team without a map can't tell apart: a cycle of nodes, each of which has a third link, its spoke,
--- to one of two hubs. They differ in the numbers of the ports of the cycle's nodes, and in which spoke is at which port
--- of the hubs.
+-- The adversary's family of networks: a cycle, each of whose nodes has a third link, its spoke, to one of two hubs. The
+-- members of the family differ in the port numbers at cycle nodes, and in which hub port each spoke ends at.
 use Rattle.std.proofs.Common.{ℕ, ◌+◌, ◌-◌, ◌*◌, ◌<◌, ◌≤◌, ◌≡◌, ◌⊎◌, Bool, false, ◌==◌, refl, sym, ap}
 use Rattle.std.proofs.Common.{◌∙◌, subst, if◌then◌else◌, nat_lt, inl, inr, arith}
 use Rattle.std.specs.Prelude.{◌≢◌}
@@ -40,7 +39,7 @@ swap_other a b x not_a not_b = elim (eqb_tells x a) [
   ]
 ]
 
--- a number is one of the two, or neither
+-- A number equals `a`, equals `b`, or is fixed by the exchange.
 swap_is : (a b x : ℕ) → ((x ≡ a) × (swap a b x ≡ b)) ⊎ (((x ≡ b) × (swap a b x ≡ a)) ⊎ (swap a b x ≡ x))
 swap_is a b x = elim (eqb_tells x a) [
   | inl h ↦ inl (h.1, ap (swap a b) h.1 ∙ swap_first a b)

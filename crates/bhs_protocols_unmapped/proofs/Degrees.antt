@@ -1,4 +1,4 @@
--- Each link has two ports. The network's ports are the ports of one node and the ports of all others.
+-- Handshake lemma: each link has two ports. The network's ports are the ports of one node and the ports of all others.
 use Rattle.std.proofs.Common.{ℕ, ◌+◌, ◌*◌, ◌<◌, ◌≤◌, ◌≡◌, [], length, ◌∙◌}
 use Rattle.std.proofs.Common.{arith}
 use Rattle.std.specs.Prelude.{◌%◌}

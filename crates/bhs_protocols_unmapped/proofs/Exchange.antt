@@ -9,7 +9,7 @@ use Rattle.bhs_protocols_unmapped.proofs.Cycle.{swap, swap_first, swap_second, s
 use Rattle.bhs_protocols_unmapped.proofs.Cycle.{Member, IsMember, beside, beside_below, hub_end, link_on, link_back}
 use Rattle.bhs_protocols_unmapped.proofs.Cycle.{leads, leads_on, leads_off}
 
--- the ports of which it is known where they lead
+-- the ports whose far ends the agents know
 abbrev pub Known : Type 0
 Known = (node port : ℕ) → Bool
 
@@ -73,7 +73,7 @@ pub record IsKnown (d count : ℕ) (member : Member) (known : Known) : Type 0 wh
 abbrev pub Agree : (d : ℕ) → Known → (one two : Member) → Type 0
 Agree d known one two = (node port : ℕ) → known node port ≡ true → leads d one node port ≡ leads d two node port
 
--- a port at a node of the cycle, of a member of which this is known
+-- A port of a cycle node, in a member of the family that agrees with `known`.
 pub record IsPort (d count : ℕ) (member : Member) (known : Known) (node port : ℕ) : Type 0 where
   pub is : IsMember d member
   pub knows : IsKnown d count member known
@@ -162,7 +162,7 @@ turned_off node port other_port other label apart = elim (eqb_tells other node) 
   | inr h ↦ cond-false (other == node) (swap port other_port label) label h.0
 ]
 
--- it is an exchange, or nothing
+-- case analysis: the turn exchanges two ports, or is the identity
 turned_by : (node port other_port other : ℕ) (P : (ℕ → ℕ) → Type 0) → P (swap port other_port) → P (λ label. label)
     → P (turned node port other_port other)
 unfolding turned
@@ -180,7 +180,7 @@ exchanged count member node port = record {
   owner = λ slot. member.owner (swap count (member.slot node) slot);
 }
 
--- it is not known where the port leads, and the spoke of its node has none of the first slots
+-- The far end of the port is unknown, and no known spoke ends at the first slots of the black hole.
 pub record IsFresh (d count : ℕ) (member : Member) (known : Known) (node port : ℕ) : Type 0 where
   pub at : IsPort d count member known node port
   pub unknown : known node port ≡ false
@@ -237,7 +237,7 @@ module _ (d count : ℕ) (member : Member) (known : Known) (node port : ℕ)
         ∙ swap_twice count (member.slot node) slot;
   }
 
-  -- a port of which it is known where it leads is not exchanged
+  -- The exchange fixes each port whose far end is known.
   pub kept : (other label : ℕ) → known other label ≡ true → turn other label ≡ label
   kept other label was = elim (eqb_tells other node) [
     | inr h ↦ turned_off node port (member.port node 2) other label h.1

@@ -70,7 +70,7 @@ pub record IsStanding (d count agents : ℕ) (member : Member) (known : Known)
   pub occupied : (slot : ℕ) → slot < count
       → configuration.position (occupant slot) ≡ Bound (member.owner slot) (member.port (member.owner slot) 2)
 
--- so no more are lost than there are
+-- The game ends: the black hole cannot destroy more agents than there are.
 pub enough : (d count agents : ℕ) (member : Member) (known : Known) (configuration : Configuration) → IsMember d member
     → IsStanding d count agents member known configuration → count ≤ agents
 enough d count agents member known configuration is stands =
@@ -180,7 +180,7 @@ module _ (d : ℕ) (three : 3 ≤ d) (terms : Limits) (strategies : Strategies) 
     abbrev longer : List ℕ
     longer = schedule ++ agent ∷ []
 
-    -- each of them is lost on a spoke of the black hole
+    -- As each spoke slot of the black hole destroys one agent, the game has at most d rounds.
     counted : count ≤ d
     counted =
         let lost : count ≤ terms.agents =
@@ -196,7 +196,7 @@ module _ (d : ℕ) (three : 3 ≤ d) (terms : Limits) (strategies : Strategies) 
         let below : port < 3 = state.knows.below node port was in
         far_is other is node port cycle below ∙ agree node port was ∙ sym (far_is member state.is node port cycle below)
 
-    -- so the turn makes the same of the configuration in all of them
+    -- The turn changes the configuration equally in all members of the family that agree with `known`.
     plays_on : (other : Member) → IsMember d other → Agree d state.known other member
         → turns_in (match_on other) blank longer ≡ new
     plays_on other is agree =
@@ -260,7 +260,7 @@ module _ (d : ℕ) (three : 3 ≤ d) (terms : Limits) (strategies : Strategies) 
 
     module _ (node port : ℕ) (came : Option ℕ) (it : IsDeparture node port came)
         (here : IsPort d count member state.known node port) where
-      -- who departs was on no link
+      -- The departing agent was not on a link before.
       not_bound : (other label : ℕ) → state.configuration.position agent ≢ Bound other label
       not_bound other label on = let same : At node came ≡ Bound other label = sym it.at ∙ on in cc
 
@@ -295,7 +295,7 @@ module _ (d : ℕ) (three : 3 ≤ d) (terms : Limits) (strategies : Strategies) 
         not_occupant slot early same = not_bound (member.owner slot) (member.port (member.owner slot) 2)
             (ap state.configuration.position (sym same) ∙ state.stands.occupied slot early)
 
-        -- who is lost on a spoke is so after the exchange
+        -- The exchange preserves the spoke on which an agent was destroyed.
         same_spoke : (slot : ℕ) → slot < count
             → Bound (member.owner slot) (member.port (member.owner slot) 2)
             ≡ Bound (changes.owner slot) (changes.port (changes.owner slot) 2)
@@ -390,7 +390,7 @@ module _ (d : ℕ) (three : 3 ≤ d) (terms : Limits) (strategies : Strategies) 
           below = subst (λ (n : ℕ). port < n) links has;
         })
 
-    -- an arrival is at a node of the cycle
+    -- Arrivals happen at cycle nodes.
     arrives : (node port : ℕ) → state.configuration.position agent ≡ Bound node port
         → 2 * d + 1 ≢ (far member node port).0
         → new.position agent ≡ At (far member node port).0 (Some (far member node port).1)

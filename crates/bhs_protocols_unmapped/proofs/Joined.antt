@@ -1,5 +1,5 @@
--- A member of the family is connected, also without any one node: what is left of the cycle is a path, and each hub
--- has links to more than one of its nodes.
+-- A member of the family is 2-connected: without one node, the cycle is still a path, and each hub has links to several
+-- cycle nodes.
 use Rattle.std.proofs.Common.{ℕ, ◌+◌, ◌-◌, ◌*◌, ◌<◌, ◌≤◌, ◌≡◌, refl, sym, ap}
 use Rattle.std.proofs.Common.{◌∙◌, subst, inl, inr, arith}
 use Rattle.std.specs.Prelude.{◌≢◌}

@@ -122,7 +122,7 @@ module _ (d rim : ℕ) (four : 4 ≤ d) (wide : d + 4 ≤ rim) (fits : rim + 2 �
   ]
 
   module _ (terms : Limits) (strategies : Strategies) (finds : FindsOnNetworks (rim + 2) d terms strategies) where
-    -- the network of a file is the one of the game
+    -- The network of this file equals the network of the game.
     same_network : (shape : Shape) → network_of (net_of d rim shape)
         ≡ (record { nodes = rim + 2; degree = degrees d rim shape.holes; far = far shape })
     same_network shape i = record {

@@ -4,14 +4,14 @@ use Rattle.std.specs.Prelude.{◌≢◌}
 use Rattle.std.proofs.lemmas.Bool.{cond-true, cond-false}
 use Rattle.std.proofs.lemmas.Bool.Decides.{eqb_tells}
 
--- the neighbour of a node on a cycle: the next one for role 0, and the one before for role 1
+-- The neighbour of a node on a cycle: its successor for role 0, its predecessor for role 1.
 unfoldable pub beside : (rim node role : ℕ) → ℕ
 beside rim node role =
     if role == 0
     then (if node + 1 == rim then 0 else node + 1)
     else (if node == 0 then rim - 1 else node - 1)
 
--- how it follows from the node
+-- case analysis: the successor is node 0, or is the next number
 pub next_is : (rim node : ℕ) → ((node + 1 ≡ rim) × (beside rim node 0 ≡ 0)) ⊎ ((node + 1 ≢ rim)
     × (beside rim node 0 ≡ node + 1))
 unfolding beside
@@ -28,7 +28,7 @@ before_is rim node = elim (eqb_tells node 0) [
   | inr h ↦ inr (h.1, cond-false (node == 0) (rim - 1) (node - 1) h.0)
 ]
 
--- a role below 2 is one of the two
+-- Case analysis: a role is 0 or 1.
 pub by_role : (P : ℕ → Type 0) (role : ℕ) → role < 2 → P 0 → P 1 → P role
 by_role P role below zeroth first = elim (eqb_tells role 0) [
   | inl h ↦ subst P (sym h.1) zeroth

@@ -1,6 +1,6 @@
--- A turn makes the same of a configuration on two networks that differ in the links of the black hole only, unless its
--- agent is on a link that leads into the black hole in the one. There such a turn changes nothing. So what a schedule
--- comes to on the one network, the same schedule without these turns comes to on the other.
+-- Two networks differ only in the links of one network's black hole. A turn changes a configuration equally on both,
+-- unless its agent is on a link into the black hole; such turns change nothing. A schedule for one network, with these
+-- turns struck out, therefore leads to the same result on the other.
 use Rattle.std.proofs.Common.{ℕ, ◌<◌, ◌≡◌, Bool, false, ◌||◌, ◌==◌, Option, Some, None, List, [], ◌∷◌}
 use Rattle.std.proofs.Common.{refl, sym, ap, ◌∙◌, subst, if◌then◌else◌, nat_lt, inl, inr}
 use Rattle.std.specs.Prelude.{◌≢◌}
@@ -43,7 +43,7 @@ port_on After = 0
 port_on (At node came) = 0
 port_on (Bound node port) = port
 
--- the other network is the same but for the links of the black hole in the one
+-- The two networks agree on all links but those of the black hole.
 pub record IsLike (hole : ℕ) (ones twos : ℕ → ℕ) (one two : Far) : Type 0 where
   pub same : (node : ℕ) → node ≢ hole → ones node ≡ twos node
   pub ends : (node port : ℕ) → node ≢ hole → port < ones node → (one node port).0 ≢ hole
@@ -226,7 +226,7 @@ module _ (nodes hole : ℕ) (not_home : 0 ≢ hole) (terms : Limits) (strategies
     pub other : List ℕ
     pub same : turns_in second configuration other ≡ turns_in first configuration schedule
 
-  -- what becomes of the agent's turn: it is struck, or it is the same on both
+  -- the two cases: the turn is struck out, or is the same on both networks
   pub data Fate (configuration : Configuration) (agent : ℕ) : Type 0 where
     Lost : turn_in first configuration agent ≡ configuration → Fate configuration agent
     Same : turn_in first configuration agent ≡ turn_in second configuration agent → Fate configuration agent
@@ -269,7 +269,7 @@ module _ (nodes hole : ℕ) (not_home : 0 ≢ hole) (terms : Limits) (strategies
         same = ap (λ (it : Configuration). turns_in second it rest.other) (sym alike) ∙ rest.same;
       }
 
-  -- so an accusation on the one network can be made on the other
+  -- An accusation on one network is possible on the other.
   pub right_there : FindsFor second hole → (schedule : List ℕ) (it : SomeoneHasAccused first schedule)
       → (two it.link.0 it.link.1).0 ≡ hole
   right_there finds schedule it =

@@ -50,7 +50,7 @@ module _ (d : ℕ) (three : 3 ≤ d) (fits : 2 * d + 2 ≤ MAX_NODES) (terms : L
     ]
   ]
 
-  -- the network of a file is the one of the game
+  -- The network of this file equals the network of the game.
   same_network : (member : Member) → network_of (net_of d member)
       ≡ (record { nodes = 2 * d + 2; degree = degrees d; far = far member })
   same_network member i = record {
@@ -81,8 +81,8 @@ module _ (d : ℕ) (three : 3 ≤ d) (fits : 2 * d + 2 ≤ MAX_NODES) (terms : L
       (ap (λ (p : Configuration). p.reached (2 * d)) (state.plays member state.is (λ node port was. refl))
       ∙ state.stands.unreached)
 
-  -- So some agent departs by a port that can lead into the black hole, and one more is lost: again and again, until
-  -- more are lost than there are.
+  -- Induction on the game's rounds: some agent departs by a port that may lead into the black hole, and the adversary
+  -- destroys it, until more agents are lost than the team has.
   lost_all : (rounds count : ℕ) (member : Member) (schedule : List ℕ) → terms.agents < count + rounds
       → State count member schedule → ⊥
   lost_all zero count member schedule left state =
@@ -112,7 +112,7 @@ many_agents_are_needed_with_links degree terms strategies three fits few solves 
     solver_finds (played_on (network_of net) terms strategies home hole).world none_held terms.wakeups strategies hole
     (solves net home hole is nodes degrees_are links_are home_within hole_within apart))
 
--- who finds or solves without the number of links does so with it
+-- A team that finds or solves without the number of links also does when told the number of links.
 
 pub many_agents_are_needed_to_find : ManyAgentsAreNeededToFind
 many_agents_are_needed_to_find degree terms strategies three fits few finds =

@@ -13,7 +13,7 @@ NobodyFinds =
     (degree nodes : ℕ) (terms : Limits) (strategies : Strategies) → 4 ≤ degree → degree + 6 ≤ nodes → nodes ≤ MAX_NODES
     → FindsOnNetworks nodes degree terms strategies → ⊥
 
--- So no team solves them all.
+-- Hence no team solves all of these networks.
 abbrev pub NobodySolves : Type 0
 NobodySolves =
     (degree nodes : ℕ) (terms : Limits) (strategies : Strategies) → 4 ≤ degree → degree + 6 ≤ nodes → nodes ≤ MAX_NODES

@@ -18,11 +18,11 @@ with_thirds of_4 of_5 of_6 of_7 row_of_9 =
 abbrev pub with_four : Network
 with_four = with_thirds (9, 0) (9, 1) (9, 2) (9, 3) ((4, 2) ∷ (5, 2) ∷ (6, 2) ∷ (7, 2) ∷ [])
 
--- nodes 4 and 6 have a link between them, and 5 and 7 lead to node 9
+-- The variant in which nodes 4 and 6 are adjacent, and nodes 5 and 7 have links to node 9.
 abbrev pub with_two : Network
 with_two = with_thirds (6, 2) (9, 0) (4, 2) (9, 1) ((5, 2) ∷ (7, 2) ∷ [])
 
--- nodes 5 and 7 have a link between them, and 4 and 6 lead to node 9
+-- The variant in which nodes 5 and 7 are adjacent, and nodes 4 and 6 have links to node 9.
 abbrev pub with_other_two : Network
 with_other_two = with_thirds (9, 0) (7, 2) (9, 1) (5, 2) ((4, 2) ∷ (6, 2) ∷ [])
 
@@ -32,7 +32,7 @@ pub record IsTenNodeNetwork (net : Network) (count : ℕ) : Type 0 where
   pub nodes : nodes_of net ≡ 10
   pub greatest : HasGreatestDegree net 4
   pub links : degree_of net 9 ≡ count
-  -- the ports of all other nodes are 28 on each of the three
+  -- On each of the three networks, the ports of all nodes but node 9 number 28.
   pub beside : ports_beside net 9 ≡ 28
 
 abbrev pub TheThreeLookAlike : Type 0

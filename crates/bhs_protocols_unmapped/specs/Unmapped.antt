@@ -49,7 +49,7 @@ ManyAgentsAreNeededToFindWithLinks = (degree : ℕ) (terms : Limits) (strategies
     → 2 * degree + 2 ≤ MAX_NODES → terms.agents ≤ degree
     → FindsWithLinks (2 * degree + 2) degree (4 * degree) terms strategies → ⊥
 
--- So no such team solves them all.
+-- Hence no team of so few agents solves all of these networks, even when told the number of links.
 abbrev pub ManyAgentsAreNeededWithLinks : Type 0
 ManyAgentsAreNeededWithLinks = (degree : ℕ) (terms : Limits) (strategies : Strategies) → 3 ≤ degree
     → 2 * degree + 2 ≤ MAX_NODES → terms.agents ≤ degree
@@ -71,7 +71,7 @@ ManyAgentsAreNeeded = (degree : ℕ) (terms : Limits) (strategies : Strategies) 
 abbrev pub halves_limits : (n wakeups : ℕ) → Limits
 halves_limits n wakeups = record { agents = 2; quota = most_commands n; board = 4; wakeups = wakeups }
 
--- Where the greatest degree is 2, each network is a ring: two agents that search by halves solve them all. So a team
--- can do what the premise says, and the degree has to be 3 or more.
+-- Networks of greatest degree 2 are rings, and two agents that search by halves solve them all: the law needs degree 3
+-- or more.
 abbrev pub HalvesSolveNetworks : Type 0
 HalvesSolveNetworks = (n wakeups : ℕ) → SolvesNetworks n 2 (halves_limits n wakeups) (strategies_by (halves n))

@@ -41,7 +41,7 @@ use Rattle.bhs_model.proofs.LegalLemmas.{all_next}
 
 -- ---- what holds of each agent at any time
 
--- an agent that is no agent of the match has not entered; one that is lost is on a link that destroys, or has left
+-- The invariant: a number without an agent has not entered, and a lost agent is on a destroying link or has left.
 abbrev Kempt : World → (agent : ℕ) → Position → (is_lost : Bool) → Type 0
 Kempt world agent Before is_lost = is_lost ≡ false
 Kempt world agent (At node came) is_lost = (nat_lt agent world.agents ≡ true) × (is_lost ≡ false)
@@ -52,7 +52,7 @@ Kempt world agent After is_lost = nat_lt agent world.agents ≡ true
 abbrev AllKempt : World → State → (ℕ → Bool) → Type 0
 AllKempt world state marks = (agent : ℕ) → Kempt world agent (state.position agent) (marks agent)
 
--- who is heard stands so that it is accepted
+-- A command is heard only if the agent's standing accepts it.
 heard_accepts : (world : World) (state : State) (agent : ℕ) (command : Command)
     → IsLegal world (state.past agent) (state.position agent) → heard world state agent command ≡ true
     → (nat_lt agent world.agents ≡ true) × (accepts (standing_at (state.position agent))
@@ -104,7 +104,7 @@ all_kempt_told world state marks agent command legal kempt is_heard other = elim
   | inr h ↦ rw h.0 (kempt other)
 ]
 
--- who arrives was on a link that does not destroy, and so is not lost
+-- An arriving agent was on a link that does not destroy, so it is not lost.
 kempt_arrival : (world : World) (state : State) (marks : ℕ → Bool) (agent : ℕ) (position : Position)
     → is_let_through world position ≡ true → Kempt world agent position (marks agent) → AllKempt world state marks
     → AllKempt world (delivered world state agent position) marks
@@ -124,7 +124,7 @@ kempt_arrival world state marks agent (Bound node port) passes own kempt other =
     safe false dooms implies harmless = refl
 kempt_arrival world state marks agent After passes own kempt other = kempt other
 
--- who is destroyed is on a link that destroys
+-- A destroyed agent was on a link that destroys.
 kempt_destroyed : (world : World) (state : State) (marks : ℕ → Bool) (agent : ℕ)
     → is_doomed world (state.position agent) ≡ true → AllKempt world state marks
     → AllKempt world state (changed marks agent true)
@@ -217,7 +217,7 @@ calm_if_done world agent view (Bound node port) is_lost legal kempt done =
     away_not_ended e = cc
 calm_if_done world agent view After is_lost legal kempt done = tt
 
--- ---- and what an event makes of them
+-- ---- the invariant after an event
 
 calm_told : (world : World) (agent : ℕ) (position : Position) (is_lost room : Bool) (command : Command)
     → nat_lt agent world.agents ≡ true → accepts (standing_at position) room command ≡ true
@@ -285,7 +285,7 @@ calm_next world state marks Close legal calm = calm
 
 -- ---- nothing is found any more
 
--- a reply that is no move
+-- a reply that is no arrival
 abbrev NoMove : Option Reply → Type 0
 NoMove said = (moves : ℕ) → moves_by said moves ≡ moves
 
@@ -437,7 +437,7 @@ calm_finished world state marks calm =
     (λ agent. calm_away world agent (state.position agent) (marks agent) (calm agent))
     (range_with_len 0 world.agents)
 
--- the verdict by whether an agent is at a node, what was found, and who is lost
+-- the verdict, computed from the agents at nodes, the findings and the lost agents
 abbrev verdict_by : World → Bool → Findings → (ℕ → Bool) → Verdict
 verdict_by world unfinished found marks = record {
   outcome = if accuses world found (λ link. not (is_right world link)) then Wrong

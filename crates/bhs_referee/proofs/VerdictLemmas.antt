@@ -40,7 +40,7 @@ found_same walk found follows i = record {
   moves = follows.moves i;
 }
 
--- the verdict that is given by a walk is that of the definitions
+-- The verdict computed by the walk equals the model's verdict.
 pub verdict_same : (play : Play) (net : Network) (setup : Setup) (walk : Walk) (outcome : Outcome) (count : ℕ)
     → Follows walk (findings (world_in play) (events_of play.log)) → net ≡ play.net → setup ≡ play.setup →
     outcome ≡ outcome_of (world_of net setup) (state_of play).position (found_in walk)

@@ -20,8 +20,8 @@ pub record Findings : Type 0 where
 abbrev pub nothing_found : Findings
 nothing_found = record { accused = λ agent. None; reached = λ node. false; moves = 0 }
 
--- the link that an agent at this position has accused after a command with this reply: an accusation that is noted
--- is of the link at a port of the node where the agent is
+-- The link that the agent has accused last: an accusation that is answered Noted names the link at a port of the
+-- agent's node.
 abbrev pub accused_by : Option Reply → Command → Position → (before : Option (ℕ × ℕ)) → Option (ℕ × ℕ)
 accused_by (Some Noted) (Accuse port) (At node came) before = Some (node, port)
 accused_by reply command position before = before
@@ -37,7 +37,7 @@ abbrev pub reached_by : World → Option Reply → Position → (before : ℕ �
 reached_by world (Some here) (Bound node port) before = changed before (world.net.far node port).0 true
 reached_by world reply position before = before
 
--- what is found after an event
+-- the findings after an event
 abbrev pub found_after : World → State → Findings → Event → Findings
 found_after world state found (Tell agent command) =
     let answer = reply world state (Tell agent command) in
@@ -58,6 +58,6 @@ found_from world state found [] = found
 found_from world state found (event ∷ events) =
     found_from world (next world state event) (found_after world state found event) events
 
--- what is found in the events of a match
+-- the findings of a match's events
 abbrev pub findings : World → List Event → Findings
 findings world events = found_from world initial nothing_found events

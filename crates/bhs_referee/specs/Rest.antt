@@ -37,10 +37,10 @@ abbrev pub VerdictsStand : Type 0
 VerdictsStand = (world : World) (events more : List Event) → AreDone world events →
     verdict_after world (events ++ more) ≡ verdict_after world events
 
--- A match that says of each agent that it has ended or is lost is such a match.
+-- A match in which each agent has ended or is lost is such a match.
 abbrev pub DecidedMatchesAreDone : Type 0
 DecidedMatchesAreDone = (play : Play) → AreAllDone play → AreDone (world_in play) (events_of play.log)
 
--- and this is the verdict that is given
+-- This is the verdict that the referee returns.
 abbrev pub VerdictsAreAfterEvents : Type 0
 VerdictsAreAfterEvents = (play : Play) → verdict_of play ≡ verdict_after (world_in play) (events_of play.log)

@@ -21,7 +21,7 @@ passes test (Some link) = test link
 abbrev pub accuses : World → Findings → (test : ℕ × ℕ → Bool) → Bool
 accuses world found test = list_any (λ agent. passes test (found.accused agent)) (range_with_len 0 world.agents)
 
--- whether the link at a port is one of the dark links
+-- whether the link at a port is dark
 abbrev pub is_over_dark : World → ℕ × ℕ → Bool
 is_over_dark world link = is_dark world.net.far world.dark link.0 link.1
 
@@ -48,7 +48,7 @@ is_silent world found =
     || list_any (λ hole. not (is_hole_accused world found hole)) world.holes
     || list_any (λ end. not (is_dark_accused world found end)) world.dark
 
--- whether an agent at this position is at a node
+-- whether the agent stands at a node
 abbrev pub is_present : Position → Bool
 is_present (At node came) = true
 is_present position = false
@@ -65,8 +65,8 @@ is_unreached world found node = not (node == world.home) && (not (is_hole world.
 abbrev pub first_unreached : World → Findings → Option ℕ
 first_unreached world found = find (is_unreached world found) (range_with_len 0 world.net.nodes)
 
--- Some accusation that is right only by a black hole, while a node was not reached, is a guess: the hole could be
--- there.
+-- If the accusations are right only because of a black hole, while some node is unreached, then the outcome is a guess:
+-- the hole could be at that node.
 abbrev pub guess_or_solved : Option ℕ → Outcome
 guess_or_solved (Some node) = Guess node
 guess_or_solved None = Solved

@@ -1,5 +1,5 @@
--- How the pass over a log and its sites goes about it: what it keeps of each agent and each node, and what each event
--- makes of it. That this is what the definitions say is proved of it.
+-- The referee's pass over a log and its sites: what it stores of each agent and node, and how each event changes that.
+-- Its agreement with the model's verdict is proved.
 use Rattle.std.specs.Prelude.{ℕ, ◌+◌, true, false, Option, Some, None, List, [], ◌∷◌}
 use Rattle.std.specs.Prelude.{slice_index_or, slice_set, replicate}
 use Rattle.bhs_model.specs.declared.commands.Command.{Command}
@@ -35,7 +35,7 @@ walk_told walk agent command mark site = record {
   moves = moves_told mark walk.moves;
 }
 
--- the walk after an arrival, or without one after a loss
+-- the walk after an arrival, or after a loss if there is no mark
 abbrev pub walk_delivered : Walk → Option Mark → (site : Option ℕ) → Walk
 walk_delivered walk (Some mark) (Some node) = record walk { reached = slice_set walk.reached node true }
 walk_delivered walk mark site = walk

@@ -38,7 +38,7 @@ fn outcome(net: &Net, setup: &Setup, sealed: &Sealed, walk: &Walk) -> Outcome
     outcome_by(net, setup, is_unfinished(net, setup, sealed), walk)
 }
 
-/// The outcome by what was found, and by whether some agent is at a node.
+/// Computes the outcome from the findings, and from whether some agent stands at a node.
 pub fn outcome_by(net: &Net, setup: &Setup, is_unfinished: bool, walk: &Walk) -> Outcome
     ensures { (position : ℕ → Position) → is_unfinished ≡ is_unfinished_at (world_of net.now setup.now) position
         → result ≡ outcome_of (world_of net.now setup.now) position (found_in walk.now) }

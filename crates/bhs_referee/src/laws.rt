@@ -2,8 +2,8 @@
 
 ghost use Rattle.bhs_referee.specs.Rest.{DecidedMatchesAreDone, VerdictsAreAfterEvents, VerdictsStand};
 
-/// Once each agent has ended or is lost, nothing that may still happen changes the verdict. So it is where `is_decided`
-/// of a match says it.
+/// Once each agent has ended or is lost, no further event changes the verdict. This is the case where a match's
+/// `is_decided` returns true.
 pub fn verdicts_stand()
     ensures stand { VerdictsStand }
     ensures decided { DecidedMatchesAreDone }

@@ -1,4 +1,4 @@
-//! What is to be known of a link that was accused, which is named by a node and a port.
+//! Properties of an accused link, which is named by a node and a port.
 
 ghost use Rattle.std.specs.Prelude.{◌≡◌};
 ghost use Rattle.bhs_model.specs.Setups.{world_of};

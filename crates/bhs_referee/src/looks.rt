@@ -86,7 +86,7 @@ pub(crate) fn is_silent(net: &Net, setup: &Setup, walk: &Walk) -> bool
     !accuses(net, setup, walk) || leaves_hole(net, setup, walk) || leaves_link(net, setup, walk)
 }
 
-/// Whether some agent is at a node.
+/// Returns whether some agent stands at a node.
 pub(crate) fn is_unfinished(net: &Net, setup: &Setup, sealed: &Sealed) -> bool
     ensures { result ≡ is_unfinished (world_of net.now setup.now) (state_of sealed.now).position }
 {

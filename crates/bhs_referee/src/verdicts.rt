@@ -5,9 +5,10 @@
 pub enum Outcome {
     /// The accusations are right and leave nothing out.
     Solved,
-    /// They are right, but no agent arrived at this node, the least such one: the black hole could be there.
+    /// The accusations are right, but no agent arrived at this node (the least such node), so the black hole could be
+    /// there.
     Guess { node: u16 },
-    /// An agent was at a node at the close.
+    /// Some agent was at a node when the match closed.
     Unfinished,
     /// Nobody accused, or no accusation names some black hole or dark link.
     Silent,
@@ -15,7 +16,7 @@ pub enum Outcome {
     Wrong,
 }
 
-/// What is said of a match that has ended.
+/// The result of a match that has ended.
 #[derive(Clone, Copy, Debug, PartialEq, Eq)]
 pub struct Verdict {
     pub outcome: Outcome,

@@ -15,7 +15,7 @@ first_says stage (Says other ∷ items) line is =
     let same : other ≡ line = cc in
     ap (λ (one : Line). entry_by stage (said_by one)) same
 
--- whom a line lets in plays in a match that there is
+-- An admitted agent belongs to an existing match.
 pub sits_within : (stage : Stage) (items : List Item) (seat : ℕ × ℕ) → entry stage items ≡ Sits seat
     → seat.0 < length stage.games
 sits_within stage items seat is = grind (arith, common_steps)

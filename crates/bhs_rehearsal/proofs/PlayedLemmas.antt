@@ -52,7 +52,7 @@ played_lemma old new held event mark log net setup =
     ∙ by_keep (keeps_next (matches.world_in old) old.log event) old.net old.setup held old.log
     (record { event = event; mark = mark })
 
--- what is not kept did not arrive
+-- An event that is not kept did not arrive.
 not_arrived : (arrived other : Bool) (told : Option Reply) → (arrived || other) ≡ false
     → None ≡ (if arrived then told else None)
 not_arrived true other told is = cc
@@ -82,7 +82,7 @@ arrival_lemma old new held agent answer is =
     (λ none. not_arrived (arrives world state agent)
     (destroys world state agent && not (lost world (events_of old.log) agent)) _ none)
 
--- what a draw makes of a match, and whom it tells what
+-- the effect of a draw on a match, and the arrival that it reports
 pub one_drawn : (old new : Play) (held : List (ℕ × ℕ)) (word agent : ℕ) (found : DrawnOfCode) (told : Option Reply)
     → found ≡ drawing.drawn (held_in held) (matches.state_of old) word →
     IsPlayedIf old (draw (held_in held) (matches.state_of old) word) new → found ≡ Delivered agent →
@@ -148,7 +148,7 @@ one_delivered old new held agent told played_if read =
     go false true is = none is
     go false false is = done is
 
--- whom a draw tells what, by what it makes of the match
+-- the arrival that a draw reports, computed from its effect on the match
 pub told_drawn : (one other : DrawResult) (before : List ℕ) → one ≡ other
     → (one.game ≡ other.game) × (told_to before one.arrival ≡ told_to before other.arrival)
 told_drawn one other before same =

@@ -11,7 +11,7 @@ nothing_fits : FitsHeld (Some [])
 nothing_fits = λ line is. let same : [] ≡ line = cc in
     subst (λ (bytes : List ℕ). length bytes ≤ MAX_LINE) same (omega arith)
 
--- what it gives where no line is unfinished, and that none is unfinished after it
+-- A single complete line: the result, and an empty buffer afterwards.
 found_whole : (bytes line : List ℕ) → bytes ≡ line ++ 10 ∷ [] → list_any is_line_feed line ≡ false
     → found_in (Some []) bytes ≡ given line
 found_whole bytes line is flat =

@@ -64,7 +64,7 @@ same_parts keys failed games games' connections connections' teams teams' one tw
       has_failed = failed;
     }) three
 
--- the match, or the connection, of a number is there
+-- The match, or the connection, with this number exists.
 pub game_within : (ready : List Ready) (keys : List Seat) (connections : List Connection) (failed : Bool)
     (old : Rehearsing) (place : ℕ) →
     rehearsing ready keys connections failed ≡ old → place < length old.stage.games → place < length ready
@@ -123,7 +123,7 @@ draws_lemma ready keys connections failed place choice one new before text (Ok a
     )
 draws_lemma ready keys connections failed place choice one new before text (Err memory) within read is team = tt
 
--- a stage with the match that it has
+-- Replacing a match by itself changes nothing.
 same_game : (stage : Stage) (game : ℕ) → with_game stage game (game_at stage game) ≡ stage
 same_game stage game = ap (λ (games : List Game). record stage { games = games }) (set-get_or stage.games game _)
 
@@ -300,7 +300,7 @@ pub shut_length : (number : ℕ) (game : Game) (connections : List Connection)
 shut_length number game connections = length-map connections
     (λ connection. if waits_in number game connection then shut connection else connection)
 
--- the connections of which those that wait are shut
+-- the connections after the waiting ones are closed
 pub all_shut : (connections : Vec Connection Global) (new : List Connection) (number : ℕ) (game : Game)
     → new ≡ shut_in number game connections.items → length connections.items ≡ connections.len →
     (with_items connections new).items ≡ shut_in number game connections.items

@@ -1,4 +1,4 @@
--- Taking the items of a connection, one by one.
+-- Loop invariant: taking the items of a connection in order.
 use Rattle.std.proofs.Common.{◌≡◌, ℕ, Bool, true, false, List, [], ◌∷◌, refl}
 use Rattle.std.proofs.Common.{if◌then◌else◌}
 use Rattle.bhs_model.specs.declared.events.Event.TheVariants.{Tell}
@@ -44,7 +44,7 @@ pub takes_end : (game : Game) (agent : ℕ) (items : List Item) → is_away game
     }
 takes_end game agent items here = if_away (is_away game agent) _ _ here
 
--- none is taken of an agent that is away
+-- An agent on a link takes no item.
 pub takes_none : (game : Game) (agent : ℕ) (items : List Item) → is_away game agent ≡ true
     → taken game agent items ≡ leaves game items
 takes_none game agent [] away = refl

@@ -1,4 +1,4 @@
--- The connections of a rehearsal, and how the items of one are taken.
+-- The connections of a rehearsal, and how a connection's items are taken.
 use Rattle.std.specs.Prelude.{ℕ, Bool, true, false, Option, Some, None, List, [], ◌∷◌, ◌++◌, if◌then◌else◌}
 use Rattle.bhs_model.specs.declared.events.Event.TheVariants.{Tell}
 use Rattle.bhs_model.specs.declared.commands.Command.TheVariants.{Leave}
@@ -16,11 +16,11 @@ pub data Item : Type 0 where
   Ends : Item
 
 pub record Connection : Type 0 where
-  -- the numbers of the match and of the agent that it plays; None if it was not let in
+  -- The numbers of its match and agent; None before an agent is admitted.
   pub seat : Option (ℕ × ℕ)
-  -- its unfinished line; None if it is too long
+  -- The unfinished line; None if it is too long.
   pub unfinished : Option (List ℕ)
-  -- the items that were not taken
+  -- the items that were not taken yet
   pub queue : List Item
   -- whether its input has ended, or is no longer looked at
   pub ended : Bool
@@ -46,7 +46,7 @@ pub record TakenItems : Type 0 where
   -- the text that the connection is sent
   pub text : List ℕ
 
--- where an answer to a line leads the machine of a session, and whether it is the last
+-- the phase of the session after a reply, which may be the last
 abbrev pub answered : Reply → Phase
 answered reply = hear Ready (Answers reply)
 
@@ -57,8 +57,8 @@ is_last reply = is_finished (behind_text (answered reply))
 abbrev pub leaves : Game → List Item → TakenItems
 leaves game items = record { game = game; is_done = false; left = items; text = [] }
 
--- the text of a reply, and what the other items come to where it is not the last. Each command is answered: the
--- first line never comes
+-- The text of a reply, followed by the effect of the remaining items unless the reply is the last one. Each command
+-- gets a reply: the first case does not occur.
 abbrev pub answers : Option Reply → Game → TakenItems → TakenItems
 answers None game others = others
 answers (Some reply) game others =

@@ -1,4 +1,4 @@
--- A match of a rehearsal, and what an event makes of it.
+-- A match of a rehearsal, and the effect of an event on it.
 use Rattle.std.specs.Prelude.{ℕ, Bool, Option, List, [], ◌∷◌, ◌++◌, if◌then◌else◌}
 use Rattle.bhs_net.specs.Network.{Network}
 use Rattle.bhs_model.specs.declared.setups.Setup.{Setup}
@@ -28,18 +28,18 @@ world_in game = world_of game.net game.setup
 abbrev pub state_of : Game → State
 state_of game = run (world_in game) game.log
 
--- the match after an event, which is logged where it is kept
+-- the match after an event, which is logged if it is kept
 abbrev pub played : Game → Event → Game
 played game event =
     if keeps (world_in game) (state_of game) (lost (world_in game) game.log) event
     then record game { log = game.log ++ event ∷ [] }
     else game
 
--- what is answered to an event
+-- the reply to an event
 abbrev pub reply_to : Game → Event → Option Reply
 reply_to game event = reply (world_in game) (state_of game) event
 
--- whether an agent is on a link
+-- whether an agent travels on a link
 abbrev pub is_away : Game → (agent : ℕ) → Bool
 is_away game agent = is_bound ((state_of game).position agent)
 

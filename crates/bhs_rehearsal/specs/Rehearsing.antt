@@ -1,4 +1,4 @@
--- A rehearsal, and what its calls make of it.
+-- A rehearsal, and the effects of its calls.
 use Rattle.std.specs.Prelude.{ℕ, ◌≡◌, ◌<◌, Bool, true, false, nat_lt, Option, Some, None, List, [], ◌∷◌}
 use Rattle.std.specs.Prelude.{length, map, if◌then◌else◌, Vec, Ok, Err}
 use Rattle.std.specs.declared.alloc.Global.{Global}
@@ -37,11 +37,11 @@ abbrev pub seen_item : ItemOfCode → Item
 seen_item (items.Says line) = Says (seen line)
 seen_item items.Ends = Ends
 
--- what is sent to a connection
+-- the text sent to a connection
 abbrev pub seen_out : Out → ℕ × List ℕ
 seen_out out = (out.conn, out.bytes.items)
 
--- what is sent to one connection, if anything is, and to several
+-- the texts sent to at most one connection, and to several
 abbrev pub sent_once : Option Out → List (ℕ × List ℕ)
 sent_once None = []
 sent_once (Some out) = seen_out out ∷ []
@@ -53,7 +53,7 @@ sent_all outs = map seen_out outs.items
 abbrev pub stage_of : List Ready → List Seat → List Connection → Stage
 stage_of ready keys connections = record { games = map game_of ready; keys = keys; connections = connections }
 
--- the matches of a lineup, and how a rehearsal of it begins
+-- the matches of a lineup, and the initial stage of its rehearsal
 abbrev pub games_of : Lineup → List Game
 games_of lineup = map game_of lineup.ready.items
 

@@ -93,7 +93,7 @@ entry stage [] = Waits
 entry stage (Says line ∷ items) = entry_by stage (said_by line)
 entry stage (Ends ∷ items) = Goes
 
--- a stage, and the text that a connection is sent on the way to it
+-- a stage, and the text that a connection gets on the way to it
 pub record Moved : Type 0 where
   pub stage : Stage
   pub text : List ℕ
@@ -123,7 +123,7 @@ abbrev pub moves_in : Stage → (conn : ℕ) → Option (ℕ × ℕ) → Moved
 moves_in stage conn None = enters stage conn (entry stage (connection_at stage conn).queue)
 moves_in stage conn (Some seat) = plays stage conn seat
 
--- a connection takes of its items what it can. The line that lets it in is taken as the command Enter
+-- A connection takes as many of its items as it can. The line that admits its agent acts as the command Enter.
 abbrev pub moves : Stage → (conn : ℕ) → Moved
 moves stage conn = moves_in stage conn (connection_at stage conn).seat
 
@@ -142,7 +142,7 @@ pub data Instruction : Type 0 where
   -- a match is ended
   Closes : (game : ℕ) → Instruction
 
--- the stage after an instruction, and the texts that are sent, each with the number of its connection
+-- the stage after an instruction, and the texts sent, each with the number of its connection
 pub record Stepped : Type 0 where
   pub stage : Stage
   pub outs : List (ℕ × List ℕ)
@@ -183,7 +183,7 @@ ends stage conn =
 abbrev pub news : Reply → Phase
 news reply = hear Awaits (Answers reply)
 
--- an arrival is told to the connection that plays the agent, which then takes of its items what it can
+-- Reports an arrival to the agent's connection, which then takes as many of its items as it can.
 abbrev pub tells_arrival : Stage → Option Reply → Option ℕ → Stepped
 tells_arrival stage None holder = nothing stage
 tells_arrival stage (Some reply) None = nothing stage
@@ -204,7 +204,7 @@ waits_in number game connection = waits connection.seat where
   waits None = false
   waits (Some seat) = (seat.0 == number) && is_away game seat.1
 
--- the connections after the end of a match: those that waited in it are done
+-- the connections after the end of a match: those that waited in it are closed
 abbrev pub shut_in : (number : ℕ) → Game → List Connection → List Connection
 shut_in number game connections =
     map (λ connection. if waits_in number game connection then shut connection else connection) connections
@@ -226,7 +226,7 @@ closes stage game =
       outs = told_over game old 0 stage.connections;
     }
 
--- an instruction for a connection or a match that is not there does nothing
+-- An instruction with the number of no connection or match has no effect.
 abbrev pub step : Stage → Instruction → Stepped
 step stage (Feeds conn bytes) = if nat_lt conn (length stage.connections) then feeds stage conn bytes else nothing stage
 step stage (EndsInput conn) = if nat_lt conn (length stage.connections) then ends stage conn else nothing stage
@@ -241,7 +241,7 @@ step stage (Closes game) = if nat_lt game (length stage.games) then closes stage
 abbrev pub begun : (games : List Game) → (keys : List Seat) → (connections : ℕ) → Stage
 begun games keys connections = record { games = games; keys = keys; connections = replicate connections unfed }
 
--- how it stands after a script
+-- the stage after a script
 abbrev pub stands_after : Stage → List Instruction → Stage
 stands_after stage [] = stage
 stands_after stage (instruction ∷ script) = stands_after (step stage instruction).stage script

@@ -18,7 +18,7 @@ use Rattle.bhs_rehearsal.specs.declared.entries.EntryResult.TheVariants as entri
 use Rattle.bhs_rehearsal.specs.declared.faults.RehearsalFault.{RehearsalFault}
 use Rattle.bhs_rehearsal.specs.declared.faults.RehearsalFault.TheVariants.{Memory}
 
--- with this text before the text of what is taken
+-- prepends a text to the output of the taken items
 abbrev pub behind : List ℕ → TakenItems → TakenItems
 behind text taken = record taken { text = text ++ taken.text }
 
@@ -27,7 +27,7 @@ abbrev pub goes_on : (is_done : Bool) → Game → (agent : ℕ) → List Item �
 goes_on true game agent items text = record { game = game; is_done = true; left = []; text = text }
 goes_on false game agent items text = behind text (taken game agent items)
 
--- the items that are left: none of a connection that is done
+-- The remaining items; none for a closed connection.
 abbrev pub left_if : (is_done : Bool) → List Item → List Item
 left_if is_done items = if is_done then [] else items
 
@@ -55,7 +55,7 @@ abbrev pub IsConcluded : {T : Type 0} → Rehearsing → Result T AllocError →
 IsConcluded old (Ok outs) result new = (result ≡ Ok outs) × (new ≡ old)
 IsConcluded old (Err memory) result new = (result ≡ Err Memory) × (new.has_failed ≡ true)
 
--- a match after an event that was drawn, if one was, and the arrival that is told
+-- a match after an optional event of a draw, and the arrival to report
 pub record DrawResult : Type 0 where
   pub game : Game
   pub arrival : Option (ℕ × Reply)
@@ -69,7 +69,7 @@ after_draw game (Some (Deliver agent)) =
     }
 after_draw game event = record { game = game; arrival = None }
 
--- whom an arrival tells, and the text with what it tells behind it
+-- the agent that an arrival is reported to, and the text with the report appended
 abbrev pub told_to : (before : List ℕ) → Option (ℕ × Reply) → Option ℕ × List ℕ
 told_to before None = (None, before)
 told_to before (Some arrival) = (Some arrival.0, before ++ text_of arrival.1)
@@ -81,6 +81,6 @@ IsDrawn old game drawn before (Ok agent) text new =
     ((agent, text) ≡ told_to before drawn.arrival) × (new ≡ on_stage old (with_game old.stage game drawn.game))
 IsDrawn old game drawn before (Err memory) text new = Unit {0}
 
--- the mark at a place of a log; none behind its end
+-- The mark at a place of a log; None beyond its end.
 abbrev pub mark_at : List Kept → (place : ℕ) → Option Mark
 mark_at log place = option_and_then (λ kept. kept.mark) (slice_get log place)

@@ -85,7 +85,7 @@ impl<'s> Connection<'s> {
         }
     }
 
-    // Whether it waits for its agent to arrive in this match, which has this number.
+    // Returns whether the connection waits for its agent to arrive in the match with this number.
     pub(crate) fn waits_in(&self, number: u32, ready: &Ready) -> bool
         ensures { result ≡ waits_in number (game_of ready.now) self.now }
     {

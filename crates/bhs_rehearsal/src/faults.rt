@@ -3,9 +3,9 @@
 /// Why a rehearsal refuses a call.
 #[derive(Clone, Copy, Debug, PartialEq, Eq)]
 pub enum RehearsalFault {
-    /// There is no connection of this number.
+    /// No connection has this number.
     Conn = 1,
-    /// There is no match of this number.
+    /// No match has this number.
     NoGame = 2,
     /// Memory ran out, in this call or in an earlier one.
     Memory = 3,

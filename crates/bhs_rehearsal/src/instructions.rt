@@ -123,7 +123,7 @@ impl<'s> Rehearsal<'s> {
         self.holders.holder(seat)
     }
 
-    // An arrival is told to the connection that plays the agent, which then takes of its items what it can.
+    // Reports an arrival to the agent's connection, which then takes as many of its items as it can.
     fn tells_arrival(
         &mut self,
         alloc: Global,
@@ -273,7 +273,7 @@ fn draw_in(
     }
 }
 
-// The reply to the event at a place of the log, if one stands there and was answered.
+// Returns the reply to the event at a place of the log, if the event exists and got one.
 fn reply_at(game: &Match, place: usize) -> Option<LentReply<'_>>
     ensures { option_map reply_of result ≡ read_if game.now.log (mark_at game.now.log place) }
 {

@@ -13,7 +13,7 @@ use bhs_session::push_denial;
 use std::alloc::Global;
 
 impl<'s> Rehearsal<'s> {
-    // A connection takes of its items what it can. Adds the text that it is sent.
+    // Lets a connection take as many of its items as it can, and appends the text that it gets.
     pub(crate) fn moves(
         &mut self,
         alloc: Global,

@@ -22,9 +22,9 @@ use std::mem::replace;
 /// A rehearsal of a tournament in memory: connections are fed bytes, words are drawn and matches are ended, and
 /// each call gives what the connections are sent.
 ///
-/// Each connection acts as a session does. Its first line must be an enter with a key that lets it in. Its lines
-/// and then its end are taken in order, while its agent is not on a link. After its end nothing of it is looked
-/// at. Contracts see the stage, which is the matches, the keys and the connections.
+/// A rehearsal of the matches of a lineup. Each connection behaves as a session: its first line must be an enter with a
+/// key that admits an agent; its lines and then its end are taken in order, while its agent is not on a link; after its
+/// end its input is ignored. Contracts see the stage, which consists of the matches, the keys and the connections.
 ///
 /// What connections are fed is borrowed, and not copied, while lines of it wait.
 ///
@@ -39,7 +39,7 @@ pub struct Rehearsal<'s> {
     pub(crate) line_reader: LineReader,
     // The lines that end in what a connection is fed, before they are queued.
     pub(crate) found: VecDeque<Raw<'s>>,
-    // The memory of a text that was sent, for the next one.
+    // The buffer of the previous output, for reuse.
     pub(crate) spare: Vec<u8>,
     pub(crate) has_failed: bool,
 }
@@ -87,7 +87,7 @@ impl<'s> Rehearsal<'s> {
         })
     }
 
-    /// Feeds bytes to a connection. `Conn` if there is no such connection.
+    /// Feeds bytes to a connection. Fails with `Conn` if the connection does not exist.
     pub fn feed(&mut self, conn: u16, bytes: &'s [u8]) -> Result<Option<Out>, RehearsalFault>
         ensures { Follows sent_once self.old (Feeds conn bytes.now) result self.new }
     {
@@ -101,8 +101,8 @@ impl<'s> Rehearsal<'s> {
         self.settled(outs)
     }
 
-    /// Feeds bytes that are lent for this call alone: lines of them that wait are copied. `Conn` if there is no such
-    /// connection.
+    /// Feeds bytes that are borrowed for this call only; lines that must wait are copied. Fails with `Conn` if the
+    /// connection does not exist.
     pub fn feed_copied(&mut self, conn: u16, bytes: &[u8]) -> Result<Option<Out>, RehearsalFault>
         ensures { Follows sent_once self.old (Feeds conn bytes.now) result self.new }
     {
@@ -116,7 +116,7 @@ impl<'s> Rehearsal<'s> {
         self.settled(outs)
     }
 
-    /// Ends the input of a connection. `Conn` if there is no such connection.
+    /// Ends the input of a connection. Fails with `Conn` if the connection does not exist.
     pub fn end(&mut self, conn: u16) -> Result<Option<Out>, RehearsalFault>
         ensures { Follows sent_once self.old (EndsInput conn) result self.new }
     {
@@ -130,7 +130,7 @@ impl<'s> Rehearsal<'s> {
         self.settled(outs)
     }
 
-    /// Draws a word in a match. `NoGame` if there is no such match.
+    /// Draws a word in a match. Fails with `NoGame` if the match does not exist.
     pub fn draw(&mut self, game: u32, word: u32) -> Result<Option<Out>, RehearsalFault>
         ensures { Follows sent_once self.old (Draws game word) result self.new }
     {
@@ -144,8 +144,8 @@ impl<'s> Rehearsal<'s> {
         self.settled(outs)
     }
 
-    /// Delivers an agent of a match, unless its link is held. `NoGame` if there is no such match; an agent that is not
-    /// there, or on no link, is not delivered.
+    /// Delivers an agent of a match, unless its link is held; an agent that does not exist, or is on no link, is not
+    /// delivered. Fails with `NoGame` if the match does not exist.
     pub fn deliver(&mut self, game: u32, agent: u16) -> Result<Option<Out>, RehearsalFault>
         ensures { Follows sent_once self.old (Delivers game agent) result self.new }
     {
@@ -159,7 +159,7 @@ impl<'s> Rehearsal<'s> {
         self.settled(outs)
     }
 
-    /// Ends a match. Only the first time does something. `NoGame` if there is no such match.
+    /// Closes a match; closing it again has no effect. Fails with `NoGame` if the match does not exist.
     pub fn close(&mut self, game: u32) -> Result<Vec<Out>, RehearsalFault>
         ensures { Follows sent_all self.old (Closes game) result self.new }
     {

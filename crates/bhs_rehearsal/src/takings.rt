@@ -59,7 +59,7 @@ fn next_item<'s>(ready: &Ready, agent: u16, queue: &mut VecDeque<Item<'s>>) -> O
     queue.pop_front()
 }
 
-// Takes one item of an agent that is not away. Says whether it was the last.
+// Takes one item of an agent that is at a node. Returns whether it was the last.
 fn take_item(
     alloc: Global,
     line_reader: &mut LineReader,
@@ -92,7 +92,7 @@ fn take_item(
     }
 }
 
-// Tells a command, and adds the text of its answer. Says whether this is the last.
+// Submits a command and appends the text of its reply. Returns whether the reply is the last.
 fn answer_command(
     alloc: Global,
     ready: &mut Ready,

@@ -1,4 +1,4 @@
--- What is read of each item of the data is what is read of each value.
+-- Reading each item of the data gives the results of reading each value.
 use Rattle.std.proofs.Common.{Option}
 use Rattle.serde_json.specs.Data.{Data}
 use Rattle.serde_json.specs.View.{view}

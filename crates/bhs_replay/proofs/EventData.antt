@@ -24,7 +24,7 @@ answer_data (Some reply) = data_of reply
 abbrev pub reply_member : Option Reply → Members
 reply_member reply = member (codes "reply") (answer_data reply) no_members
 
--- what is said, and the members behind it
+-- the members of a command, followed by further members
 abbrev pub said_members : Command → Members → Members
 said_members Enter rest = member (codes "do") (string (codes "enter")) rest
 said_members Look rest = member (codes "do") (string (codes "look")) rest
@@ -46,7 +46,7 @@ event_data (Deliver agent) reply =
     (member (codes "do") (string (codes "deliver")) (reply_member reply)))
 event_data Close reply = object (member (codes "do") (string (codes "close")) (reply_member reply))
 
--- ---- these are data of a line
+-- ---- these are the data of a line
 
 why_ascii : (why : Why) → are_ascii (word why) ≡ true
 why_ascii Agent = refl

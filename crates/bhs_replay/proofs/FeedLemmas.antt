@@ -10,13 +10,13 @@ use Rattle.bhs_replay.specs.Stages.{Wrong, Follows, Comes}
 use Rattle.bhs_replay.specs.Readers.{stage_in, Stands, Holds, IsPast}
 use Rattle.bhs_replay.proofs.ReaderLemmas.{leads_on, stands_on, comes_wrong, stands_holding, comes_past}
 
--- the fault that comes through a `?` is this one
+-- The operator `?` passes on exactly this fault.
 pub fault_is : {T : Type 0} (r : Result T ReplayFault) (fault : ReplayFault) (P : ReplayFault → Type 0)
     → IsErrAnd r (λ e. e ≡ fault) → P fault → IfErr r P
 fault_is (Ok x) fault P is holds = tt
 fault_is (Err e) fault P is holds = subst P (sym is) holds
 
--- of a piece behind a text, all but this was fed
+-- After some text, all bytes of the piece except a remainder were fed.
 pub record FedUpTo (text piece after : List ℕ) (now : Reader) : Type 0 where
   pub done : List ℕ
   pub split : piece ≡ done ++ after

@@ -7,7 +7,7 @@ use Rattle.serde_json.specs.Data.{Data}
 use Rattle.serde_json.specs.View.{items_of}
 use Rattle.serde_json.specs.Written.{items_outline}
 
--- what is still to be written of a list, with its end
+-- the remaining items of a list as tokens, with the closing bracket
 abbrev pub rest_tokens : List Data → List Token
 rest_tokens items = items_tokens (items_outline (items_of items))
 

@@ -44,7 +44,7 @@ pub record HeadFits (net : Network) (setup : Setup) : Type 0 where
 
 -- ---- a head is data of a line
 
--- the members from the links on
+-- the members of a head from the links on
 abbrev last_members : ℕ → Network → Setup → Members
 last_members n net setup =
     member (codes "links") (listed (map link_data (links_of net)))
@@ -105,7 +105,7 @@ module _ (net : Network) (setup : Setup) (fits : HeadFits net setup) (version : 
   pub head_utf8 : IsUtf8 (head_line version net setup)
   head_utf8 = line_utf8 (head_data version net setup) 3 (head_of_line ⊤ net setup fits version)
 
--- ---- and the data say what they were made of
+-- ---- reading the data gives the parts that they were made from
 
 small : (n : ℕ) → IsSmall n → nat_lt n (2 ^ 16) ≡ true
 small n fits = lt-ltb n (2 ^ 16) fits

@@ -1,4 +1,4 @@
--- The tokens of a head, one part after the other.
+-- The tokens of a head as a concatenation of its parts.
 use Rattle.std.proofs.Common.{◌≡◌, ℕ, List, [], ◌∷◌, ◌++◌, codes, decimal, refl, ap, ◌∙◌, append_assoc}
 use Rattle.std.specs.Prelude.{map}
 use Rattle.json.specs.Token.{Token}
@@ -9,7 +9,7 @@ use Rattle.bhs_replay.specs.declared.heads.Version.TheVariants.{One, Two, Three}
 use Rattle.bhs_replay.specs.Head.{links_of, listed, link_data, whole, end_data, listing_data, head_data}
 use Rattle.bhs_replay.specs.HeadTokens.{data_tokens, listing_tokens, doom_tokens, version_number}
 
--- two parts, one after the other
+-- the concatenation of two parts
 joined : (start mid end p q : List Token) → mid ≡ start ++ p → end ≡ mid ++ q → end ≡ start ++ (p ++ q)
 joined start mid end p q first second = second ∙ ap (λ t. t ++ q) first ∙ append_assoc start p q
 
@@ -19,7 +19,7 @@ member_tokens name n = Token.key name ∷ Token.number (decimal n) ∷ []
 abbrev pub links_tokens : Network → List Token
 links_tokens net = Token.key (codes "links") ∷ data_tokens (listed (map link_data (links_of net)))
 
--- the parts before and behind what destroys
+-- the parts before and after the black holes and dark links
 abbrev front : Setup → List Token → List Token
 front setup rest = Token.begin_object ∷ (member_tokens (codes "agents") setup.agents
     ++ (member_tokens (codes "board") setup.board ++ rest))

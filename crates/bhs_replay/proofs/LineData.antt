@@ -25,7 +25,7 @@ use Rattle.serde_json.proofs.Numbers.{number_of-decimal}
 use Rattle.serde_json.proofs.Texts.{print-outline}
 use Rattle.bhs_replay.proofs.Flat.{IsFlat, IsPlain, ArePlain, HavePlain, text_flat}
 
--- the members that are there once an object was read, where some were there before
+-- the members after reading an object, placed after earlier members
 abbrev pub placed : Members → Members → Members
 placed no_members found = found
 placed (member key value others) found = placed others (put key value found)

@@ -12,11 +12,11 @@ use Rattle.bhs_replay.specs.Head.{link_from}
 abbrev pub every : (node port : ℕ) → Bool
 every node port = true
 
--- the links of the nodes before this one
+-- the links of all earlier nodes
 abbrev pub links_before : Network → (node : ℕ) → List Link
 links_before net node = map (link_from net) (flat_map (links_at net every) (range_with_len 0 node))
 
--- the links at the ports of a node before this one
+-- the links at the lower ports of a node
 abbrev pub links_until : Network → (node port : ℕ) → List Link
 links_until net node port = map (link_from net)
     (filter (is_lesser_end net every) (map {B = ℕ × ℕ} (λ port. (node, port)) (range_with_len 0 port)))

@@ -1,4 +1,4 @@
--- Each of a list, and each with the later ones.
+-- Predicates on each item of a list, and on each pair of items.
 use Rattle.std.proofs.Common.{◌≡◌, ℕ, zero, suc, ◌+◌, ◌<◌, ◌≤◌, Bool, true, false, cond, length, List, [], ◌∷◌, ◌++◌}
 use Rattle.std.proofs.Common.{refl, arith}
 use Rattle.std.specs.Prelude.{map, filter, ⊤, slice_index_or}
@@ -46,7 +46,7 @@ module _ {A : Type 0} (P : A → Type 0) where
         (λ place other within. each (suc place) other (omega arith)),
   )
 
--- ---- each of a list with the later ones
+-- ---- predicates on pairs of an item and a later item
 
 module _ {A : Type 0} (R : A → A → Type 0) where
   abbrev pub EachTwo : List A → Type 0

@@ -91,7 +91,7 @@ abbrev pub AreApart : Network → ℕ × ℕ → ℕ × ℕ → Type 0
 AreApart net one other = ¬ SharesEnd (link_from net one) (link_from net other)
 
 module _ (net : Network) (labelled : IsPortLabelled net) where
-  -- an end that is the far one of another has that as its far one
+  -- Far ends are symmetric: the far end of an end's far end is that end.
   far_back : (one other : ℕ × ℕ) → IsLesser net one → far_of net one.0 one.1 ≡ other → far_of net other.0 other.1 ≡ one
   far_back one other is same = ap (λ (e : ℕ × ℕ). far_of net e.0 e.1) (sym same) ∙ labelled.back one.0 one.1 is.0
 

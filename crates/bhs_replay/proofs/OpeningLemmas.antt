@@ -88,7 +88,7 @@ started_so nodes links links' setup net play same makes fits is =
       is ∙ ap (λ n. record { net = n; setup = normal n setup; log = [] }) net_is,
     )
 
--- ---- a setup without a fault is within the limits
+-- ---- a setup without a fault satisfies the limits
 
 all_true : (home holes agents quota board dark : Bool)
     → (if not home then Some setup_faults.Home
@@ -118,7 +118,7 @@ fit_within net setup labelled none =
     all_fit net setup labelled (ltb-true setup.home (nodes_of net) all.0) all.1.0 agents.0 agents.1 quota.0 quota.1
     (leb-true setup.board MAX_BOARD all.1.1.1.1.0) all.1.1.1.1.1
 
--- ---- the line is a head, or it is none
+-- ---- case analysis: the line is a head, or is not
 
 pub no_says : (line : List ℕ) → None ≡ head_says line → (net : Network) (setup : Setup) → ¬ IsHead line net setup
 no_says line none net setup head =
@@ -128,7 +128,7 @@ no_says line none net setup head =
     absurd (cc)
 
 module _ (line : List ℕ) (says : HeadFields) (is : Some says ≡ head_says line) where
-  -- what it says, where it is a head
+  -- the fields of a line that is a head
   says_of : (net : Network) (setup : Setup) (head : IsHead line net setup) → says ≡ said head.version net setup
   says_of net setup head =
       same_says says (said head.version net setup)
@@ -142,7 +142,7 @@ module _ (line : List ℕ) (says : HeadFields) (is : Some says ≡ head_says lin
       subst (λ s. Starts s None) (says_of net setup head) starts in
       same net head.made head.fits
 
-  -- the match that was started is that of the head
+  -- The match that the reader starts is the head's match.
   started_is : (play : Play) → Starts says (Some play) → (net : Network) (setup : Setup) (head : IsHead line net setup)
       → play ≡ record { net = net; setup = setup; log = [] }
   started_is play starts net setup head =
@@ -194,7 +194,7 @@ module _ (line : List ℕ) (says : HeadFields) (is : Some says ≡ head_says lin
         normal = normal_too;
       }
 
-  -- a line that says this, judged by whether it is spelled as it would be written
+  -- A line with these fields is judged by comparing it with the canonical spelling.
   pub opens_if : (play : Play) → Starts says (Some play) → IsWithinLimits play.net play.setup
       → IsNormal play.net play.setup → (version : Version) → version ≡ says.version → CanSay version play.net play.setup
       → (same : Bool) → same ≡ bytes_eq line (head_line version play.net play.setup)

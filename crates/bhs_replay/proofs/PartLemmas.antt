@@ -20,7 +20,7 @@ use Rattle.bhs_world.proofs.GrowthLemmas.{events_more}
 use Rattle.bhs_match.specs.Matches.{Play, world_in, state_of}
 use Rattle.bhs_replay.specs.Parts.{closed_events}
 
--- the events of a log that is closed, if it was not
+-- closing an open log appends the Close
 pub closed_log : (world : World) (log : List Kept) (mark : Option Mark) → events_of (log_after world log Close mark)
     ≡ (if not (run world (events_of log)).closed then events_of log ++ Close ∷ [] else events_of log)
 closed_log world log mark =

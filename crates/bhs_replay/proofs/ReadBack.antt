@@ -21,7 +21,7 @@ use Rattle.bhs_replay.proofs.EveryReplay.{every_replay}
 use Rattle.bhs_replay.proofs.HeadReads.{AllOf}
 use Rattle.bhs_replay.proofs.ListLemmas.{by_places, all_mapped, all_at}
 
--- ---- the events of a log, up to a place
+-- ---- the first events of a log
 
 abbrev HasTyped : Kept → Type 0
 HasTyped one = IsTyped one.event

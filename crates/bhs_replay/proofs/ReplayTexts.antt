@@ -16,7 +16,7 @@ use Rattle.bhs_replay.specs.Replay.{end_line, event_lines, with_feeds, replay_of
 abbrev pub kept_line : List Kept → Kept → List ℕ
 kept_line log one = event_line one.event (read_if log one.mark)
 
--- what is written behind the head, from these events of a log on
+-- the text after the head, for the remaining events of a log
 abbrev pub left_of : List Kept → List Kept → List ℕ
 left_of log rest = with_feeds (map (kept_line log) rest) ++ (end_line (length log) ++ 10 ∷ [])
 

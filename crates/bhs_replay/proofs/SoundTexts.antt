@@ -46,7 +46,7 @@ told_more world events event =
     ∙ lines_more events (replies world events) event (reply world (run world events) event)
     (replies_count world initial events)
 
--- ---- what the lines so far are
+-- ---- the result of reading the lines so far
 
 -- a head, and the lines of these events
 pub record IsGoing (lines : List (List ℕ)) (net : Network) (setup : Setup) (events : List Event) : Type 0 where

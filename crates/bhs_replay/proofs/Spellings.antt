@@ -114,7 +114,7 @@ unread text false r none = refl
 pub spelled-unread : (text : List ℕ) → (IsUtf8 text → read text ≡ None) → None ≡ spelled text
 spelled-unread text none = sym (unread text (is_utf8 text) (read text) (λ h. none (IsUtf8-from_is_utf8 text h)))
 
--- ---- what a line spells has it as its line
+-- ---- the canonical line of what a line spells is that line
 
 checked : (text : List ℕ) (reply : Option Reply) (event : Event) (found : Event × Option Reply) (stands same : Bool)
     → may_stand event reply ≡ stands → bytes_eq text (event_line event reply) ≡ same

@@ -1,4 +1,4 @@
--- What a stage says of the match, and which faults are those of a text.
+-- The match of a reader's stage, and the faults of texts.
 use Rattle.std.proofs.Common.{◌≡◌, ℕ, List, [], ◌∷◌, ◌++◌, Bool, true, false, not, ◌&&◌, if◌then◌else◌, Option, Some}
 use Rattle.std.proofs.Common.{None, refl, sym, subst}
 use Rattle.bhs_net.specs.Network.{Network}

@@ -53,7 +53,7 @@ is_head_flat line net setup head =
     let fits = head_fits net head.made.network setup (fit_within net setup head.made.network.labelled head.fits) in
     subst IsFlat (sym head.spelled) (head_flat net setup fits head.version)
 
--- ---- lines that stand one behind the other
+-- ---- concatenation of lines
 
 abbrev AreFlat : List (List ℕ) → Type 0
 AreFlat [] = ⊤

@@ -7,7 +7,7 @@ use Rattle.bhs_replay.specs.declared.faults.WritingFault.{WritingFault}
 use Rattle.bhs_replay.specs.declared.faults.WritingFault.TheVariants.{Write, Memory}
 use Rattle.bhs_replay.specs.Writing.{Breaks}
 
--- the fault that comes through a `?` is this one
+-- The operator `?` passes on exactly this fault.
 pub fault_is : {T : Type 0} (r : Result T WritingFault) (fault : WritingFault) (P : WritingFault → Type 0)
     → IsErrAnd r (λ e. e ≡ fault) → P fault → IfErr r P
 fault_is (Ok x) fault P is holds = tt

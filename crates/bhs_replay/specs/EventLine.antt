@@ -7,7 +7,7 @@ use Rattle.bhs_model.specs.declared.events.Event.TheVariants.{Tell, Deliver, Clo
 use Rattle.bhs_model.specs.declared.replies.Reply.{Reply}
 use Rattle.bhs_wire.specs.Reply.{quoted_text, line}
 
--- what is said, from its word on
+-- the members of a command, from its word on
 abbrev pub said : Command → List ℕ
 said Enter = codes "\"enter\""
 said Look = codes "\"look\""

@@ -18,7 +18,7 @@ pub record HeadFields : Type 0 where
   pub links : List Link
   pub setup : Setup
 
--- a number of 16 bits, and that at a place of a list
+-- A number of 16 bits, and the number at an index of a list.
 abbrev pub number_in : Data → Option ℕ
 number_in value = option_and_then if_port (option_and_then as_u64 (as_number value))
 
@@ -53,7 +53,7 @@ version_by number = if number == 1 then Some One
 abbrev pub version_in : Data → Option Version
 version_in value = option_and_then version_by (port_at (codes "replay") value)
 
--- of version 1 the one black hole, if there is one
+-- the black hole of a head of version 1, if there is one
 abbrev pub holes_in : Version → Data → Option (List ℕ)
 holes_in One value = Some (option_to_list (port_at (codes "hole") value))
 holes_in Two value = list_at number_in (codes "holes") value

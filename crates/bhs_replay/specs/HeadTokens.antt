@@ -1,4 +1,4 @@
--- A head as tokens: how its parts are written one after the other.
+-- A head as tokens: the concatenation of its parts.
 use Rattle.std.specs.Prelude.{ℕ, List, ◌∷◌, ◌++◌, codes, map}
 use Rattle.json.specs.Token.{Token}
 use Rattle.json.specs.Tree.{json_tokens}

@@ -13,7 +13,7 @@ use Rattle.bhs_stream.specs.Reading.{Closes}
 use Rattle.bhs_replay.specs.Reading.{IsSound}
 use Rattle.bhs_replay.specs.Stages.{ReadState, Goes, Ends, Leads, Comes, ended}
 
--- the events of a match that is closed after these, if it was not
+-- the events followed by a Close, unless the match was closed already
 abbrev pub closed_events : Network → Setup → List Event → List Event
 closed_events net setup events =
     if not (run (world_of net setup) events).closed then events ++ Close ∷ [] else events
@@ -33,7 +33,7 @@ pub record IsPartOf (text : List ℕ) (play : Play) : Type 0 where
   pub leads : Leads (ended text) stage
   pub closed : IsClosedAt stage play
 
--- so it is with some text
+-- The match is the one of some text.
 abbrev pub IsOfPart : Play → Type 0
 IsOfPart play = (text : List ℕ) × IsPartOf text play
 

@@ -35,8 +35,8 @@ ReplyIsText reply = ⊤
 abbrev pub IsTyped : Event → Type 0
 IsTyped event = EventFits event × EventIsText event
 
--- A match that has ended. It was played on a network, and its setup is within the limits and in normal form. The code
--- can hold each of its events, the match keeps each of them, and they close it.
+-- A match that has ended: it was played on a network; its setup satisfies the limits and is normalised; its events are
+-- representable in the program; the match keeps each of them; and they close it.
 pub record HasEnded (net : Network) (setup : Setup) (events : List Event) : Type 0 where
   pub network : IsNetwork net
   pub within : IsWithinLimits net setup

@@ -56,6 +56,6 @@ finished_by None = Err fault.Head
 finished_by (Some playing) = if playing.is_over && (state_of playing.game).closed then Ok playing.game
     else Err fault.End
 
--- what the text comes to where it ends here
+-- the result for a text that ends here
 abbrev pub finished : Reader → Result Play ReplayFault
 finished reader = finished_by reader.playing

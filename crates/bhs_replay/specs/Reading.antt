@@ -18,7 +18,7 @@ abbrev pub IsSound : ReadState → Type 0
 IsSound (Wrong found) = ⊥
 IsSound stage = Unit {0}
 
--- what is wrong with a text that ends here
+-- the fault of a text that ends here
 abbrev pub fault_at_end : ReadState → Option ReplayFault
 fault_at_end Opens = Some fault.Head
 fault_at_end (Goes net setup events) = Some fault.End

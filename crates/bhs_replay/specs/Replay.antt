@@ -18,7 +18,7 @@ use Rattle.bhs_replay.specs.EventLine.{event_line}
 abbrev pub end_line : ℕ → List ℕ
 end_line count = codes "{\"end\":" ++ (decimal count ++ codes "}")
 
--- the lines of these events, each with its reply
+-- the lines of these events with their replies
 abbrev pub event_lines : List Event → List (Option Reply) → List (List ℕ)
 event_lines (event ∷ events) (reply ∷ others) = event_line event reply ∷ event_lines events others
 event_lines events others = []
@@ -36,12 +36,12 @@ with_feeds (line ∷ lines) = (line ++ 10 ∷ []) ++ with_feeds lines
 abbrev pub replay : Version → Network → Setup → List Event → List ℕ
 replay version net setup events = with_feeds (head_line version net setup ∷ body_lines net setup events)
 
--- the text of a match as it is written
+-- the canonical text of a match
 abbrev pub replay_of : Play → List ℕ
 replay_of play = replay (version_of play.net play.setup) play.net play.setup (events_of play.log)
 
--- the text of a match on this network, set up so, in which the events at these places of a log happened, each with the
--- reply that it has in the log
+-- The text of a match with this network and setup that consists of a subset of another log's events, each with the
+-- reply that it had in that log.
 abbrev pub replay_of_part : Network → Setup → List Kept → (places : List Bool) → List ℕ
 replay_of_part net setup log places =
     let events = at_places (events_of log) places in

@@ -50,7 +50,7 @@ is_end_line line =
 pub data ReadState : Type 0 where
   -- no line has ended
   Opens : ReadState
-  -- the first line is the head of this, and the others are the lines of these events
+  -- The first line was the head of this match, and the lines after it spelled these events.
   Goes : Network → Setup → List Event → ReadState
   -- and then the end line came
   Ends : Network → Setup → List Event → ReadState
@@ -61,7 +61,8 @@ pub data ReadState : Type 0 where
 abbrev pub next_number : List Event → ℕ
 next_number events = length events + 2
 
--- a line that spells an event. Its reply is another than that of the match if the line is not the line of that.
+-- A line that spells an event. If the canonical line of that event and the match's reply is another, then the reply is
+-- wrong.
 abbrev pub after_event : Network → Setup → List Event → (line : List ℕ) → Event → ReadState
 after_event net setup events line event =
     let world = world_of net setup in

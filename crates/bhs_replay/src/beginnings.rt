@@ -1,4 +1,4 @@
-//! What a line begins with, and what stands behind it. Nothing here takes memory.
+//! Parsers of the beginning of a line, each with the bytes after it. They allocate no memory.
 
 ghost use Rattle.std.specs.Prelude.{◌≡◌, ◌<◌, ◌+◌, ◌∷◌, ◌++◌, decimal, IfSome};
 ghost use Rattle.std.specs.Bool.{OnTrue};
@@ -30,7 +30,7 @@ pub(crate) fn seen_number(line: &[u8]) -> Option<(u16, &[u8])>
     Some((number, rest))
 }
 
-// A digit, and what stands behind it.
+// Parses a digit; returns the bytes after it.
 #[inline]
 fn seen_digit(line: &[u8]) -> Option<(u16, &[u8])>
     ensures { IfSome result (λ seen. (seen.0 < 10) × (line.now ≡ (48 + seen.0) ∷ seen.1.now)) }
@@ -44,7 +44,7 @@ fn seen_digit(line: &[u8]) -> Option<(u16, &[u8])>
     }
 }
 
-/// A text without escapes, and what stands behind it. Most whiteboards are empty.
+/// Parses a text without escapes; returns the bytes after it. Most whiteboards are empty.
 pub(crate) fn seen_text(line: &[u8]) -> Option<(&str, &[u8])>
     ensures { IfSome result (λ seen. line.now ≡ quoted_text seen.0.now ++ seen.1.now) }
 {
@@ -62,7 +62,7 @@ pub(crate) fn seen_text(line: &[u8]) -> Option<(&str, &[u8])>
     Some((text, rest))
 }
 
-// Whether no byte of a text has an escape. It looks at all of them, so that several are looked at together.
+// Returns whether a text needs no escape. The loop does not stop early, so that it is vectorised.
 fn is_plain(text: &[u8]) -> bool
     ensures { OnTrue result (escape text.now ≡ text.now) }
 {

@@ -4,8 +4,8 @@ ghost use Rattle.bhs_replay.specs.declared.faults.ReplayFault.TheVariants.{Memor
 use std::alloc::{AllocError, AllocFailed};
 use thiserror::Error;
 
-/// Why a text is no replay, or was not read. The first fault in the order of the text is told. Lines are numbered from
-/// 1, the head being 1.
+/// Reasons to refuse a text as a replay. The first fault in the order of the text is reported. Lines are numbered from
+/// 1; the head is line 1.
 #[derive(Clone, Copy, Debug, PartialEq, Eq, Drop, Error)]
 pub enum ReplayFault {
     /// The first line is no head, or its network or its setup is refused.
@@ -14,7 +14,7 @@ pub enum ReplayFault {
     /// The line is neither an event's nor an end line, or it is an event's behind a close.
     #[error("line {line}")]
     Line { line: usize },
-    /// The event of the line would not be kept.
+    /// The match does not keep the line's event.
     #[error("event {line}")]
     Event { line: usize },
     /// The event would be kept, and its reply is another than the line's.

@@ -24,7 +24,8 @@ pub(crate) struct HeadFields {
     pub setup: Setup,
 }
 
-/// What a line says, given without its line feed; None if it can be no head. Its spelling is not judged here.
+/// Returns the fields of a head from a line without its line feed, or None if the line cannot be a head. Does not judge
+/// the line's spelling.
 pub(crate) fn head_says(alloc: Global, line: &[u8]) -> Result<Option<HeadFields>, Memory>
     ensures { IfOk result (λ found. option_map seen found ≡ head_says line.now) }
 {

@@ -29,14 +29,16 @@ pub fn one_spelling()
         → spelled text ≡ Some (event, reply) → IsUtf8 text }
 {}
 
-/// What is read as a match is the replay of that match, in one of the versions: every other text has a fault.
+/// Only replays are accepted: an accepted text is the replay of the match that was read, in one of the versions. Every
+/// other text has a fault.
 pub fn only_replays_are_read()
     ensures { (text : List ℕ) (net : Network) (setup : Setup) (events : List Event)
         → Comes text (Ends net setup events)
         → (version : Version) × CanSay version net setup × (text ≡ replay version net setup events) }
 {}
 
-/// The replay of each match that has ended is read as that match, in each version that can say how it was set up.
+/// The replay of each match that has ended is accepted and read as that match, in each version that can express its
+/// setup.
 pub fn every_replay_is_read()
     ensures { (version : Version) (net : Network) (setup : Setup) (events : List Event)
         → CanSay version net setup → HasEnded net setup events

@@ -37,7 +37,7 @@ fn line_in(alloc: Global, sealed: &Sealed, one: &Kept) -> Result<String, Memory>
     line_with(alloc, &one.event, reply_in(sealed, &one.mark))
 }
 
-/// Adds the line of an event of the log, without its line feed. An `Err` may have added a part of it.
+/// Appends the line of a log's event, without its line feed. On `Err`, a part of it may have been appended.
 pub(crate) fn add_line_in(
     alloc: Global,
     text: &mut Vec<u8>,

@@ -52,7 +52,7 @@ fn if_head(
     Ok(None)
 }
 
-// Whether a line is the head of a match.
+// Returns whether a line is the head of a match.
 fn is_head(alloc: Global, line: &[u8], version: Version, game: &Match) -> Result<bool, Memory>
     ensures { (says : Said) → Some says ≡ head_says line.now → version ≡ says.version → Starts says (Some game.now)
         → IfOk result (λ is. OpensAs line.now (if is then Some game.now else None)) }
@@ -120,7 +120,7 @@ fn can_say(version: Version, net: &Net, setup: &Setup) -> bool
     }
 }
 
-// Whether there is one black hole or none, and no dark link.
+// Returns whether the setup has at most one black hole and no dark link.
 fn has_one_hole(setup: &Setup) -> bool
     ensures { IsTrue result ↔ ((length setup.now.holes ≤ 1) × (setup.now.dark ≡ [])) }
 {

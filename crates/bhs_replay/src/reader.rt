@@ -15,7 +15,7 @@ use bhs_model::Event;
 use bhs_wire::split_line;
 use std::alloc::Global;
 
-// The match that the lines so far are of.
+// The match of the lines so far.
 #[derive(Drop)]
 pub(crate) struct Playing {
     game: Match,

@@ -19,7 +19,7 @@ use std::alloc::Global;
 /// An event and its reply, as a line spells them.
 pub type Spelled = (Event, Option<Reply>);
 
-/// Whether this reply may answer this event. If it may, the line that is written of both spells them.
+/// Returns whether a reply can answer an event. If so, the canonical line of both spells them.
 pub(crate) fn spells(event: &Event, reply: Option<LentReply<'_>>) -> bool
     ensures { (line : List ℕ) → line ≡ event_line event.now (option_map reply_of reply.entry)
         → OnTrue result (spelled line ≡ Some (event.now, option_map reply_of reply.entry)) }
@@ -53,7 +53,7 @@ fn spelled_in(alloc: Global, line: &[u8], value: &Value) -> Result<Option<Spelle
     Ok(None)
 }
 
-// Whether a line is that of this event and this reply, and this reply may stand there.
+// Returns whether a line is the canonical line of an event and a reply that can answer it.
 fn is_spelled(
     alloc: Global,
     line: &[u8],
@@ -155,7 +155,7 @@ fn answer_in(alloc: Global, value: &Value) -> Result<Option<Reply>, Memory>
     }
 }
 
-/// The reply that an object says, if it says one. Other keys of it are not looked at.
+/// Returns the reply in an object, or None if the object is no reply. Ignores other keys.
 pub fn reply_in(alloc: Global, value: &Value) -> Result<Option<Reply>, Memory>
     ensures { IfOk result (λ reply. reply ≡ reply_in (view value.now)) }
 {

@@ -1,7 +1,7 @@
 //! The event and the reply of a line that is written as event lines are, read part by part.
 //!
-//! What is seen in a line is what it says. A line in which nothing is seen may still be the line of an event, as one
-//! whose texts have escapes.
+//! Fast recognition of lines. A recognised line means exactly what this module returns; a line that it does not
+//! recognise may still be an event's line, for example one whose texts have escapes.
 
 ghost use Rattle.std.specs.Prelude.{◌≡◌, ◌++◌, codes, option_map, IfOk, IfSome, Option};
 ghost use Rattle.bhs_model.specs.declared.commands.Command.TheVariants.{Write};
@@ -92,7 +92,7 @@ pub(crate) fn seen(line: &[u8]) -> Option<(LentEvent<'_>, Option<LentReply<'_>>)
     }
 }
 
-// An event, and what stands behind it.
+// Recognises an event; returns the bytes after it.
 fn seen_event(line: &[u8]) -> Option<(LentEvent<'_>, &[u8])>
     ensures { (reply : Option ReplyData) → IfSome result (λ seen. seen.1.now ≡ reply_part reply
         → line.now ≡ event_line (event_of seen.0) reply) }
@@ -109,7 +109,7 @@ fn seen_event(line: &[u8]) -> Option<(LentEvent<'_>, &[u8])>
     Some((LentEvent::Tell { agent, command }, rest))
 }
 
-// A command, and what stands behind it.
+// Recognises a command; returns the bytes after it.
 fn seen_command(line: &[u8]) -> Option<(LentCommand<'_>, &[u8])>
     ensures { IfSome result (λ seen. line.now ≡ said (command_of seen.0) ++ seen.1.now) }
 {
@@ -137,7 +137,7 @@ fn seen_command(line: &[u8]) -> Option<(LentCommand<'_>, &[u8])>
     Some((LentCommand::Bad, rest))
 }
 
-// A Write, from its first text on, and what stands behind it.
+// Recognises a Write from its first text on; returns the bytes after it.
 fn seen_write(line: &[u8]) -> Option<(LentCommand<'_>, &[u8])>
     ensures { IfSome result (λ seen. codes "\"write\",\"expect\":" ++ line.now
         ≡ said (command_of seen.0) ++ seen.1.now) }
@@ -148,7 +148,7 @@ fn seen_write(line: &[u8]) -> Option<(LentCommand<'_>, &[u8])>
     Some((LentCommand::Write { expect, put }, rest))
 }
 
-// A reply or null, and what stands behind it.
+// Recognises a reply or null; returns the bytes after it.
 fn seen_answer(line: &[u8]) -> Option<(Option<LentReply<'_>>, &[u8])>
     ensures { IfSome result (λ seen. line.now ≡ answered (option_map reply_of seen.0) ++ seen.1.now) }
 {
@@ -159,7 +159,7 @@ fn seen_answer(line: &[u8]) -> Option<(Option<LentReply<'_>>, &[u8])>
     Some((Some(reply), rest))
 }
 
-// A reply, and what stands behind it.
+// Recognises a reply; returns the bytes after it.
 fn seen_reply(line: &[u8]) -> Option<(LentReply<'_>, &[u8])>
     ensures { IfSome result (λ seen. line.now ≡ reply_line (reply_of seen.0) ++ seen.1.now) }
 {
@@ -184,7 +184,7 @@ fn seen_reply(line: &[u8]) -> Option<(LentReply<'_>, &[u8])>
     seen_refusal(line)
 }
 
-// A reply that shows a whiteboard, from its text on, and what stands behind it.
+// Recognises a reply with a whiteboard, from the text on; returns the bytes after it.
 fn seen_board(line: &[u8]) -> Option<(LentReply<'_>, &[u8])>
     ensures { IfSome result (λ seen. codes "{\"board\":" ++ line.now
         ≡ reply_line (reply_of seen.0) ++ seen.1.now) }
@@ -201,7 +201,7 @@ fn seen_board(line: &[u8]) -> Option<(LentReply<'_>, &[u8])>
     Some((LentReply::Here { ports, came, board }, rest))
 }
 
-// A refusal, and what stands behind it.
+// Recognises a refusal; returns the bytes after it.
 fn seen_refusal(line: &[u8]) -> Option<(LentReply<'_>, &[u8])>
     ensures { IfSome result (λ seen. line.now ≡ reply_line (reply_of seen.0) ++ seen.1.now) }
 {
@@ -212,7 +212,7 @@ fn seen_refusal(line: &[u8]) -> Option<(LentReply<'_>, &[u8])>
     Some((LentReply::No(why), rest))
 }
 
-// The label of a link or null, and what stands behind it.
+// Recognises a link's label or null; returns the bytes after it.
 fn seen_label(line: &[u8]) -> Option<(Option<u16>, &[u8])>
     ensures { IfSome result (λ seen. line.now ≡ label seen.0 ++ seen.1.now) }
 {

@@ -108,7 +108,7 @@ own_deed trial scene agent =
     (own_at trial.held trial.wakeups (position_of trial scene agent) (scene.woken agent)
     (trial.strategies agent (scene.history agent)) agent) tt
 
--- ---- a turn that is no move
+-- ---- turns that change nothing
 
 -- as far as anybody can know the same has happened
 pub record IsSame (trial : Trial) (old new : Scene) : Type 0 where

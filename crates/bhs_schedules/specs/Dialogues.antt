@@ -1,4 +1,4 @@
--- What a team is asked, and what it answers.
+-- Questions to a team, and its answers.
 use Rattle.std.specs.Prelude.{ℕ, ◌≡◌, List, [], ◌∷◌}
 use Rattle.bhs_model.specs.declared.marks.Mark.{Mark}
 use Rattle.bhs_model.specs.declared.marks.Mark.TheVariants as marks
@@ -14,7 +14,7 @@ use Rattle.bhs_schedules.specs.Machines.{Machines}
 pub data QuestionAnswer : Type 0 where
   -- what does this agent hold at the start
   Begins : (agent memory : ℕ) → Step → QuestionAnswer
-  -- what does an agent hold that held this before, and to which this has happened
+  -- the memory and the step of an agent after an observation, given its memory before
   GoesOn : (before : ℕ) → Observation → (memory : ℕ) → Step → QuestionAnswer
 
 -- the reply that a mark stands for, where the whiteboard that it names shows this text
@@ -33,13 +33,13 @@ abbrev pub item_with : Latest → (shown : List ℕ) → Observation
 item_with latest.Woke shown = Woke
 item_with (latest.Heard mark) shown = Heard (reply_with mark shown)
 
--- the machines do as was answered
+-- The answer agrees with the machines.
 abbrev pub DoesAs : Machines → QuestionAnswer → Type 0
 DoesAs machines (Begins agent memory step) = (machines.start agent ≡ memory) × (machines.does memory ≡ step)
 DoesAs machines (GoesOn before item memory step) =
     (machines.after before item ≡ memory) × (machines.does memory ≡ step)
 
--- they do as was answered each time
+-- All answers agree with the machines.
 abbrev pub DoAs : Machines → List QuestionAnswer → Type 0
 DoAs machines [] = Unit {0}
 DoAs machines (exchange ∷ talk) = DoesAs machines exchange × DoAs machines talk

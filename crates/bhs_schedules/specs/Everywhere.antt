@@ -1,4 +1,4 @@
--- What is said of all schedules.
+-- Statements that quantify over all schedules.
 use Rattle.std.specs.Prelude.{ℕ, ◌≡◌, ◌<◌, ◌≤◌, ◌≢◌, List, ◌∷◌}
 use Rattle.bhs_model.specs.declared.replies.Reply.TheVariants.{Over}
 use Rattle.bhs_model.specs.declared.commands.Command.TheVariants.{Enter}
@@ -30,7 +30,7 @@ pub record Fails (trial : Trial) (schedule : List ℕ) : Type 0 where
 abbrev pub step_after : Trial → (schedule : List ℕ) → (agent : ℕ) → Step
 step_after trial schedule agent = trial.strategies agent ((under trial schedule).history agent)
 
--- what it does once it is told that the match is over
+-- the step of an agent on its link when it hears that the match is over
 abbrev pub step_when_over : Trial → (schedule : List ℕ) → (agent : ℕ) → Step
 step_when_over trial schedule agent = trial.strategies agent (Heard Over ∷ (under trial schedule).history agent)
 

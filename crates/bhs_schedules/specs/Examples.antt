@@ -34,7 +34,7 @@ writer (Heard (Here ports came board) ∷ history) = Says (Write [] (codes "a"))
 writer (Heard Written ∷ history) = Says Leave
 writer history = Stops
 
--- enters, and sleeps again and again
+-- an agent that enters, then sleeps for ever
 abbrev pub sleeper : Strategy
 sleeper [] = Says Enter
 sleeper history = Sleeps
@@ -60,11 +60,11 @@ two one other agent = if agent == 0 then one else other
 abbrev pub on_triangle : Strategy → Strategy → Trial
 on_triangle one other = record { world = triangle; held = none_held; wakeups = 0; strategies = two one other }
 
--- of both agents whether they can move once these have had their turns
+-- for both agents, whether they can move after this schedule
 abbrev pub moves_left : Trial → (schedule : List ℕ) → Bool × Bool
 moves_left trial schedule = (can_move trial (under trial schedule) 0, can_move trial (under trial schedule) 1)
 
--- the scout solves the triangle, also while the other is on its way to the black hole, whether or not that is lost yet
+-- The scout solves the triangle, also while the other agent is on its way to the black hole, destroyed or not.
 abbrev pub TheScoutSolves : Type 0
 TheScoutSolves =
     (moves_left (on_triangle scout victim) (0 ∷ 1 ∷ 0 ∷ 1 ∷ 0 ∷ 0 ∷ []) ≡ (false, false))
@@ -114,7 +114,8 @@ scouts = record {
   does = does_as;
 }
 
--- what they hold, and what they do by that: two histories after which an agent holds the same are one to it
+-- Agents as machines: memories determine steps, and two histories with equal memories are indistinguishable to the
+-- agent.
 abbrev pub MachinesPlay : Type 0
 MachinesPlay =
     (memory_at scouts 1 (Woke ∷ Heard Gone ∷ []) ≡ 12)
@@ -140,8 +141,8 @@ abbrev pub TurnsThatMove : Type 0
 TurnsThatMove =
     moving (on_triangle scout victim) opening (0 ∷ 1 ∷ 0 ∷ 1 ∷ 0 ∷ 0 ∷ 1 ∷ 0 ∷ []) ≡ 6
 
--- One agent fails once it has ended. Another fails when it is told on its link that the match is over, and not before.
--- A third never enters and sleeps, though nothing more can happen.
+-- Three failures: an agent fails after its end; an agent fails when it hears on its link that the match is over, and
+-- not before; an agent never enters and sleeps while nothing more can happen.
 abbrev pub AgentsFail : Type 0
 AgentsFail =
     (step_after (on_triangle quitter victim) (0 ∷ []) 0 ≡ Says Leave)

@@ -1,4 +1,4 @@
--- Agents as machines: what they do next depends on what they hold, and what they hold on what happens to them.
+-- Agents as state machines: the memory determines the next step, and observations determine the memory.
 use Rattle.std.specs.Prelude.{ℕ, [], ◌∷◌}
 use Rattle.bhs_schedules.specs.declared.answers.Step.{Step}
 use Rattle.bhs_schedules.specs.Strategies.{Observation, History, Strategies}
@@ -14,6 +14,6 @@ abbrev pub memory_at : Machines → (agent : ℕ) → History → ℕ
 memory_at machines agent [] = machines.start agent
 memory_at machines agent (item ∷ history) = machines.after (memory_at machines agent history) item
 
--- the strategies that the machines are
+-- the strategies that the machines compute
 abbrev pub strategies_of : Machines → Strategies
 strategies_of machines agent history = machines.does (memory_at machines agent history)

@@ -38,7 +38,7 @@ state_of trial scene = run trial.world scene.events
 abbrev pub position_of : Trial → Scene → (agent : ℕ) → Position
 position_of trial scene agent = (state_of trial scene).position agent
 
--- what an agent may do when it is its turn
+-- the action of an agent in its turn
 pub data Action : Type 0 where
   -- an event of the match: it says what its strategy says, or arrives
   Makes : Event → Action
@@ -70,7 +70,7 @@ faced world Before = Some world.home
 faced world (At node came) = Some node
 faced world position = None
 
--- whether two whiteboards that are faced, each with what it shows, are one and show the same; or none is faced
+-- whether the two agents face the same whiteboard with the same text, or both face none
 abbrev pub is_same_sight : Option ℕ → List ℕ → Option ℕ → List ℕ → Bool
 is_same_sight (Some one) shown (Some other) showing = one == other && bytes_eq shown showing
 is_same_sight None shown None showing = true
@@ -81,7 +81,7 @@ abbrev pub shown_to : World → State → Option ℕ → List ℕ
 shown_to world state (Some node) = text world.board (state.last_write node)
 shown_to world state None = []
 
--- whether an agent faces in the one state what it faces in the other
+-- whether an agent faces the same whiteboard and text in both states
 abbrev pub faces_same : World → (old new : State) → (agent : ℕ) → Bool
 faces_same world old new agent =
     let before = faced world (old.position agent) in
@@ -106,11 +106,11 @@ done trial scene agent Wakes = record {
 }
 done trial scene agent Rests = scene
 
--- how it stands after the turn of an agent
+-- the scene after one turn of an agent
 abbrev pub turn : Trial → Scene → (agent : ℕ) → Scene
 turn trial scene agent = done trial scene agent (deed trial scene agent)
 
--- how it stands after these turns
+-- the scene after the turns of a schedule
 abbrev pub turns : Trial → Scene → (schedule : List ℕ) → Scene
 turns trial scene [] = scene
 turns trial scene (agent ∷ schedule) = turns trial (turn trial scene agent) schedule
@@ -134,6 +134,6 @@ can_move trial scene agent = is_move trial.world (position_of trial scene agent)
 abbrev pub IsAtRest : Trial → Scene → Type 0
 IsAtRest trial scene = (agent : ℕ) → can_move trial scene agent ≡ false
 
--- the verdict on the match, if it is closed so
+-- the verdict if the match closes in this scene
 abbrev pub verdict : Trial → Scene → Verdict
 verdict trial scene = verdict_after trial.world (scene.events ++ Close ∷ [])

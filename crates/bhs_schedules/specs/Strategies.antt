@@ -12,7 +12,7 @@ pub data Observation : Type 0 where
 abbrev pub History : Type 0
 History = List Observation
 
--- a deterministic agent: what it does next is a function of what has happened to it
+-- A deterministic agent: its next step is a function of its history.
 abbrev pub Strategy : Type 0
 Strategy = History → Step
 
@@ -20,7 +20,7 @@ Strategy = History → Step
 abbrev pub Strategies : Type 0
 Strategies = (agent : ℕ) → Strategy
 
--- the history with the reply, if there is one
+-- the history extended by a reply, if there is one
 abbrev pub hearing : Option Reply → History → History
 hearing (Some reply) history = Heard reply ∷ history
 hearing None history = history

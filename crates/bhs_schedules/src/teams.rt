@@ -8,7 +8,8 @@ use crate::answers::{Latest, TeamAnswer, TeamFault};
 /// Deterministic agents. Contracts see the questions to a team as steps from one state to the next. A memory that was
 /// not told before has the next number, counted from 0.
 pub trait Team {
-    // In the first state the team may be asked and answer this, and it is then in the second state.
+    // The transition relation of a team: in the first state it may answer this question so, and is then in the second
+    // state.
     ghost answers: { Self → QuestionAnswer → Self → Type 0 };
 
     /// What an agent holds at the start.

@@ -5,7 +5,7 @@ use Rattle.std.specs.Option.{option_map_or}
 use Rattle.bhs_rehearsal.specs.Stages.{Instruction}
 use Rattle.bhs_script.specs.Script.{Meaning, lines_of, meaning, before, with_meaning, instructions_from}
 
--- instructions before the others, unless the others are refused
+-- prepends instructions, unless the remaining script is refused
 abbrev pub with_front : List Instruction → Result (List Instruction) ℕ → Result (List Instruction) ℕ
 with_front front (Ok others) = Ok (front ++ others)
 with_front front (Err line) = Err line

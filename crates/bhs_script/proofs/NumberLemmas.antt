@@ -14,7 +14,7 @@ too_large n [] large = grind (arith, nat_tests)
 too_large n (digit ∷ digits) large =
     none_either_way (is_ascii_digit digit) _ (too_large (10 * n + (digit - 48)) digits (omega arith))
 
--- the same at the digit behind the first i
+-- the same at the digit with this index
 pub too_large_at : (n : ℕ) (digits : List ℕ) (i : ℕ) → i < length digits → 2 ^ 32 ≤ 10 * n + (get_or digits i 0 - 48)
     → fitting (read_on n (drop i digits)) ≡ None
 too_large_at n digits i within large =

@@ -30,7 +30,7 @@ begun-ended beginning (byte ∷ line) rest none = by_byte (is_line_feed byte) no
     by_byte true none = cc
     by_byte false none = ap (λ bytes. beginning ++ byte ∷ bytes) (begun-flat beginning line rest none)
 
--- so has a line that does not end, if it has any byte
+-- A non-empty line without a line feed gets the beginning as well.
 begun-rest : (beginning line : List ℕ) → list_any is_line_feed line ≡ false → begun_with beginning false line ≡ line
 begun-rest beginning [] none = refl
 begun-rest beginning (byte ∷ line) none = by_byte (is_line_feed byte) none (λ h. begun-rest beginning line h)

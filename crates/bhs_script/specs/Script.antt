@@ -26,11 +26,11 @@ lines_of (byte ∷ bytes) = if is_line_feed byte then [] ∷ lines_of bytes else
 abbrev pub is_space : ℕ → Bool
 is_space byte = byte == 32
 
--- what stands before the first space, and behind it; None if there is no space
+-- splits a line at its first space; None without a space
 abbrev pub parted : List ℕ → Option (List ℕ × List ℕ)
 parted text = option_map (λ end. (take end text, drop (end + 1) text)) (position is_space text)
 
--- the number that a text spells, where it is less than this
+-- the number that a text spells, if it is less than the bound
 abbrev pub less_than : ℕ → ℕ → Option ℕ
 less_than bound n = if nat_lt n bound then Some n else None
 
@@ -42,7 +42,7 @@ abbrev pub bytes_of : List ℕ → Option (List ℕ)
 bytes_of [] = None
 bytes_of (digit ∷ digits) = result_ok (decode_of (digit ∷ digits))
 
--- first the one, and then with what it gave the other
+-- Monadic bind of options: applies the second function to the result of the first.
 infixl 10 ◌>>=◌
 abbrev pub ◌>>=◌ : {A B : Type 0} → Option A → (A → Option B) → Option B
 option >>= next = option_and_then next option
@@ -99,7 +99,7 @@ instruction_by games word rest =
     else (if bytes_eq word (codes "close") then closes games rest
     else feeds_line word rest))))
 
--- the instruction of a line, in a rehearsal of this number of matches; None if it is not a line of a script
+-- the instruction of a line, in a rehearsal with this number of matches; None if the line is invalid
 abbrev pub instruction_in : (games : ℕ) → List ℕ → Option Instruction
 instruction_in games line = do
   parts ← parted line
@@ -122,18 +122,18 @@ meaning games (byte ∷ bytes) = if byte == 35 then Skipped else gives_if (instr
 
 -- ---- the whole script
 
--- an instruction before the others, unless the others are refused
+-- prepends an instruction, unless the remaining script is refused
 abbrev pub before : Instruction → Result (List Instruction) ℕ → Result (List Instruction) ℕ
 before instruction (Ok others) = Ok (instruction ∷ others)
 before instruction (Err line) = Err line
 
--- the instruction that a line gives, with those of the lines behind it; a line that is refused refuses all
+-- Prepends the instruction of a line to those of the later lines; an invalid line refuses the whole script.
 abbrev pub with_meaning : (place : ℕ) → Meaning → Result (List Instruction) ℕ → Result (List Instruction) ℕ
 with_meaning place Skipped others = others
 with_meaning place (Gives instruction) others = before instruction others
 with_meaning place Refused others = Err place
 
--- the instructions of these lines, the first of them being line `place`, or the first of them that is refused
+-- The instructions of these lines, the first of which has the number `place`, or the number of the first invalid line.
 abbrev pub instructions_from : (games place : ℕ) → List (List ℕ) → Result (List Instruction) ℕ
 instructions_from games place [] = Ok []
 instructions_from games place (line ∷ lines) =

@@ -3,7 +3,7 @@ use Rattle.std.specs.Prelude.{ℕ, Bool, true, List, [], ◌∷◌, ◌++◌, de
 use Rattle.bhs_wire.specs.Lines.{is_line_feed}
 use Rattle.bhs_rehearsal.specs.Stages.{Stage, Instruction, sends}
 
--- a text with a beginning before each of its lines
+-- inserts a beginning before each line of a text
 abbrev pub begun_with : (beginning : List ℕ) → (is_start : Bool) → List ℕ → List ℕ
 begun_with beginning is_start [] = []
 begun_with beginning is_start (byte ∷ bytes) =
@@ -22,7 +22,7 @@ abbrev pub all_printed : List (ℕ × List ℕ) → List ℕ
 all_printed [] = []
 all_printed (out ∷ outs) = printed out.0 out.1 ++ all_printed outs
 
--- what is sent, of one instruction after the other
+-- the concatenated output of the instructions
 abbrev pub transcript_of : List (List (ℕ × List ℕ)) → List ℕ
 transcript_of [] = []
 transcript_of (outs ∷ others) = all_printed outs ++ transcript_of others

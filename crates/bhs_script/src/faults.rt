@@ -6,7 +6,7 @@ ghost use Rattle.bhs_script.specs.declared.faults.ScriptFault.TheVariants as fau
 use bhs_net::Memory;
 use std::alloc::AllocFailed;
 
-/// Why a text is no script.
+/// The reason to refuse a script.
 #[derive(Clone, Copy, Debug, PartialEq, Eq)]
 pub enum ScriptFault {
     /// This line, counted from 1, is no line of a script.

@@ -8,7 +8,7 @@ pub const CONNECTIONS: u16 = 256;
 /// How many numbers an agent may have in a script.
 pub(crate) const AGENTS: usize = 65_536;
 
-/// What a line of a script does.
+/// An instruction: the meaning of a line of a script.
 #[derive(Drop)]
 pub enum Instruction<'s> {
     /// Feeds these bytes to a connection: those of a line and its line feed as they stand in the script.

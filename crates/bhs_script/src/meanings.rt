@@ -9,6 +9,6 @@ pub enum Meaning<'s> {
     Skipped,
     /// It gives this instruction.
     Gives(Instruction<'s>),
-    /// It is no line of a script.
+    /// The line is invalid.
     Refused,
 }

@@ -21,8 +21,8 @@ use hex::FromHexError;
 use std::alloc::Global;
 use std::borrow::CowSlice;
 
-/// What a line of a script means in a rehearsal of this number of matches. `ended` is the line with its line feed, if
-/// it has one.
+/// Parses a line of a script, in a rehearsal with this number of matches. `ended` is the line with its line feed, if it
+/// has one.
 pub fn meaning_of<'s>(
     alloc: Global,
     games: usize,
@@ -68,7 +68,7 @@ fn instruction_in<'s>(
     }
 }
 
-// What stands before the first space, and behind it.
+// Splits a line at its first space.
 fn parted(text: &[u8]) -> Option<(&[u8], &[u8])>
     ensures whole { IfSome result (λ parts. text.now ≡ parts.0.now ++ 32 ∷ parts.1.now) }
     ensures parts { option_map (λ parts. (parts.0.now, parts.1.now)) result ≡ parted text.now }
@@ -88,7 +88,7 @@ fn space_in(text: &[u8]) -> Option<usize>
     text.iter().position(|byte| *byte == b' ')
 }
 
-// Feeds what stands behind a word. `ended` is the same with its line feed, if it has one.
+// Feeds the rest of a line after its word. `ended` is that rest with the line feed, if there is one.
 fn feed_line<'s>(
     alloc: Global,
     word: &[u8],
@@ -218,7 +218,7 @@ pub fn instructions_in<'s>(
     Ok(found)
 }
 
-// The first line, the same with its line feed, if it has one, and what stands behind that.
+// Returns the first line, the same with its line feed, if it has one, and the bytes after it.
 fn first_line(text: &[u8]) -> (&[u8], &[u8], Option<&[u8]>)
     ensures lines { lines_of text.now ≡ result.0.now ∷ option_map_or (λ rest. lines_of rest.now) result.2 [] }
     ensures ended { IsEnded result.0.now result.1.now }

@@ -1,4 +1,4 @@
--- Clients that are looked at one after the other.
+-- Loop invariant: counting the waiting clients in order.
 use Rattle.std.proofs.Common.{arith, ℕ, zero, suc, ◌≡◌, ◌≤◌, Some, List, [], ◌∷◌, length}
 use Rattle.std.proofs.Common.{refl, ap}
 use Rattle.bhs_server.specs.declared.waiting.Known.{Known}

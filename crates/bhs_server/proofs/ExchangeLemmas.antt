@@ -55,7 +55,7 @@ came_in arrivals (Took command receipt) before = refl
 came_in arrivals (Refused command) before = refl
 came_in arrivals (Came receipt) before = append_assoc arrivals (receipt ∷ []) (arrivals_in before)
 
--- what is in turn behind some receipts and arrivals is so behind the same ones
+-- The order of exchanges depends on the receipts alone.
 pub turn_same : (quota : ℕ) (phase : Phase) (receipts receipts' arrivals arrivals' : List Receipt) (one : Exchange)
     → receipts ≡ receipts' → arrivals ≡ arrivals' → IsInTurn quota phase receipts arrivals one
     → IsInTurn quota phase receipts' arrivals' one

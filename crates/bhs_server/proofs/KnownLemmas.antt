@@ -1,4 +1,4 @@
--- What is known of a session on a cell's port: what it said and was answered, and what it wrote of it.
+-- A session on a cell's port: its commands with their answers, and what it wrote to its client.
 use Rattle.std.proofs.Common.{◌≡◌, ◌∙◌, ℕ, zero, suc, inl, inr, Option, Some, None, List, [], ◌∷◌, ◌++◌, map, take}
 use Rattle.std.proofs.Common.{drop, length, get_or, ◌<◌, arith, Result, Ok, Err, IfOk, OnErr}
 use Rattle.std.proofs.Common.{true, false, option_to_list, refl, sym, ap, ap₂, subst, append_assoc, append-nil}
@@ -113,7 +113,7 @@ abbrev pub Known : List ℕ → List Line → Phase → Option SessionAgent → 
 Known written taken phase None = Alone written taken phase
 Known written taken phase (Some played) = Talks written taken phase played.pass
 
--- the pass that is played by is one of its match
+-- The session's pass belongs to the match that it plays on.
 abbrev pub IsPlayedOn : List Given → Option SessionAgent → Type 0
 IsPlayedOn cells None = Unit {0}
 IsPlayedOn cells (Some played) = IsOfCell cells played.game played.pass
@@ -234,7 +234,7 @@ pub behind_heard : (reply : Reply) → is_unheard reply ≡ false
     → Behind (answered_by true reply) (answered_by true reply) None [] []
 behind_heard reply heard = grind arith
 
--- why a command was not heard
+-- The reason why a command was not heard.
 pub by_refusal : (written : List ℕ) (taken : List Line) (line : Line) (now : Phase) (pass : Passed) (reply : Reply)
     (refusal : Option Why) → TakesLines now → Answered written taken now pass →
     refusal_by pass.quota (tally_in pass.receipts) (command_of line) ≡ refusal
@@ -291,7 +291,7 @@ pass_news [] game pass pass' reply is = subst (λ (said : Reply). PassNews pass 
 pass_news (given ∷ cells) zero pass pass' reply is = of_news given pass pass' reply is
 pass_news (given ∷ cells) (suc game) pass pass' reply is = pass_news cells game pass pass' reply is
 
--- by the match that was found there
+-- Case analysis: the number belongs to a match of the list.
 news_at : (cells : List Given) (game : ℕ) (pass pass' : Passed) (given : Given) → game < length cells
     → given ≡ get_or cells game given → (reply : Reply) → IsNews given pass reply pass'
     → IsNewsIn cells game pass reply pass'

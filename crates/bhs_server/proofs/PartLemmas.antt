@@ -144,13 +144,13 @@ left_behind all left others number settled one place is same game behind =
     let differ : game ≢ number = λ e. absurd (omega (arith, e, place, longer, behind)) in
     ap (passes_in game) is ∙ passes_of_others game number left differ ∙ same game (omega (arith, longer, behind))
 
--- what the matches that are done came to, by the dealers of their numbers and with the passes of their sessions
+-- The results of the matches settled so far, each with the dealer of its number and with the passes of its sessions.
 abbrev pub AreDone : (cells rest : List Given) → List ChaCha → (all left : List Session)
     → List (Result Settlement Refused) → Type 0
 AreDone cells rest dealers all left settled = (done : List Given) × (cells ≡ done ++ rest)
     × HaveFared done dealers settled × AreSettledBy 0 done all settled × AreLeft all left settled
 
--- of the cells that are left the next one is settled too
+-- Settling the next of the remaining cells preserves the invariant.
 pub next_settled : (cells rest others : List Given) (dealers : List ChaCha) (given : Given)
     (settled : List (Result Settlement Refused)) (one : Result Settlement Refused) (all left behind : List Session)
     (own : List Passed) (number : ℕ) → rest ≡ given ∷ others → AreDone cells rest dealers all left settled →

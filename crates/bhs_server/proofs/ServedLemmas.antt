@@ -311,7 +311,7 @@ quota_told pass pass' command reply None is = ap (λ (one : Passed). one.quota) 
 quota_news : (pass pass' : Passed) (reply : Reply) → PassNews pass reply pass' → pass'.quota ≡ pass.quota
 quota_news pass pass' reply is = grind arith
 
--- by what the list of matches has there
+-- Case analysis: the list has no match with this number.
 of_none : (cells : List Given) (game : ℕ) (pass : Passed) → slice_get cells game ≡ None → IsOfCell cells game pass → ⊥
 of_none [] game pass none is = is
 of_none (first ∷ cells) zero pass none is = absurd (cc)
@@ -331,7 +331,7 @@ of_some (first ∷ cells) zero pass given there is =
     let same : first ≡ given = cc in is ∙ ap (λ (one : Given). one.setup.quota) (sym same)
 of_some (first ∷ cells) (suc game) pass given there is = of_some cells game pass given there is
 
--- by the match that was found there
+-- Case analysis: the number belongs to a match of the list.
 pub of_at : (cells own : List Given) (game : ℕ) (pass : Passed) (given : Given) → cells ≡ own → game < length cells
     → given ≡ get_or cells game given → pass.quota ≡ given.setup.quota → IsOfCell own game pass
 of_at cells own game pass given same below there is =
@@ -351,7 +351,7 @@ of_cell_same cells game pass pass' same is = by_given (slice_get cells game) ref
     by_given None none = absurd (of_none cells game pass none is)
     by_given (Some given) there = of_some cells game pass' given there (same ∙ of_given cells game pass given there is)
 
--- the port is of the same matches, and its pass is one of its match
+-- The port belongs to the same matches, and its pass to one of them.
 pub record StaysOn (cells : List Given) (port : Seated) : Type 0 where
   pub same : port.cells ≡ cells
   pub plays : IsPlayedOn cells port.played

@@ -1,4 +1,4 @@
--- Clients that grow older one after the other, and one that is cut off.
+-- Loop invariant: ageing the waiting clients in order, and cutting off one client.
 use Rattle.std.proofs.Common.{arith, ℕ, zero, suc, ◌≡◌, ◌<◌, Some, List, [], ◌∷◌, length}
 use Rattle.std.proofs.Common.{take, drop, get_or, map, refl, ap, ap₂, slice_set}
 use Rattle.bhs_server.specs.declared.waiting.Known.{Known}
@@ -41,7 +41,7 @@ one_grown (first ∷ old) (one ∷ now) (suc place) d within same grown =
         take place now ≡ map older (take place old)
     tails e = cc
 
--- a client that is cut off at its place
+-- cutting off the client at a place
 pub cut_there : (clients : List Known) (place : ℕ) (d : Known) → place < length clients →
     slice_set clients place (record (get_or clients place d) { stand = IsCut }) ≡ cut_at clients (Some place)
 cut_there [] place d within = absurd (omega (arith, within))

@@ -1,4 +1,4 @@
--- Who of those that wait to be let in is cut off for one more.
+-- Which waiting client is cut off to make room for another.
 use Rattle.std.specs.Prelude.{ℕ, ◌+◌, ◌-◌, ◌^◌, ◌==◌, min, nat_le, nat_lt, Bool, ◌&&◌, ◌||◌, not, Option, Some, None}
 use Rattle.std.specs.Prelude.{List, [], ◌∷◌, suc, if◌then◌else◌}
 use Rattle.bhs_server.specs.declared.origins.Origin.{Origin}
@@ -11,15 +11,15 @@ use Rattle.bhs_server.specs.Waiting.{waits, cut_at}
 abbrev pub is_near : Known → Origin → Bool
 is_near client origin = waits client && (client.origin.network == origin.network)
 
--- whether it waits at this address
+-- whether the client waits and connects from this address
 abbrev pub is_at : Known → Origin → Bool
 is_at client origin = is_near client origin && (client.origin.place == origin.place)
 
--- whether it may be cut off for another: it waits, and not in the room that is kept for its address
+-- whether the client may be cut off: it waits, and does not occupy the room reserved for its address
 abbrev pub may_go : Known → Bool
 may_go client = waits client && not client.has_room
 
--- a count, and one more if that is so
+-- adds 1 to a count if the condition holds
 abbrev pub one_more_if : ℕ → Bool → ℕ
 one_more_if count is_so = if is_so then min (count + 1) (2 ^ 32 - 1) else count
 
@@ -30,7 +30,7 @@ crowd_with crowd client origin = record {
   address = one_more_if crowd.address (is_at client origin);
 }
 
--- a crowd at this address with those of these clients that wait there
+-- the number of waiting clients at an address, added to a count
 abbrev pub crowd_from : List Known → Origin → Crowd → Crowd
 crowd_from [] origin crowd = crowd
 crowd_from (client ∷ clients) origin crowd = crowd_from clients origin (crowd_with crowd client origin)
@@ -54,7 +54,7 @@ denser None place client crowd = Some (alone place client crowd)
 denser (Some found) place client crowd = if is_greater crowd found.crowd then Some (alone place client crowd) else
     if is_greater found.crowd crowd then Some found else Some (record found { last = place })
 
--- the greatest crowd among those who may go, of whom these are still to be looked at
+-- The largest crowd among the clients that may be cut off; the clients of `left` remain to be considered.
 abbrev pub densest_from : (all left : List Known) → (place : ℕ) → Option Densest → Option Densest
 densest_from all [] place found = found
 densest_from all (client ∷ left) place found = densest_from all left (suc place)

@@ -11,8 +11,8 @@ abbrev pub moved_by : (words : ℕ) → ChaCha → ChaCha
 moved_by zero dealer = dealer
 moved_by (suc words) dealer = moved_on (moved_by words dealer)
 
--- Why a match is closed after these turns: the pace says so; or its agents have all ended or are lost, and this is to
--- close it; or there is no number for another turn.
+-- The reason to close a match after these turns: the pace decides so; all its agents have ended or are lost, and the
+-- match is to be closed then; or the turn numbers are exhausted.
 abbrev pub MayClose : (says_so : Type 0) → (early : Bool) → Given → (turns : ℕ) → Type 0
 MayClose says_so early given turns =
     says_so ⊎ (((early ≡ true) × WasSeen given.net given.setup AreAllDone) ⊎ (turns ≡ 2 ^ 32 - 1))

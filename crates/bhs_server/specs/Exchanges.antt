@@ -16,26 +16,26 @@ use Rattle.bhs_session.specs.Session.{TakesLines}
 pub data Exchange : Type 0 where
   -- a command that was heard, and its receipt
   Took : Command → Receipt → Exchange
-  -- a command that was not heard
+  -- a command that was refused
   Refused : Command → Exchange
   -- an arrival
   Came : Receipt → Exchange
 
 -- ---- its text
 
--- the receipts of commands after it
+-- the receipts of commands after this exchange
 abbrev pub receipts_after : List Receipt → Exchange → List Receipt
 receipts_after receipts (Took command receipt) = receipts ++ receipt ∷ []
 receipts_after receipts (Refused command) = receipts
 receipts_after receipts (Came receipt) = receipts
 
--- the receipts of arrivals after it
+-- the receipts of arrivals after this exchange
 abbrev pub arrivals_after : List Receipt → Exchange → List Receipt
 arrivals_after arrivals (Took command receipt) = arrivals
 arrivals_after arrivals (Refused command) = arrivals
 arrivals_after arrivals (Came receipt) = arrivals ++ receipt ∷ []
 
--- what is answered, where there are these receipts; a refusal follows from them
+-- The reply of an exchange, given the earlier receipts, which determine refusals.
 abbrev pub reply_in : (quota : ℕ) → List Receipt → Exchange → Option Reply
 reply_in quota receipts (Took command receipt) = Some receipt.reply
 reply_in quota receipts (Refused command) = option_map No (refusal_by quota (tally_in receipts) command)

@@ -14,7 +14,7 @@ use Rattle.bhs_lock.specs.Recording.{IsSubmitted}
 use Rattle.bhs_lock.specs.Cells.{Given, IsNews}
 use Rattle.bhs_server.specs.declared.ports.SessionAgent.{SessionAgent}
 
--- the keys, the matches as they were given, and the agent that is played, once there is one
+-- The keys, the matches as they were given, and the session's agent, once there is one.
 pub record Seated : Type 0 where
   pub keys : List Seat
   pub cells : List Given
@@ -32,7 +32,7 @@ pub record IsKeyOf (keys : List Seat) (games : ℕ) (key : List ℕ) (game agent
   pub seat : seat_at key keys ≡ Some (game, agent)
   pub there : game < games
 
--- the pass is one of this match: it has its quota
+-- The pass belongs to this match: it has the match's quota.
 abbrev pub IsOfCell : List Given → (game : ℕ) → Passed → Type 0
 IsOfCell cells game pass = HasQuota (slice_get cells game) where
   HasQuota : Option Given → Type 0
@@ -47,7 +47,7 @@ pub record IsClaimed (old : Seated) (key : List ℕ) (game : ℕ) (fresh : Passe
   pub paired : length fresh.receipts ≡ length fresh.commands
   pub of_cell : IsOfCell old.cells game fresh
 
--- what a client is told: where the pass does not agree with the match, that the match is over
+-- The reply that the client gets; if the pass disagrees with the match, the reply is that the match is over.
 abbrev pub agreed : Reply → Reply
 agreed (No Agent) = Over
 agreed reply = reply

@@ -40,8 +40,8 @@ IsAstray (Oblivious law) (Some dealer) held play turns place why =
     (stamps_in play.log turns) place why
 IsAstray schedule dealer held play turns place why = ⊥
 
--- The match has ended, is of the world that the cell was given, and some passes are in accord with it: they have all
--- commands that its agents were heard with. Each event of its log has a turn.
+-- The match has ended and has the network and setup of its cell. The passes agree with it and contain all heard
+-- commands of its agents. Each event of its log has a turn.
 pub record IsSealed (given : Given) (settlement : Settlement) : Type 0 where
   pub passes : List Passed
   pub accord : AreInAccord given settlement.sealed passes
@@ -77,7 +77,7 @@ others_than game [] = []
 others_than game (session ∷ sessions) = if session.played.game == game then others_than game sessions
     else session ∷ others_than game sessions
 
--- these are the passes that the match was settled with, or refused with
+-- These are the passes with which the match was settled or refused.
 abbrev pub IsSettledBy : Given → List Passed → Result Settlement Refused → Type 0
 IsSettledBy given passes (Ok settlement) = AreInAccord given settlement.sealed passes
 IsSettledBy given passes (Err (Untimely settlement place why)) = AreInAccord given settlement.sealed passes
@@ -94,8 +94,8 @@ AreSettledBy game cells sessions settled = ⊥
 unfoldable pub sessions_on : (matches : ℕ) → List Session → List Session
 sessions_on matches = filter (λ session. nat_lt session.played.game matches)
 
--- How the sessions ended by whose passes the matches were settled: there is one entry for each of them, in their order,
--- and for no other session.
+-- How the sessions ended whose passes settled the matches: one entry for each of these sessions, in their order, and
+-- none for others.
 pub record HaveEnded (cells : List Given) (settled : List (Result Settlement Refused))
     (ended : List Ended) : Type 0 where
   pub sessions : List Session

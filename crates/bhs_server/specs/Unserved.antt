@@ -1,4 +1,4 @@
--- The line to a client that is not served. It says why, and depends on no match.
+-- The line that turns a client away. It gives the reason and is independent of all matches.
 use Rattle.std.specs.Prelude.{ℕ, List, codes}
 use Rattle.bhs_server.specs.declared.unserved.Unserved.{Unserved}
 use Rattle.bhs_server.specs.declared.unserved.Unserved.TheVariants.{Full, Late, Memory}

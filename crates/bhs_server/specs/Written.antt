@@ -25,7 +25,7 @@ use Rattle.bhs_server.specs.Exchanges.{phase_from, AreInTurn}
 abbrev pub IsFew : List Command → Type 0
 IsFew left = (left ≡ []) ⊎ ((command : Command) × (left ≡ command ∷ []))
 
--- at most the line that the match is over
+-- At most one line, which reports the end of the match.
 abbrev pub MayBeOver : (last : List ℕ) → Type 0
 MayBeOver last = (last ≡ []) ⊎ (last ≡ text_of Over)
 

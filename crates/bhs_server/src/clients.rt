@@ -1,5 +1,5 @@
-//! Who is connected to a server. Those who wait to be let in and those who play are bounded apart, so that a flood
-//! takes no room of an agent's: it makes room for others where most wait.
+//! The connected clients of a server. Waiting clients and playing clients have separate bounds, so a flood takes no
+//! place from an agent: it competes only with the waiting clients of the most crowded network.
 
 ghost use Rattle.std.specs.Prelude.{◌≡◌, map};
 ghost use Rattle.bhs_server.specs.Waiting.{older};
@@ -17,8 +17,8 @@ use std::sync::Arc;
 // How many clients may wait at most to be let in.
 const WAITING: usize = 256;
 
-// How many clients whose agents have not entered are connected at most, with those that were cut off and are about to
-// go.
+// The maximal number of connected clients whose agents have not entered, including those that were cut off and are
+// about to leave.
 const OUTSIDE: usize = 512;
 
 // A client whose agent has entered.
@@ -31,7 +31,7 @@ struct EnteredClient {
 /// The clients that are connected.
 #[derive(Drop)]
 pub(crate) struct Clients {
-    /// Those whose agents have not entered, in the order in which they came.
+    /// The clients whose agents have not entered, in the order of their connections.
     known: Vec<Known>,
     /// The socket of each, at the same place.
     sockets: Vec<Arc<TcpStream, Global>>,
@@ -56,7 +56,7 @@ impl Clients {
         })
     }
 
-    /// Adds the client of a session. If too many wait to be let in, one of them is cut off; if that is this one, it is
+    /// Adds the client of a session. If too many clients wait, one of them is cut off; if that is the new client, it is
     /// not added.
     pub(crate) fn add(
         &mut self,
@@ -93,7 +93,7 @@ impl Clients {
         Ok(())
     }
 
-    // Whether as many agents have entered, or are about to, as may.
+    // Returns whether the number of agents that have entered or are entering has reached its limit.
     fn are_all_in(&self) -> bool {
         let mut all = self.entered.len();
         for client in self.known.iter() {
@@ -115,8 +115,8 @@ impl Clients {
         waiting > WAITING
     }
 
-    // Whether a client of this address gets the room that is kept for it: an agent has entered from there, and nobody
-    // else has that room.
+    // Returns whether the room reserved for this address is free for the client: an agent has entered from the address,
+    // and no other client occupies the room.
     fn keeps_room(&self, origin: Origin) -> bool {
         let is_taken = self
             .known
@@ -125,7 +125,7 @@ impl Clients {
         !is_taken && self.origins.iter().any(|one| *one == origin)
     }
 
-    /// Cuts off the client that is to make room for others, if one may be, and nobody else.
+    /// Cuts off at most one client, the one that makes room for others.
     pub(crate) fn make_room(&mut self)
         ensures { self.new.known.items ≡ with_room self.old.known.items }
     {
@@ -172,7 +172,7 @@ impl Clients {
             return;
         }
         if self.entered.reserve(1).is_err() {
-            // it stands as one that enters, and is not cut off before the end
+            // The client's stand is `Enters`, so it is not cut off before the end.
             return;
         }
         let origin = self.known.remove(place).origin;
@@ -183,7 +183,7 @@ impl Clients {
         }
     }
 
-    // Has the client of a session stand so, unless it is cut off: whether it is not.
+    // Sets the stand of a session's client. Returns false if the client was cut off.
     fn stands(&mut self, session: u32, stand: Stand) -> bool {
         for client in self.known.iter_mut() {
             if client.session == session && client.stand != Stand::IsCut {
@@ -222,7 +222,7 @@ impl Clients {
             .position(|client| client.session == session)
     }
 
-    /// There was a look: cuts off who has waited too long to be let in, and nobody else.
+    /// Records a look: cuts off exactly the clients that have waited too long to be admitted.
     pub(crate) fn grow_older(&mut self)
         ensures { self.new.known.items ≡ map older self.old.known.items }
     {

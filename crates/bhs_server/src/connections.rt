@@ -31,7 +31,7 @@ const TAKEN: usize = 4 * 1024;
 // How many bytes are taken from a client at most until its agent enters: the longest line and some blank lines.
 const FIRST: usize = 128 * 1024;
 
-/// Is called by a session while it goes on.
+/// Hooks that a session calls while it runs.
 pub trait SessionHooks {
     /// The session was let in as this agent of a match. Its Enter has not been played yet.
     fn let_in(&self, game: u32, agent: u16);
@@ -43,11 +43,11 @@ pub trait SessionHooks {
     /// used up no quota.
     fn answered(&self, is_heard: bool);
 
-    /// The session is about to wait for an arrival: what it has written so far is to reach its client.
+    /// Called before the session waits for an arrival, so that buffered output reaches the client.
     fn before_waiting(&self);
 }
 
-/// A connection over TCP. Its session is on one thread.
+/// A TCP connection, whose session runs on one thread.
 #[derive(Drop)]
 pub(crate) struct Connection {
     stream: Arc<TcpStream, Global>,
@@ -71,7 +71,7 @@ impl Connection {
         })
     }
 
-    /// Why the client was cut off before its agent had entered, if it was.
+    /// Returns why the client was cut off before its agent entered, or None.
     pub(crate) fn unserved(&self) -> Option<Unserved> {
         self.unserved.get()
     }
@@ -94,7 +94,7 @@ impl Connection {
         turn_away(&self.stream, why);
     }
 
-    /// Tells who watches of the lines of the client that were no commands, if there are any.
+    /// Reports the client's lines that were no commands to the watcher, if there are any.
     pub(crate) fn tell_strays<W: Watch>(&self, session: u32, watch: &W) {
         if let Ok(strays) = self.strays.try_borrow_mut() {
             if strays.lines > 0 {
@@ -103,7 +103,7 @@ impl Connection {
         }
     }
 
-    /// Whether some of what was held back could not be sent.
+    /// Returns whether sending buffered output has failed.
     pub(crate) fn has_failed(&self) -> bool {
         self.has_failed.get()
     }
@@ -125,7 +125,7 @@ impl Connection {
     }
 }
 
-/// The client of a session, and who watches it.
+/// The client of a session, and its watcher.
 #[derive(Clone, Copy, Drop)]
 pub(crate) struct Guest<'a, R, W> {
     rt: &'a R,

@@ -1,5 +1,5 @@
-//! Who of those that wait to be let in is cut off for one more: a client of the network, and there of the address,
-//! where most wait. So a flood makes room for others, and not others for a flood.
+//! Chooses the waiting client to cut off: from the network, and within it the address, with the most waiting clients.
+//! So a flood makes room for others, and not others for a flood.
 
 ghost use Rattle.std.specs.Prelude.{◌≡◌};
 ghost use Rattle.bhs_server.specs.Crowds.{crowd_of, crowd_with, denser, first_cut, goes, is_at, is_greater, is_near};
@@ -18,7 +18,7 @@ pub(crate) struct Crowd {
     pub(crate) address: u32,
 }
 
-/// The greatest crowd, and which of its clients came first and last. They are places in a list.
+/// The largest crowd, with the places of its first and last clients in the list.
 #[derive(Clone, Copy, Debug)]
 pub(crate) struct Densest {
     pub(crate) crowd: Crowd,
@@ -29,21 +29,21 @@ pub(crate) struct Densest {
 }
 
 impl Known {
-    // Whether it waits in the network of an address.
+    // Returns whether the client waits in the network of this address.
     fn is_near(&self, origin: Origin) -> bool
         ensures { result ≡ is_near self.now origin }
     {
         self.waits() && self.origin.network == origin.network
     }
 
-    // Whether it waits at an address.
+    // Returns whether the client waits at this address.
     fn is_at(&self, origin: Origin) -> bool
         ensures { result ≡ is_at self.now origin }
     {
         self.is_near(origin) && self.origin.place == origin.place
     }
 
-    // Whether it may be cut off for another: it waits, and not in the room that is kept for its address.
+    // Returns whether the client may be cut off: it waits, and does not occupy the room reserved for its address.
     fn may_go(&self) -> bool
         ensures { result ≡ may_go self.now }
     {
@@ -51,7 +51,7 @@ impl Known {
     }
 }
 
-// A count, and one more if that is so.
+// Adds 1 to a count if the condition holds.
 fn one_more_if(count: u32, is_so: bool) -> u32
     ensures { result ≡ one_more_if count is_so }
 {
@@ -136,7 +136,7 @@ impl Densest {
     }
 }
 
-/// The place of who is cut off first, if anybody may be.
+/// Returns the place of the client to cut off first, if any may be cut off.
 pub(crate) fn first_cut(clients: &[Known]) -> Option<usize>
     ensures { result ≡ first_cut clients.now }
 {

@@ -26,7 +26,7 @@ struct ContestProgress {
     awaited: u32,
     /// Whether no more sessions are accepted, and those that still run are cut off.
     is_over: bool,
-    /// Whether the matches may begin; None until that is settled.
+    /// Whether the matches may begin; None while this is undecided.
     begins: Option<bool>,
     clients: Clients,
 }
@@ -60,7 +60,7 @@ impl Ending {
         })
     }
 
-    /// Says whether the matches may begin: only if all their threads are there.
+    /// Decides whether the matches may begin: only if all their threads run.
     pub(crate) fn begin<R: Wait>(&self, rt: &R, may_begin: bool) {
         let mut progress = self.progress.lock(rt);
         progress.begins = Some(may_begin);
@@ -88,7 +88,7 @@ impl Ending {
         self.changed.notify_all();
     }
 
-    /// Counts the client of a session among those that are connected. If the contest is over, it is cut off.
+    /// Registers the client of a session as connected. If the contest is over, the client is cut off.
     pub(crate) fn come<R: Wait>(
         &self,
         rt: &R,
@@ -103,7 +103,7 @@ impl Ending {
         progress.clients.add(session, origin_of(peer.ip()), socket)
     }
 
-    /// Cuts off a client that waits to be let in, if one may be.
+    /// Cuts off one waiting client, if possible.
     pub(crate) fn make_room<R: Wait>(&self, rt: &R) {
         self.progress.lock(rt).clients.make_room();
     }

@@ -2,15 +2,15 @@
 
 use std::net::IpAddr;
 
-/// An address, as a network and a place in it: the first 24 bits of an address of IPv4 and the others, or the first 64
-/// bits of one of IPv6 and the others.
+/// An address split into network and host: the first 24 bits of an IPv4 address, or the first 64 bits of an IPv6
+/// address, and the remaining bits.
 #[derive(Clone, Copy, Debug, PartialEq, Eq)]
 pub(crate) struct Origin {
     pub(crate) network: u64,
     pub(crate) place: u64,
 }
 
-/// The origin of who connects from an address. An address of IPv4 that is written as one of IPv6 is one of IPv4.
+/// Returns the origin of a client's address. An IPv4-mapped IPv6 address counts as IPv4.
 pub(crate) fn origin_of(address: IpAddr) -> Origin {
     match address.to_canonical() {
         IpAddr::V4(address) => {

@@ -12,9 +12,9 @@ pub enum PaceStep {
     Close,
 }
 
-/// When the dealers of a server take their turns. It may pause before it answers.
+/// Decides when the dealers of a server take their turns. It may pause before it decides.
 pub trait Pace {
-    // What it may answer for the match of this number, after this number of turns.
+    // The possible decisions for the match with this number after this number of turns.
     ghost says: { Self → ℕ → ℕ → DealerStep → Type 0 };
 
     /// What the dealer of match `game` does after this number of turns.

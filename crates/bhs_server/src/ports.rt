@@ -61,7 +61,7 @@ impl<'a, R: Wait, G: Gate, H: SessionHooks> CellPort<'a, R, G, H> {
         }
     }
 
-    /// The agent that was played, if one has entered.
+    /// Returns the agent of the session, if one has entered.
     pub fn into_played(self) -> Option<SessionAgent>
         ensures { result ≡ self.entry.played }
     {
@@ -77,7 +77,7 @@ impl<'a, R: Wait, G: Gate, H: SessionHooks> CellPort<'a, R, G, H> {
     }
 }
 
-// What a client is told: where the pass does not agree with what stands under the lock, that the match is over.
+// Returns the reply for the client; if the pass disagrees with the state under the lock, that the match is over.
 fn agreed(reply: Reply) -> Reply
     ensures { result ≡ agreed reply }
 {

@@ -1,4 +1,4 @@
-//! A contest while it is served: what its threads share, and what each of them does.
+//! A running contest: the state that its threads share, and the body of each thread.
 
 use crate::dealing::{deal, gather};
 use crate::ending::Ending;
@@ -146,7 +146,7 @@ struct Client {
     peer: SocketAddr,
 }
 
-// The socket of a client that connected, if it can be served. Otherwise it is told why not.
+// Returns the socket of a new client if it can be served; else tells the client why not.
 fn welcomed<R: Wait, W: Watch>(
     rt: &R,
     alloc: Global,

@@ -18,7 +18,7 @@ use std::sync::Wait;
 use std::thread::Threads;
 use std::time::{Clock, Duration};
 
-/// A contest that can be served.
+/// A contest that is ready to be served.
 #[derive(Drop)]
 pub struct Contest {
     /// The matches, by number.
@@ -58,10 +58,11 @@ pub struct Served {
 /// is settled with the passes of its sessions, and under the oblivious schedule the turns of its deliveries are
 /// compared with the words; if one match is refused, the others settle nevertheless.
 ///
-/// A session is one whose agent was let in. Clients whose agents have not entered use up nothing: they are bounded
-/// apart, each has some seconds, and if too many wait, one is cut off in the network and at the address where most do.
-/// A client that is not served is told why; no line of this depends on a match. When an accept fails, it pauses and
-/// accepts again. If a thread for a match cannot be started, no match begins.
+/// Serves a contest until it ends. Only a session whose agent was admitted counts as a session. Clients whose agents
+/// have not entered use up nothing: their number and their time are bounded separately, and if too many wait, one is
+/// cut off in the network, and at the address, with the most waiting clients. A client that is not served is told why,
+/// in a line that is independent of all matches. When an accept fails, the server pauses and accepts again. If a
+/// match's thread cannot be started, no match begins.
 pub fn run_server<
     R: Threads + Wait + Clock + Sync,
     P: Pace + Sync,
@@ -77,7 +78,7 @@ pub fn run_server<
     gate: &G,
     watch: &W,
 ) -> Result<Served, Lack>
-    // Each match has its dealer: no turn is taken in one that has none, and it is never closed.
+    // Each match has a dealer; a match without one would take no turn and never close.
     requires { length contest.dealers.items ≡ length contest.cells.items }
     ensures settled { IfOk result (λ served. HaveFared contest.cells.items contest.dealers.items served.settled.items) }
 

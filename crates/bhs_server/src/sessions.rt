@@ -47,7 +47,7 @@ impl Sessions {
         })
     }
 
-    /// Keeps a session. There is room for it, since each agent is let in once.
+    /// Stores a session. There is room for it, since each agent is admitted once.
     pub(crate) fn keep<R: Wait>(&self, rt: &R, session: Session) {
         let mut all = self.all.lock(rt);
         let _ = all.push(session);

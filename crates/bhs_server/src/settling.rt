@@ -12,10 +12,10 @@ use bhs_session::Ended;
 use bhs_time::ScheduleKind;
 use std::alloc::Global;
 
-/// Why there is no result of a match.
+/// Reasons why a match has no result.
 #[derive(Debug, Drop)]
 pub enum Refused {
-    /// It does not settle with the passes of its sessions.
+    /// The match disagrees with the passes of its sessions.
     Unsettled(bhs_lock::Unsettled),
     /// It settles, and with its turn the event at this place of the log belongs to no timed execution.
     Untimely {
@@ -25,7 +25,7 @@ pub enum Refused {
     },
 }
 
-/// What came of a match: the match, as its sessions were answered and with its turns, or why it has no result.
+/// The result of a match: the match, as its sessions were answered, with its turns; or the reason why there is none.
 pub type Settled = Result<Settlement, Refused>;
 
 /// How the sessions on matches below this number ended, in order.
@@ -45,7 +45,7 @@ pub(crate) fn endings(
         .collect(alloc)
 }
 
-// The passes of the sessions on the match of this number, and the sessions on others.
+// Separates the passes of the sessions on the match with this number from the other sessions.
 fn parted(
     alloc: Global,
     number: usize,
@@ -67,7 +67,7 @@ fn parted(
     Ok((own, others))
 }
 
-/// What came of the match of each cell, in order, with the passes of its sessions and by the dealer of its number.
+/// Settles the match of each cell, in order, with the passes of its sessions and the dealer of its number.
 pub(crate) fn settle_all(
     alloc: Global,
     cells: Vec<Cell>,
@@ -89,7 +89,7 @@ pub(crate) fn settle_all(
     Ok(settled)
 }
 
-// The dealer of this number, at its start, if there is one.
+// Returns a copy of the dealer with this number in its initial state, if there is one.
 fn copy_at(dealers: &[Dealer], number: usize) -> Option<Dealer>
     ensures { result ≡ option_map at_start (slice_get dealers.now number) }
 {

@@ -6,13 +6,12 @@ use std::alloc::Global;
 // How many bytes of the first such line are kept at most.
 const STRAY: usize = 400;
 
-/// The lines of a client, after its first one, that were no commands.
+/// A client's lines, after its first one, that were no commands.
 #[derive(Drop)]
 pub struct Strays {
     /// How many they are.
     pub lines: u32,
-    /// The first bytes of the first of them, 400 at the most. There are none if it was longer than a line may be,
-    /// or if there was no memory to keep them.
+    /// The first bytes, at most 400, of the first such line. Empty if the line was too long, or if memory ran out.
     pub first: Vec<u8>,
 }
 
@@ -33,7 +32,7 @@ impl Strays {
         self.lines = self.lines.saturating_add(1);
     }
 
-    // Keeps the first bytes of a line. Without memory they are not kept.
+    // Stores the first bytes of a line, unless memory runs out.
     fn keep(&mut self, line: &Raw<'_>) {
         if let Raw::Whole(line) = line {
             let bytes = line.as_slice();

@@ -1,4 +1,4 @@
-//! Why a client is not served, and the line that tells it so.
+//! Reasons to turn a client away, and the line that reports them.
 
 ghost use Rattle.std.specs.Prelude.{◌≡◌};
 ghost use Rattle.bhs_server.specs.Unserved.{unserved_line};
@@ -6,14 +6,14 @@ ghost use Rattle.bhs_server.specs.Unserved.{unserved_line};
 use std::io::Write;
 use std::net::{Shutdown, TcpStream};
 
-/// Why a client is not served.
+/// The reason to turn a client away.
 #[derive(Clone, Copy, Debug, PartialEq, Eq)]
 pub enum Unserved {
-    /// As many agents have entered as may, or most of those that wait to be let in are where it comes from.
+    /// The number of agents has reached its limit, or most waiting clients come from the client's network.
     Full,
     /// Its first line was too long in coming, or it made room for another.
     Late,
-    /// There was no memory or no thread for it.
+    /// Memory or a thread was missing for the client.
     Memory,
 }
 

@@ -14,7 +14,7 @@ use std::sync::Wait;
 /// How often a session may read.
 pub const TURNS: u32 = 16_777_216;
 
-/// A session that has ended: how, and the agent that it played, if it was let in.
+/// A session that has ended: how it ended, and its agent, if one was admitted.
 #[derive(Debug, Drop)]
 pub struct EndedSession {
     pub ended: Ended,

@@ -1,5 +1,5 @@
-//! Who waits to be let in, and who of them is cut off. Nobody else is: who plays is kept elsewhere, and who enters is
-//! not cut off.
+//! The clients that wait to be admitted, and which of them is cut off. Playing clients are kept elsewhere, and an
+//! entering client is not cut off.
 
 ghost use Rattle.std.specs.Prelude.{◌≡◌, map};
 ghost use Rattle.bhs_server.specs.Waiting.{older, waits};
@@ -16,7 +16,7 @@ pub(crate) enum Stand {
     Waits,
     /// Its first line is being read, and it is not cut off meanwhile.
     Enters,
-    /// It is cut off, and its session is about to end.
+    /// The client is cut off, and its session is about to end.
     IsCut,
 }
 
@@ -26,14 +26,14 @@ pub(crate) struct Known {
     pub(crate) session: u32,
     pub(crate) origin: Origin,
     pub(crate) stand: Stand,
-    /// Whether it has the room that is kept for its address, since an agent has entered from there before.
+    /// Whether the client occupies the room reserved for its address, from which an agent has entered before.
     pub(crate) has_room: bool,
     /// How many looks it has waited to be let in.
     pub(crate) looks: u32,
 }
 
 impl Known {
-    /// Whether it waits to be let in.
+    /// Returns whether the client waits to be admitted.
     pub(crate) fn waits(&self) -> bool
         ensures { result ≡ waits self.now }
     {
@@ -66,7 +66,7 @@ impl Known {
     }
 }
 
-/// There was a look: who has waited too long to be let in is cut off, and nobody else.
+/// Records a look: cuts off exactly the clients that have waited too long to be admitted.
 pub(crate) fn grow_older(clients: &mut [Known])
     ensures { clients.new ≡ map older clients.old }
 {

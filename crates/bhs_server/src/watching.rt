@@ -7,7 +7,7 @@ use bhs_session::Ended;
 use bhs_wire::Denial;
 use std::net::SocketAddr;
 
-/// Why the agent of a client has not entered.
+/// The reason why a client's agent has not entered.
 #[derive(Clone, Copy, Debug, PartialEq, Eq)]
 pub enum Outside {
     /// Its first line was denied.

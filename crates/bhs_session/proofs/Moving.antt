@@ -1,4 +1,4 @@
--- Parts of a session, one after the other.
+-- The composition of steps of a session.
 use Rattle.std.proofs.Common.{◌≡◌, ℕ, ◌<◌, Bool, true, false, List, [], ◌∷◌, ◌++◌, length, Ok, Err, IfErr, sym, ap}
 use Rattle.std.proofs.Common.{subst, append_assoc, append-nil, arith, length-append}
 use Rattle.std.specs.declared.result.Result.{Result}
@@ -86,7 +86,7 @@ module _ {O P : Type 0} (takes : O → List ℕ → WriteAnswer → O → Type 0
   Ends-trans b c port1 port2 taken1 taken2 phase1 next (Err stop) first second =
       (second.0, (second.1.0, Moves-trans b c port1 port2 taken1 second.1.0 phase1 (phase_of stop) first second.1.1))
 
--- the line of an answer that is not the news of another
+-- The line of an answer other than the news of an arrival.
 module _ {O P T : Type 0} (takes : O → List ℕ → WriteAnswer → O → Type 0) (calls : P → PortRequest → PortAnswer → P
     → Type 0) (b : O)
     (p : Point O P) (reply : Reply) where
@@ -144,7 +144,7 @@ pub TakesLines-between : (has_entered : Bool) → TakesLines (between has_entere
 TakesLines-between true = tt
 TakesLines-between false = tt
 
--- bytes with a line in them are some bytes
+-- Bytes that contain a line are not empty.
 pub IsNext-some : (read : List ℕ) (taken : List Line) (line : Line) → IsNext read taken line → 0 < length read
 IsNext-some [] taken line next = absurd (let none = ap length next.1 in
     omega (arith, none, length-append taken (line ∷ next.0)))

@@ -8,7 +8,7 @@ use Rattle.bhs_wire.specs.Lines.{Line, lines, seen}
 use Rattle.bhs_session.specs.Session.{IsNext}
 
 module _ (read : List ℕ) (taken : List Line) (found : List Raw) (i : ℕ) where
-  -- the line at the index is the next one
+  -- The line at the index is the session's next line.
   pub IsNext-at : (x : Raw) → i < length found → x ≡ get_or found i x → lines read ≡ taken ++ map seen found
       → IsNext read (taken ++ map seen (take i found)) (seen x)
   IsNext-at x within is whole =

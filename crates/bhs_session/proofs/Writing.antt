@@ -1,4 +1,4 @@
--- What was written, as a step of a session.
+-- The written bytes as a step of a session.
 use Rattle.std.proofs.Common.{◌≡◌, ℕ, Bool, true, false, List, [], None, Some, refl, sym, subst, take}
 use Rattle.std.specs.declared.option.Option.{Option}
 use Rattle.bhs_model.specs.declared.replies.Reply.{Reply}

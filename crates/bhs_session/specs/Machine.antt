@@ -34,7 +34,7 @@ hear phase heard = phase
 
 -- ---- where what is owed is sent at once
 
--- the text that is owed, and the phase behind it
+-- the text that the session owes its client, and the phase after it
 abbrev pub owed_text : Phase → List ℕ
 owed_text (Owes text next) = text
 owed_text phase = []

@@ -61,8 +61,8 @@ finished_or (Some ended) next = Finished ended
 abbrev pub answered_by : (waits : Bool) → Reply → Phase
 answered_by waits reply = finished_or (ended_by reply) (waiting waits reply)
 
--- the phase after a call of `tell`, or of `news` where it does not wait. Neither lets anyone in: the last line never
--- comes
+-- The phase after a call of `tell`, or of `news` if it does not wait. Neither call admits an agent: the last case does
+-- not occur.
 abbrev pub after_answer : (waits : Bool) → PortAnswer → Phase
 after_answer waits (Answers reply) = Owes (text_of reply) (answered_by waits reply)
 after_answer waits NoMemory = Leaves endings.Memory
@@ -79,7 +79,7 @@ after_enter (LetIn (entries.In reply)) = Owes (text_of reply) (answered_by true 
 after_enter NoMemory = Finished endings.Memory
 after_enter (Answers reply) = Finished endings.Memory
 
--- ---- what stops a session from outside
+-- ---- external reasons that stop a session
 
 -- its agent leaves first exactly if it has entered and no answer has ended the session
 abbrev pub stopped : Phase → Ended → Phase

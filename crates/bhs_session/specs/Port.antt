@@ -12,11 +12,11 @@ pub data PortRequest : Type 0 where
   News : PortRequest
 
 pub data PortAnswer : Type 0 where
-  -- what it hears of a key
+  -- the answer to the presentation of a key
   LetIn : Entered → PortAnswer
   -- the reply to a command, or the news
   Answers : Reply → PortAnswer
-  -- there was no memory for the call
+  -- memory ran out in the call
   NoMemory : PortAnswer
 
 -- what `enter` answered

@@ -1,4 +1,4 @@
--- What was written of a text where it did not go out whole. Only contracts of private functions cite it.
+-- The written part of a text that was not sent completely. Only contracts of private functions cite it.
 use Rattle.std.specs.Prelude.{◌≡◌, ℕ, List}
 use Rattle.bhs_stream.specs.Streams.{WriteAnswer}
 use Rattle.bhs_stream.specs.Sending.{PutsPart}

@@ -68,7 +68,7 @@ pub data SessionStep {O P : Type 0} (takes : O → List ℕ → WriteAnswer → 
   -- what is owed is written
   sends : (p : Point O P) (bytes : List ℕ) (output : O) (next : Phase) → Sends takes p.output p.phase bytes output next
       → SessionStep takes calls p (record p { output = output; written = p.written ++ bytes; phase = next })
-  -- there is no memory for what was read
+  -- Memory ran out for the bytes that were read.
   lacks : (p : Point O P) → TakesLines p.phase → 0 < length p.read
       → SessionStep takes calls p (record p { phase = stopped p.phase endings.Memory })
   -- no turn is left

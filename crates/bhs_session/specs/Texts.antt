@@ -19,7 +19,7 @@ command_by (Tell command) = command
 abbrev pub command_of : Line → Command
 command_of line = command_by (said_by line)
 
--- the line of a reply, and that of a denial, as they are sent
+-- the line of a reply, and the line of a denial, as sent to the client
 abbrev pub text_of : Reply → List ℕ
 text_of reply = line_of reply ++ 10 ∷ []
 

@@ -51,7 +51,7 @@ impl Stop {
     }
 }
 
-/// How an answer ends a session, if it does.
+/// Returns how a reply ends its session, or None if the session goes on.
 pub fn ending_of(reply: LentReply<'_>) -> Option<Ended>
     ensures { result ≡ ended_by (reply_of reply.entry) }
 {

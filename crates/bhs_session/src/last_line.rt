@@ -11,8 +11,8 @@ use bhs_wire::LentReply;
 use std::alloc::Global;
 use std::marker::Model;
 
-/// An answer with its line, which is not put together again for the next answer if that is the same. Contracts see the
-/// answer, if there is one.
+/// An answer with its line, cached so that an equal answer is not formatted again. Contracts see the answer, if there
+/// is one.
 #[derive(Drop)]
 pub(crate) struct LastLine {
     reply: Option<Reply>,
@@ -59,7 +59,7 @@ impl LastLine {
         Ok(())
     }
 
-    // Whether this is the last answer.
+    // Returns whether this is the cached answer.
     #[inline(always)]
     fn is_of(&self, reply: &Reply) -> bool
         ensures { IsTrue result → self.now ≡ Some reply.now }

@@ -20,7 +20,8 @@ pub enum Entered {
 /// Where a session plays its agent. Contracts see the port's calls as steps from one state to the next, each
 /// with what was asked and what was heard.
 pub trait Port {
-    // From the first state the port may be asked this and answer that, and is then in the second state.
+    // The transition relation of the port: in the first state it may give this answer to this request, and is then in
+    // the second state.
     ghost calls: { Self → PortRequest → PortAnswer → Self → Type 0 };
 
     /// Lets the agent of a key enter. This is the first call, and none follows a `Key` or a `Taken`.
@@ -31,7 +32,7 @@ pub trait Port {
     fn tell(&mut self, command: Command) -> Result<Reply, Memory>
         ensures { calls self.old (Tells command) (answered result) self.new };
 
-    /// Is shown a line that is no command, before it is told. The client sees nothing of it.
+    /// Called with each line that is no command, before the port is told. The client cannot observe the call.
     fn show(&self, line: &Raw<'_>);
 
     /// Waits for the agent's next arrival, or for the end of the match.

@@ -4,7 +4,7 @@ use Rattle.bhs_referee.specs.declared.verdicts.Verdict.{Verdict}
 use Rattle.bhs_standings.specs.declared.showing.Show.{Show}
 use Rattle.bhs_standings.specs.declared.showing.Show.TheVariants.{NoGame, Set, Taken}
 
--- of which place a note is, and the verdict that it has seen there
+-- the place that a note belongs to, and the verdict that it has seen
 pub record Seen : Type 0 where
   pub place : ℕ
   pub verdict : Option Verdict
@@ -14,7 +14,7 @@ abbrev pub Agree : (one two : Option Verdict) → Type 0
 Agree (Some one) (Some two) = one ≡ two
 Agree one two = Unit {0}
 
--- a note is of the match, if there is a match of this number
+-- The note belongs to the match with this number, if that match exists.
 abbrev pub IsOf : (places : List ℕ) → (game : ℕ) → Seen → Type 0
 IsOf places game note = IfSome (slice_get places game) (λ place. note.place ≡ place)
 
@@ -24,19 +24,19 @@ pub record Sees (old : Seen) (verdict : Verdict) (new : Seen) : Type 0 where
   pub seen : new.verdict ≡ Some verdict
   pub agrees : Agree old.verdict (Some verdict)
 
--- a verdict was shown where none had been seen
+-- A verdict was shown in place of none.
 pub record IsSet (old : Seen) (verdict : Verdict) (new : Seen) : Type 0 where
   pub sees : Sees old verdict new
   pub first : old.verdict ≡ None
 
--- what came of showing a verdict, by whether there is such a match
+-- the result of showing a verdict, depending on whether the match exists
 abbrev pub Shows : Option ℕ → Verdict → (old : Seen) → Show → (new : Seen) → Type 0
 Shows None verdict old NoGame new = new ≡ old
 Shows (Some place) verdict old Set new = IsSet old verdict new
 Shows (Some place) verdict old Taken new = (shown : Verdict) × Sees old shown new
 Shows game verdict old show new = ⊥
 
--- what is seen of the verdict on a match, by whether there is such a match
+-- the verdict that is shown on a match, depending on whether the match exists
 abbrev pub IsShown : Option ℕ → (old : Seen) → Option Verdict → (new : Seen) → Type 0
 IsShown (Some place) old (Some verdict) new = Sees old verdict new
 IsShown (Some place) old None new = (new ≡ old) × (old.verdict ≡ None)

@@ -38,7 +38,7 @@ abbrev pub line_of : (place : ℕ) → Option Row → List ℕ
 line_of place None = []
 line_of place (Some row) = line place row
 
--- the lines of the rows at these places of the list, in this order, the first being of this number
+-- The lines of the rows at these places of the list, in this order; the first line has this rank.
 abbrev pub lines_from : (place : ℕ) → List Row → List ℕ → List ℕ
 lines_from place rows [] = []
 lines_from place rows (at ∷ others) = line_of place (slice_get rows at) ++ lines_from (place + 1) rows others

@@ -23,7 +23,7 @@ pub fn outcome_text(alloc: Global, outcome: Outcome) -> Result<String, Memory>
     }
 }
 
-// The line of a row, with its place from 1.
+// Formats the line of a row; ranks count from 1.
 fn line(alloc: Global, place: usize, row: &Row) -> Result<String, Memory>
     ensures { IfOk result (λ text. string_bytes text ≡ line place row.now) }
 {

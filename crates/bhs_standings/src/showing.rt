@@ -20,11 +20,11 @@ pub struct Showcase {
 /// What came of showing a verdict.
 #[derive(Clone, Copy, Debug, PartialEq, Eq)]
 pub enum Show {
-    /// There is no match of this number.
+    /// No match has this number.
     NoGame,
-    /// The verdict is the one that is shown.
+    /// The verdict is shown from now on.
     Set,
-    /// One was shown before, and it stays.
+    /// An earlier verdict was shown and stays.
     Taken,
 }
 
@@ -60,9 +60,9 @@ impl Showcase {
         Some(ShowNote { note: cell.note() })
     }
 
-    /// Shows a verdict on a match, unless one is shown already. The note is of that match, if there is one, and has
-    /// seen what is shown then. A verdict of no match, and one for which there is no memory, is not shown, and the note
-    /// is as it was.
+    /// Shows a verdict on a match unless one is shown already. If the match exists, the note must belong to it, and
+    /// records the verdict that is shown then. A verdict on a match that does not exist, or for which memory runs out,
+    /// is not shown, and the note is unchanged.
     pub fn show(&self, game: u32, verdict: Verdict, note: &mut ShowNote) -> Result<Show, Memory>
         requires { IsOf self.now game note.old }
         ensures shown { IfOk result (λ show. Shows (slice_get self.now game) verdict note.old show note.new) }
@@ -78,8 +78,8 @@ impl Showcase {
         }
     }
 
-    /// The verdict that is shown on a match, if there is one. The note is of that match, if there is one, and has seen
-    /// the verdict then; a note that has seen one gets the same for good. Takes no memory.
+    /// Returns the verdict that is shown on a match, if any. If the match exists, the note must belong to it, and
+    /// records the verdict; a note that has seen a verdict gets the same verdict for ever. Allocates no memory.
     pub fn shown(&self, game: u32, note: &mut ShowNote) -> Option<Verdict>
         requires { IsOf self.now game note.old }
         ensures { IsShown (slice_get self.now game) note.old result note.new }

@@ -1,4 +1,4 @@
--- A whiteboard, and what comes of a write on it.
+-- Whiteboards, and the results of writes on them.
 use Rattle.std.specs.Prelude.{ℕ, Option, Some, List, length, if◌then◌else◌, nat_le, bytes_eq}
 use Rattle.bhs_state.specs.declared.swaps.Swap.{Swap}
 use Rattle.bhs_state.specs.declared.swaps.Swap.TheVariants.{Long, Differs, Took}
@@ -18,7 +18,7 @@ abbrev pub last_after : Swap → (last : Option ℕ) → (place : ℕ) → Optio
 last_after Took last place = Some place
 last_after swap last place = last
 
--- the text that it shows then
+-- the text on the whiteboard after a write
 abbrev pub shown_after : Swap → (shown put : List ℕ) → List ℕ
 shown_after Took shown put = put
 shown_after swap shown put = shown

@@ -1,4 +1,4 @@
-//! What is known of an agent: where it stands, and how much of its quota it has used.
+//! The state of an agent: its position, and the used part of its quota.
 
 ghost use Rattle.std.specs.Prelude.{◌≡◌, ◌+◌, ◌<◌, true, IsTrue, Some};
 ghost use Rattle.bhs_model.specs.Runs.{Before, At, Bound, After, is_bound};
@@ -25,7 +25,7 @@ impl Model for Agent {
 }
 
 impl Agent {
-    /// An agent that has not entered.
+    /// Creates an agent that has not entered.
     pub fn new() -> Agent
         ensures { result ≡ newcomer }
     {
@@ -47,7 +47,7 @@ impl Agent {
         }
     }
 
-    /// What it is doing, and where.
+    /// Returns what the agent is doing, and where.
     pub fn standing(&self) -> Standing
         ensures { position_of result ≡ self.now.position }
     {
@@ -71,7 +71,7 @@ impl Agent {
         }
     }
 
-    /// The label, at the node where it is, of the link by which it came; None if it entered there.
+    /// Returns the label by which the agent arrived at its node, or None if it entered there.
     pub fn came(&self) -> Option<u16>
         ensures { result ≡ label_of self.now.position }
     {
@@ -81,7 +81,7 @@ impl Agent {
         }
     }
 
-    /// The node and the port by which it departed, while it is on a link.
+    /// Returns the node and the port of its departure while the agent is on a link.
     pub fn bound(&self) -> Option<(u16, u16)>
         ensures { result ≡ link_of self.now.position }
     {
@@ -117,7 +117,7 @@ impl Agent {
         self.used += 1;
     }
 
-    /// It departs from the node where it is, by this port.
+    /// Moves the agent from its node onto the link at this port.
     pub fn depart(&mut self, node: u16, port: u16)
         requires { node_of self.old.position ≡ Some node }
         ensures { self.new ≡ record self.old { position = Bound node port } }
@@ -125,7 +125,7 @@ impl Agent {
         self.standing = Standing::Away { node, port };
     }
 
-    /// It arrives at a node, by the link with this label there.
+    /// Moves the agent to a node, which it enters by the link with this label.
     pub fn arrive(&mut self, node: u16, label: u16)
         requires { IsTrue (is_bound self.old.position) }
         ensures { self.new ≡ record self.old { position = At node (Some label) } }
@@ -144,7 +144,7 @@ impl Agent {
         self.lost = true;
     }
 
-    /// It ends, at a node or on a link.
+    /// Ends the agent, at a node or on a link.
     pub fn end(&mut self)
         requires { IsTrue (is_inside self.old.position) }
         ensures { self.new ≡ record self.old { position = After } }

@@ -53,7 +53,7 @@ impl Board {
         ensures limit { self.new.limit ≡ self.old.limit }
         ensures last { self.new.last ≡ last_after result self.old.last place }
 
-        // What is shown then is what the model says of a write.
+        // The whiteboard shows what the model says of a write.
         ensures shown { shown_after result now.now put.now ≡ swapped self.old.limit now.now expect.now put.now }
     {
         if put.len() > usize::from(self.limit) {

@@ -1,5 +1,5 @@
-//! The state of an agent (where it is, what it has used of its quota, whether it is lost), and of a whiteboard (one
-//! text, changed by compare and write).
+//! The state of an agent (position, used quota, whether it is lost) and of a whiteboard (one text, changed by
+//! compare-and-swap).
 #![tactic(auto)]
 
 mod agents;

@@ -5,9 +5,9 @@
 pub enum Standing {
     /// It has not entered.
     Outside,
-    /// It is at a node, and came by the link with this label there; None if it entered there.
+    /// The agent is at a node; `came` is the label of its arrival link, None if it entered there.
     Present { node: u16, came: Option<u16> },
-    /// It is on the link that leaves the node by the port, destroyed or not.
+    /// The agent is on the link that leaves the node by the port, destroyed or not.
     Away { node: u16, port: u16 },
     /// It has ended.
     Ended,

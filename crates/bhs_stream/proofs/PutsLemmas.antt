@@ -40,7 +40,7 @@ module _ {O : Type 0} (takes : O → List ℕ → WriteAnswer → O → Type 0) 
       goes_on before count offered here next (Puts-front old here before puts)
       (offered-front front rest before offered is_offered) more within took
 
-  -- all of the front, and then some of the rest
+  -- Transitivity: the whole front is written, then a part of the rest.
   pub Puts-trans : (old mid new : O) (sent : ℕ) → PutsAll takes old front mid → Puts takes mid rest sent new
       → Puts takes old (front ++ rest) (length front + sent) new
   Puts-trans old mid new sent all begins = subst (λ (n : ℕ). Puts takes old (front ++ rest) n new) (omega arith)

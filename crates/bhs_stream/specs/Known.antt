@@ -28,9 +28,9 @@ GivenWithin turns bytes = (reads : ℕ) × (reads ≤ turns) × GivenBy reads by
 abbrev pub GivenBefore : ℕ → List ℕ → Type 0
 GivenBefore turns bytes = (reads : ℕ) × (reads < turns) × GivenBy reads bytes
 
--- the bytes that were read when a fault ended the reading, under a limit and a number of turns.
--- A read that failed gave none. The read that brought more than the limit is the last. Memory was wanted
--- for bytes that had come. And the turns ran out where each of them had given bytes.
+-- The bytes read before a fault ended the reading, under a limit and a number of turns. A failed read gave no bytes.
+-- The read that exceeded the limit is the last. Memory ran out for bytes that had arrived. The turns ran out after
+-- reads that each gave bytes.
 abbrev pub StoppedBy : ReadFault → ℕ → ℕ → List ℕ → Type 0
 StoppedBy Read limit turns bytes = (length bytes ≤ limit) × GivenBefore turns bytes
 StoppedBy Text limit turns bytes = (limit < length bytes) × (length bytes ≤ limit + BUFFER) × GivenWithin turns bytes

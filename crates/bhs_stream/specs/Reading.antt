@@ -1,4 +1,4 @@
--- The reads of a text, one by one.
+-- The sequence of reads of a text.
 use Rattle.std.specs.Prelude.{◌≡◌, ℕ, ◌+◌, ◌<◌, ◌≤◌, List, [], ◌++◌, length}
 use Rattle.bhs_stream.specs.declared.reading.TheConstants.{BUFFER}
 use Rattle.bhs_stream.specs.declared.reading.ReadFault.{ReadFault}
@@ -26,7 +26,7 @@ pub record Closes {I : Type 0} (gives : I → Chunk → I → Type 0) (old : I) 
   pub fits : length bytes ≤ limit
   pub last : gives before chunk new
 
--- the last read brought what is too long, or what there was no memory for
+-- The last read exceeded the limit, or found no memory for its bytes.
 pub record Overruns {I : Type 0} (gives : I → Chunk → I → Type 0) (old : I) (limit turns : ℕ) (whole : List ℕ)
     (new : I) : Type 0 where
   pub bytes : List ℕ

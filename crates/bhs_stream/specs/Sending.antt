@@ -1,8 +1,8 @@
--- The writes of a text, one by one.
+-- The sequence of writes of a text.
 use Rattle.std.specs.Prelude.{◌≡◌, ℕ, ◌+◌, ◌<◌, ◌≤◌, ◌⊎◌, List, ◌++◌, length, drop}
 use Rattle.bhs_stream.specs.Streams.{WriteAnswer, Takes, Refuses}
 
--- the front of what is left of the bytes, which is not empty
+-- A non-empty prefix of the remaining bytes.
 pub record IsOffered (bytes : List ℕ) (sent : ℕ) (offered : List ℕ) : Type 0 where
   pub rest : List ℕ
   pub front : drop sent bytes ≡ offered ++ rest

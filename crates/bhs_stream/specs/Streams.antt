@@ -8,7 +8,7 @@ use Rattle.std.specs.Io.KnownBytes.{Consumes, Appends, Keeps, IsAtEnd}
 pub data Chunk : Type 0 where
   -- some bytes
   Bytes : (bytes : List ℕ) → Chunk
-  -- no byte, since none is left
+  -- the end of the input: no byte is left
   End : Chunk
   -- the read failed
   Fails : Chunk
@@ -24,7 +24,7 @@ chunk_of (Err error) buffer = Fails
 
 -- what a write answers
 pub data WriteAnswer : Type 0 where
-  -- it took this number of bytes, which may be 0
+  -- The writer took this number of bytes, possibly 0.
   Takes : (count : ℕ) → WriteAnswer
   -- the write failed
   Refuses : WriteAnswer

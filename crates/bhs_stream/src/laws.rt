@@ -10,7 +10,7 @@ ghost use Rattle.bhs_stream.specs.declared.reading.ReadFault.{ReadFault};
 
 use std::io::{Read, Write};
 
-/// A text that was read to its end is all that the reader had left.
+/// A text that was read to the end consists of all remaining bytes of the reader.
 pub fn known_texts<R: Read>()
     ensures { (old new : R) (limit turns : ℕ) (text : List ℕ)
         → Closes (known_gives R.remaining) old limit turns text End new

@@ -12,10 +12,10 @@ use thiserror::Error;
 /// The most bytes that one read asks for.
 pub const BUFFER: usize = 16 * 1024;
 
-/// Why a text was not read.
+/// Why reading a text failed.
 #[derive(Clone, Copy, Debug, PartialEq, Eq, Drop, Error)]
 pub enum ReadFault {
-    /// A read failed. One that a signal interrupted is not made again.
+    /// A read failed. Reads that a signal interrupted are not repeated.
     #[error("read")]
     Read,
     /// The text has more bytes than the limit.

@@ -49,7 +49,7 @@ impl Text {
         })
     }
 
-    /// The text, to be looked at.
+    /// Borrows the text as a string slice.
     pub fn as_str(&self) -> &str
         ensures { result.now ≡ self.now }
     {

@@ -6,7 +6,7 @@ ghost use Rattle.bhs_text.specs.Teams.{is_team, is_sized, is_team_character};
 /// The most characters of a team's name. The least is 1.
 pub const MAX_TEAM: usize = 16;
 
-/// Whether the text is the name of a team: 1 to `MAX_TEAM` characters out of `a` to `z`, `0` to `9` and `-`.
+/// Returns whether the text is a valid team name: 1 to `MAX_TEAM` characters from `a` to `z`, `0` to `9` and `-`.
 pub fn is_team(name: &str) -> bool
     ensures { result ≡ is_team name.now }
 {

@@ -1,5 +1,6 @@
--- Two stages that are alike but for one match, through each instruction. How that match stands in both is left open,
--- and so is who is heard: a connection that is heard is the same in both, and is sent the same.
+-- Simulation between two stages that differ in one match, for each instruction. The state of that match in both stages,
+-- and which connections are compared, are parameters: a compared connection is equal in both stages and gets equal
+-- output.
 use Rattle.std.proofs.Common.{◌≡◌, ◌≢◌, ◌∙◌, ℕ, zero, suc, ◌+◌, ◌<◌, Bool, not, ◌&&◌, ◌||◌, cond, nat_lt}
 use Rattle.std.proofs.Common.{◌==◌, Option, Some, None, List, [], ◌∷◌, ◌++◌, length, map, set, get_or, refl, sym, ap}
 use Rattle.std.proofs.Common.{ap₂, subst, subst₂, arith}
@@ -106,7 +107,8 @@ told_alike number one two away conn (connection ∷ connections) =
 
 -- ---- one place of two lists
 
--- what holds of both lists at each place holds after both have something else in one, if it holds of these
+-- A relation between two lists, place by place, is preserved when both lists change at one place, if the new items are
+-- related.
 set_both : {A : Type 0} (P : ℕ → A → A → Type 0) (one two : List A) (none : A) (place : ℕ) (new other : A)
     → length one ≡ length two → ((k : ℕ) → P k (get_or one k none) (get_or two k none)) → P place new other →
     (k : ℕ) → P k (get_or (set one place new) k none) (get_or (set two place other) k none)
@@ -121,7 +123,7 @@ set_both P (first ∷ one) (second ∷ two) none (suc place) new other count all
 
 -- ---- what is alike
 
--- the match of a number among these
+-- the match with this number in a list
 abbrev pub game_in : List Game → (game : ℕ) → Game
 game_in games game = game_at (record { games = games; keys = []; connections = [] }) game
 
@@ -130,9 +132,9 @@ pub record TakenAlike (Match : Game → Game → Type 0) (IsHeard : Type 0) (one
   pub game : Match one.game two.game
   pub same : IsHeard → (one.is_done ≡ two.is_done) × (one.left ≡ two.left) × (one.text ≡ two.text)
 
--- What two stages of so many matches may differ in: how a match stands in one and in the other, and who plays in it. Of
--- which seats the connections are heard is left open too, but whoever plays elsewhere is. Taking lines keeps the match
--- in both as it may stand.
+-- The permitted difference of two stages with equally many matches: the states of one match, and the agents that play
+-- in it. Which of these agents' connections are compared is a parameter; connections elsewhere are always compared. The
+-- difference is preserved when lines are taken.
 pub record Difference : Type 1 where
   pub total : ℕ
   pub game : ℕ
@@ -339,7 +341,7 @@ module _ (by : Difference) (one two : Stage) (are : StagesAlike by one two) wher
     connections = are.connections;
   }
 
-  -- it is told to a connection that is heard
+  -- The report goes to a compared connection.
   told_arrival : (reply : Option Reply) (holder : Option ℕ) → ((conn : ℕ) → holder ≡ Some conn
       → (conn < length one.connections) × by.Heard (connection_at one conn).seat) →
       StepsAlike by (tells_arrival one reply holder) (tells_arrival two reply holder)
@@ -385,7 +387,7 @@ module _ (by : Difference) (one two : Stage) (are : StagesAlike by one two) wher
       let found = position-Some (has_seat (number, agent)) one.connections conn unfed is in
       (found.0, subst by.Heard (sym (seat-has_seat (number, agent) (connection_at one conn) found.1)) (heard agent))))
 
-  -- what is chosen in a match by how it stands
+  -- the event that is chosen in a match, depending on its state
   pub events_alike : (chosen : Game → Option Event) (number : ℕ) →
       (number ≡ by.game → StepsAlike by (delivers one number (chosen (game_at one number)))
       (delivers two number (chosen (game_at two number)))) →

@@ -10,7 +10,7 @@ use Rattle.bhs_theorems.specs.Met.{answer_to, takes_commands, IsDue}
 
 -- ---- where an answer leads
 
--- the phase behind an answer, and what the agent is doing then
+-- the phase after an answer agrees with the agent's standing
 abbrev pub Fits : Phase → Standing → Type 0
 Fits Fresh stands = ⊥
 Fits Ready stands = takes_commands stands ≡ true

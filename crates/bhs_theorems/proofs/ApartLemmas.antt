@@ -123,7 +123,7 @@ not_shut number game connections conn elsewhere =
     ∙ cond-false (waits_in number game connection) (shut connection) connection
     (waits_elsewhere number game connection elsewhere)
 
--- a connection that is told so has its number or a later one
+-- The reported connection has this number or a greater one.
 told_later : (number : ℕ) (game : Game) (connections : List Connection) (first conn : ℕ) → conn < first
     → bytes_among conn (told_over number game first connections) ≡ []
 told_later number game [] first conn earlier = refl
@@ -137,7 +137,7 @@ told_later number game (connection ∷ connections) first conn earlier =
     (λ waits. sent_elsewhere conn first (text_of Over) apart) (λ stays. refl))
     (told_later number game connections (first + 1) conn (omega arith))
 
--- who waits is told that it is over, and nobody else
+-- Exactly the waiting connections are told that the match is over.
 pub told_at : (number : ℕ) (game : Game) (connections : List Connection) (first conn : ℕ) →
     bytes_among (first + conn) (told_over number game first connections) ≡ cond
     (waits_in number game (get_or connections conn unfed)) (text_of Over) []

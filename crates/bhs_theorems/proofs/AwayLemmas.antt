@@ -1,4 +1,4 @@
--- What an event, and taking the items of an agent, leave as it was for the others; and which items are left.
+-- Non-interference of an event, and of taking an agent's items, with the other agents; and the remaining items.
 use Rattle.std.proofs.Common.{◌≡◌, ◌≢◌, ◌∙◌, ℕ, true, false, not, Option, Some, None, List, [], ◌∷◌}
 use Rattle.std.proofs.Common.{refl, sym, ap, subst}
 use Rattle.std.proofs.lemmas.Bool.{and_parts, cond_both, false_from_ne_true, ne_eqb}
@@ -129,7 +129,7 @@ pub record Arriving (world : World) (state : State) (agent : ℕ) (position : Po
   pub sight : Sight
   pub past_is : (delivered world state agent position).past agent ≡ Arrived (state.past agent) sight
   pub away : standing_at position ≡ Away
-  -- it is on no link then
+  -- After its arrival the agent is on no link.
   pub lands : is_bound ((delivered world state agent position).position agent) ≡ false
 
 arriving_at : (world : World) (state : State) (agent : ℕ) (position : Position)
@@ -217,7 +217,7 @@ taken_up game agent (Ends ∷ items) =
     (λ away goes_on stays. absurd (cc))
     (λ stays goes_on still. refl)
 
--- nothing is taken where all was, or where the agent is away
+-- Nothing is taken if no items are left, or if the agent is on a link.
 pub taken_rests : (game : Game) (agent : ℕ) (items : List Item) → (is_away game agent ≡ false → items ≡ [])
     → taken game agent items ≡ leaves game items
 taken_rests game agent [] rests = refl

@@ -55,7 +55,7 @@ front_of (y ∷ ys) (x ∷ xs) same =
     let others : take (length ys) (map Some xs) ≡ map Some ys = cc in
     ap₂ (λ (one : Receipt) (rest : List Receipt). one ∷ rest) first (front_of ys xs others)
 
--- ---- a pass and what was said
+-- ---- a pass and the session's commands
 
 receipted_in : (all : List Exchange) (parting : List Receipt) →
     receipted (receipts_in all ++ parting) (kept_in all ++ map (λ (receipt : Receipt). commands.Leave) parting)
@@ -196,7 +196,7 @@ pub record IsWalked (one : Attended) (w : IsWrittenBy one.pass one.said one.writ
       (map (λ (receipt : Receipt). commands.Leave) (option_to_list w.parting))) more
   pub past : view_along Start steps ≡ (state_of one.play).past one.pass.agent
 
--- the quota of the pass is that of the match
+-- The pass and the match have the same quota.
 own_quota : (one : Attended) → TookPart one → one.pass.quota ≡ one.play.setup.quota
 own_quota one part = of_given part.cells part.game one.pass part.given part.cell part.of_cell
     ∙ ap (λ (setup : Setup). setup.quota) (sym part.accord.world.same_setup)

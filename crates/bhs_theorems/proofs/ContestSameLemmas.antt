@@ -195,7 +195,7 @@ all_sent one is whole =
     ∙ ap (λ (rest : List ℕ). bytes one.play.setup.board is.met ++ rest) none.1
     ∙ append-nil (bytes one.play.setup.board is.met)
 
--- and all commands that were taken
+-- every command that was taken
 all_said : (one : Attended) (is : IsSentAsMet one) → is_whole one.ended ≡ true
     → kinds kind_of is.met ≡ map kind_of one.said
 all_said one is whole =

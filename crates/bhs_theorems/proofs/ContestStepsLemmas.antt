@@ -66,7 +66,7 @@ module _ (world : World) (state : State) (agent : ℕ) (whole : List Kept) (plac
   abbrev Now : Event → Option Mark → Type 0
   Now event mark = StepsOf world state agent whole place (kept_as event mark ∷ log)
 
-  -- the past is what it was
+  -- The past is unchanged.
   own_not : (event : Event) (mark : Option Mark) → (next world state event).past agent ≡ state.past agent →
       heard_from whole agent place (kept_as event mark ∷ log) ≡ heard_from whole agent (place + 1) log →
       arrivals_from agent place (kept_as event mark ∷ log) ≡ arrivals_from agent (place + 1) log →
@@ -132,7 +132,7 @@ module _ (world : World) (state : State) (agent : ℕ) (whole : List Kept) (plac
       in subst P (eqb-true agent other own) (tell_own command mark) is_heard answered rest)
       (λ apart. tell_other other command mark apart rest)
 
-  -- a Deliver that is no arrival of the agent
+  -- a Deliver that is no arrival of this agent
   arrives_not : (other : ℕ) (mark : Option Mark) → is_arrival agent (Deliver other) mark ≡ false →
       (next world state (Deliver other)).past agent ≡ state.past agent →
       Then (Deliver other) → Now (Deliver other) mark

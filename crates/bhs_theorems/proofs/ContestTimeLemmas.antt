@@ -30,7 +30,7 @@ stamped_from world timed (one ∷ others) stamped =
     (happened_stamped world (record timed { turn = one.turn }) one.event
     (record { pasts = stamped.pasts; writes = stamped.writes }))
 
--- the state after a log with turns is that after its events
+-- The state after a log with turns equals the state after its events.
 state_from : (world : World) (timed : TimedState) (log : List Kept) (turns : List ℕ) → length turns ≡ length log →
     (stamped_run_from world timed (stamps_in log turns)).state ≡ run_from world timed.state (events_of log)
 state_from world timed [] turns long = refl

@@ -65,7 +65,7 @@ or_true : (one : Bool) → (one || true) ≡ true
 or_true true = refl
 or_true false = refl
 
--- who is answered so has ended
+-- A last reply means that the agent has ended.
 end_ends : (quota limit : ℕ) (view : View) (command : Command) (glance : Glance) → hears quota view command ≡ true →
     is_end (answer limit (standing view) (ports view) command glance) ≡ true
     → standing (Told view command glance) ≡ Ended
@@ -126,7 +126,7 @@ tallied_arrived quota view receipts sight away tallied = record {
 
 -- ---- the walk
 
--- what is compared of the exchanges
+-- the entries of the exchanges under comparison
 abbrev pub entries_in : List Exchange → List HeardEntry
 entries_in [] = []
 entries_in (Took command receipt ∷ others) =
@@ -157,7 +157,7 @@ ended_still quota limit view (Spoke place command glance reply ∷ steps) ended 
     let free = are.0 in cc)
 ended_still quota limit view (Arrives place sight reply ∷ steps) ended are = absurd (let away = are.0 in cc)
 
--- what is kept of no other command is a Leave
+-- A command whose stored form is a Leave is a Leave.
 pub kept_leave : (command : Command) (reply : Reply) → kept_command command reply ≡ commands.Leave
     → command ≡ commands.Leave
 kept_leave command reply is = grind arith

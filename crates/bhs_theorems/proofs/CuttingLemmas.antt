@@ -33,7 +33,7 @@ cond_alike R true false x y z w same yes_case no_case = absurd (cc)
 cond_alike R false true x y z w same yes_case no_case = absurd (cc)
 cond_alike R false false x y z w same yes_case no_case = no_case refl
 
--- what was taken, with text before it
+-- prepends text to the output of the taken items
 abbrev pub behind : (text : List ℕ) → TakenItems → TakenItems
 behind text done = record done { text = text ++ done.text }
 

@@ -1,4 +1,4 @@
--- What one command makes of its agent and of the others.
+-- The effect of one command on its agent and on the others.
 use Rattle.std.proofs.Common.{◌≡◌, ◌≢◌, ◌∙◌, ℕ, ◌<◌, Bool, true, false, not, ◌&&◌, nat_lt, Option, Some, [], ◌∷◌, refl}
 use Rattle.std.proofs.Common.{sym, ap, subst, arith}
 use Rattle.std.proofs.lemmas.Bool.{cond-true, lt-ltb}
@@ -22,7 +22,7 @@ use Rattle.bhs_theorems.proofs.FitLemmas.{fits_here, here_stands}
 use Rattle.bhs_theorems.specs.Met.{Meeting, Hears, Refuses, past_after, command_in, answer_to, takes_commands, IsDue}
 use Rattle.bhs_model.proofs.LegalLemmas.{either}
 
--- a match that was set up so, with this agent in it
+-- A match with this setup and an agent of it.
 pub record IsIn (setup : Setup) (agent : ℕ) (game : Game) : Type 0 where
   pub setup_is : game.setup ≡ setup
   pub within : agent < setup.agents
@@ -49,20 +49,20 @@ pub record Answered (setup : Setup) (view new : View) (command : Command) (repli
   pub replied_is : replied ≡ Some (answer_to setup.board view meeting)
   pub new_is : new ≡ past_after view meeting
   pub due : IsDue setup.quota view meeting
-  -- who is at a node is not on a link after a last answer
+  -- An agent at a node is on no link after a last reply.
   pub stays : is_last (answer_to setup.board view meeting) ≡ true → here_after ≡ true
   -- an agent has ended exactly after a last answer
   pub ends_it : is_last (answer_to setup.board view meeting) ≡ true → takes_commands (standing new) ≡ false
   pub goes_on : is_last (answer_to setup.board view meeting) ≡ false → standing new ≢ Ended
 
--- where a command other than a departure leaves an agent that is at a node
+-- The position of an agent at a node after a command other than a departure.
 pub stays_here : (world : World) (limit : ℕ) (standing : Standing) (ports : ℕ) (glance : Glance) (position : Position)
     (command : Command) →
     is_last (answer limit standing ports command glance) ≡ true → is_bound position ≡ false
     → is_bound (position_after world position command) ≡ false
 stays_here world limit standing ports glance position command last at = grind arith
 
--- who is neither on a link nor at its end
+-- The agent is neither on a link nor ended.
 pub takes_here : (standing : Standing) → standing ≢ Away → standing ≢ Ended → takes_commands standing ≡ true
 takes_here standing on_no_link lives = grind arith
 

@@ -1,4 +1,4 @@
--- The past of an agent says where it is.
+-- An agent's past determines its position.
 use Rattle.std.proofs.Common.{◌≡◌, ◌≢◌, ℕ, true, false, arith}
 use Rattle.bhs_model.specs.Views.{View, Outside, Present, Away, Ended, standing, ports}
 use Rattle.bhs_model.specs.Worlds.{World}
@@ -20,7 +20,7 @@ pub fits_here : (game : Game) (agent : ℕ) → FitsHere (world_in game) ((state
     ((state_of game).position agent)
 fits_here game agent = legal_fits (world_in game) _ _ (all_run (world_in game) game.log agent)
 
--- who is on no link is not away, and who is on one is
+-- An agent's standing is `Away` exactly if it is on a link.
 pub here_stands : (world : World) (view : View) (position : Position) → FitsHere world view position
     → is_bound position ≡ false → standing view ≢ Away
 here_stands world view position fits at = grind arith

@@ -86,7 +86,7 @@ module _ (world : World) (at_node at_port : ℕ) where
       or_right (held_in ports at_node at_port) (held_in (doomed_links world node) at_node at_port)
       (links_held node (omega (arith, apart)) on is))
 
--- who has a port is a node
+-- Only nodes have ports.
 node_within : (game : Game) (node port : ℕ) → port < degree_of game.net node → node < length game.net
 node_within game node port on = elim (cases_lt node (length game.net)) [
   | inl below ↦ below

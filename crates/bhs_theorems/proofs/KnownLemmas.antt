@@ -1,5 +1,5 @@
--- What is known of a connection: what its agent met, what was taken of it and what it was sent; and how a move keeps
--- it.
+-- The invariant of a connection: what its agent met, which lines were taken, and what it got; and its preservation by a
+-- move.
 use Rattle.std.proofs.Common.{◌≡◌, ◌≢◌, ◌∙◌, ℕ, suc, ◌<◌, ◌⊎◌, inl, inr, Bool, true, false, cond, Option, Some, None}
 use Rattle.std.proofs.Common.{List, [], ◌∷◌, ◌++◌, map, refl, sym, ap, ap₂, subst, append_assoc, append-nil, arith}
 use Rattle.std.proofs.Common.{subst₂}
@@ -30,7 +30,7 @@ use Rattle.bhs_theorems.proofs.TookLemmas.{has_end-end, IsQuiet, IsOpen, Took, t
 
 -- ---- what is known of a connection that plays
 
--- what it was fed, where these lines were taken and the others wait
+-- The input of the connection consists of these taken lines and the waiting ones.
 pub record Reads (connection : Connection) (input : Fed) (taken : List Line) : Type 0 where
   pub split : lines input.bytes ≡ taken ++ lines_of connection.queue
   pub still : connection.ended ≡ false → connection.unfinished ≡ held_of input.bytes
@@ -74,12 +74,12 @@ abbrev pub MetBy : Setup → View → (closed away : Bool) → Connection → (i
 MetBy setup past closed away connection input sent = GoesOn setup past closed away connection input sent
     ⊎ Done setup past closed away connection input sent
 
--- of the agent of a match
+-- the invariant for the agent of a match
 abbrev pub MetIn : Game → (agent : ℕ) → Connection → (input : Fed) (sent : List ℕ) → Type 0
 MetIn game agent connection input sent = MetBy game.setup ((state_of game).past agent) (state_of game).closed
     (is_away game agent) connection input sent
 
--- of an agent that has this past, and so on
+-- the invariant for an agent with this past and position
 pub met_from : {setup : Setup} {past : View} {closed away : Bool} (game : Game) (agent : ℕ) (connection : Connection)
     (input : Fed) (sent : List ℕ) → game.setup ≡ setup → (state_of game).past agent ≡ past
     → (state_of game).closed ≡ closed → is_away game agent ≡ away →
@@ -260,7 +260,7 @@ going_ends setup past connection input sent open_yet going =
     going_reads setup past connection (ending connection) input (at_end input) sent going
     (reads_ends connection input going.taken open_yet going.reads)
 
--- what comes behind the end is not looked at
+-- Input after the end is ignored.
 abbrev pub fed_if : Fed → List ℕ → Fed
 fed_if input fed = cond input.has_ended input (fed_more input fed)
 
@@ -318,7 +318,7 @@ met_unended setup past closed away connection input sent ended (inr done) = inr 
   done_by = λ still unended. absurd (cc);
 })
 
--- ---- what is known of any connection
+-- ---- the invariant of an arbitrary connection
 
 pub record Unseated (connection : Connection) (input : Fed) (sent : List ℕ) : Type 0 where
   pub heard : sent ≡ []

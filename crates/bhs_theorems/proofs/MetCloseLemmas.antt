@@ -1,4 +1,4 @@
--- What is known of a connection, through a close.
+-- The invariant of a connection is preserved by a close.
 use Rattle.std.proofs.Common.{◌≡◌, ◌≢◌, ◌∙◌, ℕ, ◌+◌, ◌<◌, inl, inr, Bool, true, false, cond, ◌&&◌, ◌==◌, Option, Some}
 use Rattle.std.proofs.Common.{None, List, [], ◌++◌, length, refl, sym, ap, ap₂, subst, append-nil, arith}
 use Rattle.std.proofs.lemmas.Bool.{eq-eqb, ne_eqb}

@@ -1,4 +1,4 @@
--- What is known of a connection, through a draw.
+-- The invariant of a connection is preserved by a draw.
 use Rattle.std.proofs.Common.{◌≡◌, ◌≢◌, ◌∙◌, ℕ, ◌<◌, inl, inr, Bool, true, false, not, Option, Some, List, [], ◌∷◌}
 use Rattle.std.proofs.Common.{◌++◌, length, refl, sym, ap, ap₂, subst, append-nil}
 use Rattle.std.proofs.lemmas.Bool.{and_parts, false_from_ne_true, true_from_ne_false}
@@ -53,7 +53,7 @@ arrival game agent comes =
           (state_of-played game (Deliver agent) ∙ next_arrived world state agent comes) ∙ at.past_is;
     }
 
--- who has arrived is on no link
+-- An agent that has arrived is on no link.
 pub arrived_here : (game : Game) (agent : ℕ) → arrives (world_in game) (state_of game) agent ≡ true
     → is_away (played game (Deliver agent)) agent ≡ false
 arrived_here game agent comes =
@@ -63,7 +63,7 @@ arrived_here game agent comes =
     (state_of-played game (Deliver agent) ∙ next_arrived world state agent comes)
     ∙ (arriving world state agent comes).lands
 
--- who arrives is on a link, before the close
+-- An arriving agent is on a link in an open match.
 pub away_arrives : (world : World) (state : State) (agent : ℕ) → arrives world state agent ≡ true
     → (is_bound (state.position agent) ≡ true) × (state.closed ≡ false)
 away_arrives world state agent comes =

@@ -1,4 +1,4 @@
--- What is known of a connection, through each instruction.
+-- The invariant of a connection is preserved by each instruction.
 use Rattle.std.proofs.Common.{◌≡◌, ◌≢◌, ◌∙◌, ℕ, zero, suc, ◌<◌, inl, inr, Bool, true, false, cond}
 use Rattle.std.proofs.Common.{Option, Some, None, List, [], ◌∷◌, ◌++◌, length, replicate, refl}
 use Rattle.std.proofs.Common.{sym, ap, subst, append_assoc, append-nil, arith}
@@ -88,7 +88,7 @@ script_known stage conn input sent (instruction ∷ script) knows =
     (script_known next_stage conn fed (sent ++ bytes_among conn outs) script
     (step_known stage conn input sent instruction knows))
 
--- ---- as many connections as there were
+-- ---- the number of connections is unchanged
 
 abbrev HasAsMany : Stage → Stepped → Type 0
 HasAsMany stage done = length done.stage.connections ≡ length stage.connections

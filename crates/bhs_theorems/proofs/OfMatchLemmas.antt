@@ -20,7 +20,7 @@ use Rattle.bhs_theorems.proofs.TurnLemmas.{ending, bare, seat_of, seat_after}
 use Rattle.bhs_theorems.proofs.ApartLemmas.{sent_elsewhere, not_shut, seats_shut, told_elsewhere, clients_lemma}
 use Rattle.bhs_theorems.proofs.StepCases.{client_step, by_client, event_step, drawn_in, by_event, by_close}
 
--- ---- stages that are the same but for a match
+-- ---- stages that agree except for a match
 
 pub same_itself : (game : ℕ) (stage : Stage) → SameBut game stage stage
 same_itself game stage = record {
@@ -47,7 +47,7 @@ plays_by_seats : (one two : Stage) → seats_of one ≡ seats_of two → (game c
 plays_by_seats one two same game conn =
     ap (λ (own : Option (ℕ × ℕ)). plays_in game (bare own)) (seats_at one.connections two.connections same conn)
 
--- who plays in the match does so in both
+-- An agent of the match plays in both stages.
 pub plays_in_both : (game : ℕ) (one two : Stage) → SameBut game one two → (conn : ℕ)
     → plays_in game (connection_at one conn) ≡ plays_in game (connection_at two conn)
 plays_in_both game one two same conn = plays_by_seats one two same.seats game conn
@@ -72,7 +72,7 @@ same_through game one two three first second = record {
       ∙ second.connections conn (sym (plays_in_both game one two first conn) ∙ elsewhere);
 }
 
--- who plays in the match has a seat there
+-- An agent of the match has a seat there.
 seat_by : (game : ℕ) (own : Option (ℕ × ℕ)) → plays_in game (bare own) ≡ true → (agent : ℕ)
     × (own ≡ Some (game, agent))
 seat_by game None here = absurd (cc)
@@ -92,7 +92,7 @@ nothing_of_match game stage = record { same = same_itself game stage; outs = λ 
 
 -- ---- a move in the match
 
--- who plays elsewhere is not the one that plays here
+-- A connection with a seat elsewhere does not play in this match.
 plays_elsewhere : (stage : Stage) (game conn other agent : ℕ) → (connection_at stage conn).seat ≡ Some (game, agent)
     → plays_in game (connection_at stage other) ≡ false → other ≢ conn
 plays_elsewhere stage game conn other agent seated elsewhere same =

@@ -37,18 +37,19 @@ use Rattle.bhs_theorems.proofs.EventLemmas.{takes_here, stays_here}
 abbrev then_ran : List ℕ → Ran → Ran
 then_ran text ran = record ran { text = text ++ ran.text }
 
--- ---- what is answered says whether the agent is on a link then
+-- ---- the reply tells whether the agent is on a link
 
 abbrev pub waits_after : Reply → Bool
 waits_after reply = awaits (answered_by true reply)
 
--- a phase that fits what an agent is doing, where who is at its end is on no link
+-- A phase that agrees with the standing, if an ended agent is on no link.
 phase_ties : (phase : Phase) (world : World) (view : View) (position : Position) → Fits phase (standing view)
     → (is_finished phase ≡ true → is_bound position ≡ false) → FitsHere world view position →
     awaits phase ≡ is_bound position
 phase_ties phase world view position fits last fits_there = grind arith
 
--- a command of an agent that is on no link: it is answered, and it is on a link then exactly if the phase awaits
+-- A command of an agent at a node is answered, and the agent is on a link afterwards exactly if the phase awaits an
+-- arrival.
 pub record Ties (game : Game) (agent : ℕ) (command : Command) : Type 0 where
   pub reply : Reply
   pub replied_is : reply_to game (Tell agent command) ≡ Some reply
@@ -108,14 +109,14 @@ ties game agent command at =
 
 -- ---- both take the same
 
--- where its agent has entered and it goes on
+-- The agent has entered and its session goes on.
 abbrev Plays : Phase → Type 0
 Plays phase = (phase ≡ Ready) ⊎ (phase ≡ Awaits)
 
 waiting_plays : (reply : Reply) → Plays (waiting true reply)
 waiting_plays reply = grind arith
 
--- such a phase is the one of its agent where it awaits what its agent does
+-- Such a phase is determined by whether it awaits an arrival.
 phase_is : (away : Bool) (phase : Phase) → Plays phase → awaits phase ≡ away → phase ≡ (cond away Awaits Ready)
 phase_is away phase plays waits = grind arith
 

@@ -1,4 +1,4 @@
--- What is sent of the close.
+-- The line that reports the close.
 use Rattle.std.proofs.Common.{◌≡◌, ◌≢◌, Bool, true, false, List, [], ◌∷◌, ◌++◌, map, refl, ap, arith}
 use Rattle.bhs_model.specs.declared.replies.Reply.TheVariants.{Over}
 use Rattle.bhs_model.specs.Views.{Standing, Away, Ended}
@@ -13,7 +13,7 @@ pub over_away : (stands : Standing) (untaken : List Line) → stands ≡ Away
     → over_text true stands untaken ≡ text_of Over
 over_away stands untaken away = ap (λ (stands : Standing). over_text true stands untaken) away
 
--- any other that has not ended at its next line
+-- any other agent that has not ended: at its next line
 pub over_next : (stands : Standing) (line : Line) (untaken : List Line) → stands ≢ Ended
     → over_text true stands (line ∷ untaken) ≡ text_of Over
 over_next standing line untaken lives = grind arith
@@ -44,7 +44,7 @@ EndsLast [] = Unit {0}
 EndsLast (Says line ∷ items) = EndsLast items
 EndsLast (Ends ∷ items) = items ≡ []
 
--- whether the end of the input is among items
+-- whether the items contain the end of the input
 abbrev pub has_end : List Item → Bool
 has_end [] = false
 has_end (Says line ∷ items) = has_end items

@@ -59,7 +59,7 @@ no_circle view longer met is same =
 
 -- ---- what is met
 
--- the kinds of the commands in it
+-- the commands of these meetings, with their kinds
 abbrev pub kinds : (kind : Command → Command) → List Meeting → List Command
 kinds kind [] = []
 kinds kind (Hears command glance ∷ met) = kind command ∷ kinds kind met

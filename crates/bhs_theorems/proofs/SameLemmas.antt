@@ -49,7 +49,7 @@ lived_alone : (has_ended : Bool) (view past : View) → has_ended ≡ false → 
 lived_alone has_ended view past still (inl e) = e
 lived_alone has_ended view past still (inr p) = absurd (let never = p.1 in cc)
 
--- all commands that were fed: those that were met, and those left over
+-- All commands of the input: those that were met, followed by the remaining ones.
 said_first : (setup : Setup) (past : View) (closed : Bool) (fed : Fed) (sent : List ℕ)
     (is : IsSentAsMet setup past closed fed sent) →
     commands is.met ++ map command_of is.untaken ≡ map command_of (lines fed.bytes)

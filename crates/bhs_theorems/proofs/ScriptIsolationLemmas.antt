@@ -1,4 +1,4 @@
--- Scripts on stages that are the same but for a match, and with and without what they have for it.
+-- Scripts on stages that agree except for a match, with and without that match's instructions.
 use Rattle.std.proofs.Common.{◌≡◌, ◌≢◌, ◌∙◌, ◌==◌, ℕ, Bool, true, false, cond, Option, List, [], ◌∷◌, ◌++◌, length}
 use Rattle.std.proofs.Common.{refl, sym, ap, ap₂}
 use Rattle.std.proofs.lemmas.Bool.{eqb-false, eq-eqb, ne_eqb}
@@ -24,7 +24,7 @@ record HeardStep (game : ℕ) (one two : Stepped) : Type 0 where
   outs : (conn : ℕ) → plays_in game (connection_at one.stage conn) ≡ false
       → bytes_among conn one.outs ≡ bytes_among conn two.outs
 
--- ---- stages that are the same but for a match, however it stands, and for who plays in it
+-- ---- stages that agree except for a match in any state, and for its agents
 
 not_elsewhere : (game : ℕ) → (game == game) ≡ false → ⊥
 not_elsewhere game elsewhere = let here = eq-eqb game game refl in cc
@@ -130,7 +130,7 @@ apart_lemma game one two (instruction ∷ script) alike =
           (rest.sends conn elsewhere);
     }
 
--- the first stage hears all of the script, the second what it has for others
+-- The first stage runs the whole script, the second one only the instructions for other matches.
 without_alike : (game : ℕ) (one two : Stage) (script : List Instruction) → SameBut game one two
     → HeardAlike game one script two (without game one script)
 without_alike game one two [] alike = record { stands = alike; sends = λ conn elsewhere. refl }

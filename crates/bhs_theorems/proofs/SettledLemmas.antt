@@ -164,7 +164,7 @@ has_own seat connection mine =
     ap (λ (own : Option (ℕ × ℕ)). has_seat seat (bare own)) mine
     ∙ ap₂ (λ (game agent : Bool). game && agent) (eq-eqb seat.0 seat.0 refl) (eq-eqb seat.1 seat.1 refl)
 
--- who has a seat is there
+-- A connection with a seat exists.
 pub seat_within : (connections : List Connection) (conn : ℕ) (seat : ℕ × ℕ)
     → (get_or connections conn unfed).seat ≡ Some seat → conn < length connections
 seat_within connections conn seat theirs = elim (cases_lt conn (length connections)) [

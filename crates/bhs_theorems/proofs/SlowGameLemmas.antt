@@ -1,4 +1,4 @@
--- A match and one that is slow for it, through an event and through items.
+-- Simulation between a match and a slowed one: events and items.
 use Rattle.std.proofs.Common.{◌≡◌, ◌∙◌, ℕ, ◌<◌, Bool, true, false, ◌||◌, cond, ◌==◌, not, Option, Some, None, List, []}
 use Rattle.std.proofs.Common.{◌∷◌, ◌++◌, refl, sym, ap, subst, arith}
 use Rattle.std.proofs.lemmas.Bool.{and_right}
@@ -28,7 +28,7 @@ use Rattle.bhs_theorems.proofs.CuttingLemmas.{cond_alike}
 use Rattle.bhs_theorems.proofs.TwinLogLemmas.{keeps_alike, twins-both, twins-one}
 use Rattle.bhs_model.proofs.AddLemmas.{run-append}
 
--- ---- who is on a link is on a port
+-- ---- an agent on a link has departed by an existing port
 
 abbrev IsOnPort : World → Position → Type 0
 IsOnPort world (Bound node port) = port < world.net.degree node
@@ -74,13 +74,13 @@ run_on_port world state (event ∷ events) all =
 on_ports : (game : Game) (agent : ℕ) → IsOnPort (world_in game) ((state_of game).position agent)
 on_ports game = run_on_port (world_in game) initial game.log (λ agent. tt)
 
--- ---- a match and one that is slow for it
+-- ---- a match and its slowed version
 
 module _ (game slow : Game) (is : IsSlowFor game slow) where
   abbrev IsUnstruck : Event → Type 0
   IsUnstruck event = is_struck (world_in game) (world_in slow) (state_of game) event ≡ false
 
-  -- an event that destroys in neither
+  -- an event that destroys in neither match
   pub played_slow : (event : Event) → IsUnstruck event → IsSlowFor (played game event) (played slow event)
   played_slow event unstruck =
       cond_alike IsSlowFor (keeps (world_in game) (state_of game) (lost (world_in game) game.log) event)
@@ -159,7 +159,7 @@ module _ (game slow : Game) (is : IsSlowFor game slow) where
       ap (λ (back : Bool). cond back None (Some (Deliver agent)))
       (held_alike ((state_of game).position agent) (on_ports game agent))
 
-  -- the delivery of who is picked, if any
+  -- the delivery of the picked agent, if any
   abbrev made : Game → (State → Option ℕ) → Option Event
   made one picked =
       let state = state_of one in
@@ -189,7 +189,7 @@ module _ (game slow : Game) (is : IsSlowFor game slow) where
 
 -- ---- items
 
--- what taking comes to in both
+-- the effects of taking items in both matches
 pub record TakenAlike (done slow_done : TakenItems) : Type 0 where
   pub game : IsSlowFor done.game slow_done.game
   pub is_done : done.is_done ≡ slow_done.is_done

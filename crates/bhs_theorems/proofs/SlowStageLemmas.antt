@@ -1,4 +1,4 @@
--- A stage and one in which a match is slow, through each instruction.
+-- Simulation between a stage and one with a slowed match, for each instruction.
 use Rattle.std.proofs.Common.{◌≡◌, ◌∙◌, ℕ, ◌<◌, false, Option, Some, None, List, [], ◌∷◌, length, map, get_or, refl}
 use Rattle.std.proofs.Common.{sym, ap, ap₂, subst}
 use Rattle.std.specs.List.{position}
@@ -25,7 +25,7 @@ use Rattle.bhs_theorems.proofs.AlikeLemmas.{closes_alike, closed_alike}
 use Rattle.bhs_theorems.proofs.SlowGameLemmas.{begin_lemma, played_slow, reply_slow, away_slow, destroyed_slow}
 use Rattle.bhs_theorems.proofs.SlowGameLemmas.{destroyed_unanswered, drawn_slow, delivered_slow, taken_slow}
 
--- ---- stages that are the same but for a match, which is slow in one, and everyone is heard
+-- ---- stages that agree except for a slowed match, with all connections compared
 
 abbrev slow_in : (game count : ℕ) → Difference
 slow_in game count = record {

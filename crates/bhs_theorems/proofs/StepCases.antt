@@ -1,4 +1,4 @@
--- What an instruction comes to: nothing, or the one thing that it does.
+-- Case analysis of an instruction: it has no effect, or exactly one.
 use Rattle.std.proofs.Common.{ℕ, ◌<◌, ◌≤◌, ◌≡◌, ◌⊎◌, inl, inr, Bool, true, false, cond, nat_lt, Option, Some, None}
 use Rattle.std.proofs.Common.{◌++◌, length, sym, subst, refl, arith}
 use Rattle.std.specs.List.{position}
@@ -22,7 +22,7 @@ client_step stage conn connection ended =
     cond (nat_lt conn (length stage.connections))
     (cond ended (nothing stage) (stepped conn (moves (with_connection stage conn connection) conn))) (nothing stage)
 
--- it is not there, or its input has ended: then nothing comes of it
+-- A connection that does not exist or whose input has ended: no effect.
 pub by_client : (P : Stepped → Type 0) (stage : Stage) (conn : ℕ) (connection : Connection) (ended : Bool)
     → ((length stage.connections ≤ conn) ⊎ (ended ≡ true) → P (nothing stage)) →
     (conn < length stage.connections → ended ≡ false

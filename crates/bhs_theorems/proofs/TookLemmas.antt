@@ -59,7 +59,7 @@ has_end-end (Ends ∷ items) = refl
 abbrev pub IsQuiet : (closed away : Bool) → Type 0
 IsQuiet closed away = (closed ≡ true) ⊎ (away ≡ false)
 
--- or before the close: an agent on a link is waited for
+-- The match is open: an agent on a link is awaited.
 abbrev pub IsOpen : (closed away : Bool) → Type 0
 IsOpen closed away = (closed ≡ false) ⊎ (away ≡ false)
 
@@ -86,8 +86,8 @@ pub record Took (setup : Setup) (closed was_away : Bool) (old : View) (items : L
   pub by_end : done.is_done ≡ true → over ≡ [] → takes_commands (standing (view_from old met)) ≡ true
       → has_end items ≡ true
   pub quiet : done.is_done ≡ true → IsQuiet closed (is_away done.game agent)
-  -- it goes on with an agent that has not ended; before the close and the end of the input it is done by the agent's
-  -- end
+  -- The session goes on, so its agent has not ended; in an open match, before the end of the input, only the agent's
+  -- end closes the connection.
   pub lives : done.is_done ≡ false → standing ((state_of done.game).past agent) ≢ Ended
   pub done_by : done.is_done ≡ true → closed ≡ false → has_end items ≡ false
       → takes_commands (standing (view_from old met)) ≡ false

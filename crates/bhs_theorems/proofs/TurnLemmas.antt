@@ -24,7 +24,7 @@ seat_of connection = connection.seat
 abbrev pub bare : Option (ℕ × ℕ) → Connection
 bare own = record unfed { seat = own }
 
--- the matches and the connection after a move, and what is sent
+-- the matches and the connection after a move, with the output
 pub record Turn : Type 0 where
   pub games : List Game
   pub connection : Connection
@@ -68,7 +68,7 @@ seat_after connection seat done =
 abbrev pub turn_of : Stage → (conn : ℕ) → Connection → Turn
 turn_of stage conn connection = turn_in stage conn connection connection.seat
 
--- what holds of a turn in which nothing is taken, and of one that plays
+-- case analysis of a turn: nothing is taken, or an agent plays
 by_enters : (P : Turn → Type 0) (stage : Stage) (connection : Connection) →
     ((new : Connection) (text : List ℕ) → P (record { games = stage.games; connection = new; text = text })) →
     ((seat : ℕ × ℕ) → P (plays_turn stage seat connection)) → (how : EntryResult) → P (enters_turn stage connection how)
@@ -136,7 +136,7 @@ module _ (stage : Stage) (conn : ℕ) (connection : Connection) (within : conn <
       ap (λ (one : Connection). moves_in (with_connection stage conn connection) conn one.seat) placed_at
       ∙ moves_in-placed connection.seat
 
--- of the connection as it stands
+-- the move of the connection in its present state
 pub moves_itself : (stage : Stage) (conn : ℕ) → conn < length stage.connections
     → moves stage conn ≡ placed stage conn (turn_of stage conn (connection_at stage conn))
 moves_itself stage conn within =
@@ -166,11 +166,11 @@ then_fed stage conn turn bytes =
     if turn.connection.ended then turn
     else sent_behind turn.text (turn_of (placed stage conn turn).stage conn (grown turn.connection bytes))
 
--- a connection that is looked at
+-- an open connection
 abbrev pub open_one : Option (ℕ × ℕ) → Option (List ℕ) → List Item → Connection
 open_one seat unfinished queue = record { seat = seat; unfinished = unfinished; queue = queue; ended = false }
 
--- the match that is put in its place is found there. Where there is no such match, it is unchanged
+-- The replaced match is found at its number. A number without a match changes nothing.
 pub played_at : (stage : Stage) (seat : ℕ × ℕ) (items : List Item) →
     game_at (with_game stage seat.0 (taken (game_at stage seat.0) seat.1 items).game)
     seat.0 ≡ (taken (game_at stage seat.0) seat.1 items).game

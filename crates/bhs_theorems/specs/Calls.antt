@@ -1,5 +1,4 @@
--- The headline over the calls of a rehearsal: what the calls were, what they sent, and how the rehearsal stands behind
--- them.
+-- The headline theorem for the calls of a rehearsal: the calls, their output, and the stage after them.
 use Rattle.std.specs.Prelude.{ℕ, ◌<◌, ◌≡◌, false, Some, List, [], ◌∷◌, ◌++◌}
 use Rattle.bhs_model.specs.Views.{View}
 use Rattle.bhs_lineup.specs.declared.lineups.Lineup.{Lineup}
@@ -20,7 +19,7 @@ pub data WasCalled (start : Rehearsing) : List Instruction → List (List (ℕ �
       (instruction : Instruction) (fault : RehearsalFault) → WasCalled start script sent old
       → Refuses old instruction fault new → WasCalled start script sent new
 
--- a rehearsal of a lineup, with all calls that were made of it
+-- a rehearsal of a lineup, with the calls that it got
 pub record Called : Type 0 where
   pub lineup : Lineup
   pub connections : ℕ

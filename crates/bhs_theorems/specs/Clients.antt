@@ -1,4 +1,4 @@
--- What a script feeds to a connection, and what it sends to it.
+-- The input that a script feeds to a connection, and the connection's output.
 use Rattle.std.specs.Prelude.{ℕ, Bool, true, false, ◌==◌, List, [], ◌∷◌, ◌++◌, map, if◌then◌else◌}
 use Rattle.bhs_model.specs.declared.commands.Command.{Command}
 use Rattle.bhs_wire.specs.Lines.{lines}
@@ -7,7 +7,7 @@ use Rattle.bhs_rehearsal.specs.Stages.{Instruction, Feeds, EndsInput, Draws, Del
 
 -- ---- what it is fed
 
--- the bytes up to the end of its input, and whether that has come
+-- the input up to its end, and whether it has ended
 pub record Fed : Type 0 where
   pub bytes : List ℕ
   pub has_ended : Bool
@@ -39,7 +39,7 @@ commands_fed conn script = map command_of (lines (fed_to conn nothing_fed script
 
 -- ---- what it is sent
 
--- of the texts of one instruction those that a connection is sent, one after the other
+-- the output of one instruction for a connection, concatenated
 abbrev pub bytes_among : (conn : ℕ) → List (ℕ × List ℕ) → List ℕ
 bytes_among conn [] = []
 bytes_among conn (out ∷ outs) = (if out.0 == conn then out.1 else []) ++ bytes_among conn outs

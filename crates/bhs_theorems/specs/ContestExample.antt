@@ -21,7 +21,7 @@ use Rattle.bhs_theorems.specs.ContestMet.{Attended, fed, TookPart, IsToldAll}
 abbrev pub receipt : (place : ℕ) → Reply → Receipt
 receipt place reply = record { place = place; reply = reply }
 
--- what it said and was answered, where these are the places in the log
+-- the exchanges of a session, given the places of its events in the log
 abbrev pub said_at : (enters departs arrives leaves : ℕ) → List Exchange
 said_at enters departs arrives leaves =
     Took Enter (receipt enters (Here 2 None [])) ∷ Refused Enter ∷ Took (Depart 0) (receipt departs Gone)
@@ -35,7 +35,7 @@ all_met =
     Hears Enter (Saw (Seen 2 None Unwritten)) ∷ Refuses Enter ∷ Hears (Depart 0) Nothing
     ∷ Arrives (Seen 2 (Some 0) Unwritten) ∷ Hears Leave Nothing ∷ []
 
--- its text is the bytes of what was met
+-- The output consists of the bytes of what the agent met.
 abbrev pub TheTextIsOfWhatWasMet : Type 0
 TheTextIsOfWhatWasMet = session_text 10 all_said ≡ bytes 8 all_met
 
@@ -53,7 +53,7 @@ AllIsInTurn = AreInTurn 10 Fresh [] [] all_said
 
 -- ---- the match
 
--- A match on a triangle with what it kept. Node 0 is the home base, node 2 the black hole, and there are two agents.
+-- A settled match on a triangle, with its log. Node 0 is the home base, node 2 the black hole; there are two agents.
 abbrev pub settled : Play
 settled = record {
   net = ((1, 0) ∷ (2, 1) ∷ []) ∷ ((0, 0) ∷ (2, 0) ∷ []) ∷ ((1, 1) ∷ (0, 1) ∷ []) ∷ [];
@@ -123,7 +123,7 @@ pass_elsewhere = record {
   arrivals = arrivals_in said_elsewhere;
 }
 
--- the pass of the other agent
+-- the pass of the second agent
 abbrev pub pass_beside : Passed
 pass_beside = record {
   game = 3;
@@ -162,7 +162,7 @@ said_beside = Took Enter (receipt 0 (Here 2 None [])) ∷ Took (Depart 1) (recei
 abbrev pub met_beside : List Meeting
 met_beside = Hears Enter (Saw (Seen 2 None Unwritten)) ∷ Hears (Depart 1) Nothing ∷ []
 
--- its session, which was told that the match is over
+-- the session of the second agent, which was told that the match is over
 abbrev pub beside : Attended
 beside = record {
   play = settled_elsewhere;

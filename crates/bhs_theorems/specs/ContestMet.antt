@@ -26,8 +26,8 @@ use Rattle.bhs_stream.specs.Streams.{Chunk, WriteAnswer}
 
 -- ---- a session whose match settled
 
--- the match, the pass that the session played by, the commands of the lines that it took, those of the lines that it
--- read and did not take, what it wrote, and how it ended
+-- A session with its match: the match, the session's pass, the commands of the lines that it took, those of the lines
+-- that it read without taking them, its output, and how it ended.
 pub record Attended : Type 0 where
   pub play : Play
   pub pass : Passed
@@ -36,11 +36,12 @@ pub record Attended : Type 0 where
   pub written : List ℕ
   pub ended : Ended
 
--- the commands that it was fed
+-- the commands of the session's input
 abbrev pub fed : Attended → List Command
 fed one = one.said ++ one.more
 
--- The match has ended and settled with the pass, among others; and the session is one on this pass.
+-- The session took part in the match: the match was settled with the session's pass, among others, and the session
+-- played with this pass.
 pub record TookPart (one : Attended) : Type 0 where
   -- as a `Sealed` shows it
   pub kept : kept (world_in one.play) (events_of one.play.log) ≡ events_of one.play.log
@@ -92,7 +93,7 @@ AttendedTookPart {I} {O} gives takes =
 
 -- ---- what its agent met
 
--- the commands of what was met are those that were said, but for the texts of a Write that was refused
+-- The commands of the meetings are the session's commands, up to the texts of refused Writes.
 abbrev pub AreSaid : (limit : ℕ) → View → List Meeting → List Command → Type 0
 AreSaid limit view [] [] = Unit {0}
 AreSaid limit view (Hears command glance ∷ met) (own ∷ said) =
@@ -122,8 +123,8 @@ is_whole endings.ReadFault = true
 is_whole endings.Turns = true
 is_whole ended = false
 
--- The line behind what was met, by how the session ended: that the match is over, if it ended by that. If a write
--- failed or memory ran out, that line or none; else none.
+-- The line after the meetings, depending on how the session ended: the report that the match is over, if the session
+-- ended by it; that line or none, if a write failed or memory ran out; otherwise none.
 abbrev pub IsLastOf : Ended → (last : List ℕ) → Type 0
 IsLastOf endings.Over last = last ≡ text_of Over
 IsLastOf endings.WriteFault last = MayBeOver last

@@ -32,13 +32,13 @@ view_along view [] = view
 view_along view (Spoke place command glance reply ∷ steps) = view_along (Told view command glance) steps
 view_along view (Arrives place sight reply ∷ steps) = view_along (Arrived view sight) steps
 
--- their places ascend, from this one on
+-- The places of these steps ascend, starting from this one.
 abbrev pub StandInOrder : (least : ℕ) → List ContestStep → Type 0
 StandInOrder least [] = Unit {0}
 StandInOrder least (Spoke place command glance reply ∷ steps) = (least ≤ place) × StandInOrder (place + 1) steps
 StandInOrder least (Arrives place sight reply ∷ steps) = (least ≤ place) × StandInOrder (place + 1) steps
 
--- each is one of an agent with this past, and answered as the definitions say
+-- Each step belongs to an agent with this past, and has the reply that the definitions give.
 abbrev pub AreSteps : (quota limit : ℕ) → View → List ContestStep → Type 0
 AreSteps quota limit view [] = Unit {0}
 AreSteps quota limit view (Spoke place command glance reply ∷ steps) =

@@ -31,9 +31,9 @@ pub record WaitAlike (one two : Settlement) (agent : ℕ) (before : TimedView) (
   pub other_past : (state_of two.sealed).past agent ≡ bare (ArrivedAt before later seen)
   pub turns : turn ≡ later
 
--- The headline in time. Take two matches of any two contests, which settled, and whose schedules are the same. They may
--- differ in their networks, in what destroys, in held links and in all that is said. If an agent with the same timed
--- view before has arrived next in both, then it arrived after equally many turns.
+-- The headline theorem in time. Consider two settled matches of any two contests with equal schedules. They may differ
+-- in networks, black holes, dark links, held links and all commands. If an agent with the same timed view arrives next
+-- in both, then it arrives after equally many turns.
 abbrev pub EqualWaitsInContests : Type 0
 EqualWaitsInContests = (given other : Given) (dealer another : ChaCha) (law : DelayLaw) (one two : Settlement) →
     HasEnded given dealer law one → HasEnded other another law two →
@@ -42,10 +42,10 @@ EqualWaitsInContests = (given other : Given) (dealer another : ChaCha) (law : De
     timed_view one agent ≡ ArrivedAt before turn sight → timed_view two agent ≡ ArrivedAt before later seen →
     WaitAlike one two agent before turn later sight seen
 
--- The headline in time, of every arrival. Take two matches of any two contests, which settled, and whose schedules are
--- the same. They may differ in their networks, in what destroys, in held links and in all that is said. Wherever an
--- agent has arrived in its past in one and in its past in the other, after departing after equally many turns, it
--- arrived after equally many turns. What it met before may differ, and what it has met since.
+-- The headline theorem in time, for every arrival. Consider two settled matches of any two contests with equal
+-- schedules. They may differ in networks, black holes, dark links, held links and all commands. If an agent departs in
+-- both matches after equally many turns and then arrives, then it arrives after equally many turns, whatever it met
+-- before or afterwards.
 abbrev pub EveryArrivalInContests : Type 0
 EveryArrivalInContests = (given other : Given) (dealer another : ChaCha) (law : DelayLaw) (one two : Settlement) →
     HasEnded given dealer law one → HasEnded other another law two →

@@ -9,9 +9,9 @@ use Rattle.bhs_model.specs.Replying.{answer, here, hears, refusal}
 use Rattle.bhs_session.specs.Texts.{text_of}
 
 pub data Meeting : Type 0 where
-  -- a command that was heard, and what it showed of the node
+  -- a command that was heard, with what it showed of the node
   Hears : Command → Glance → Meeting
-  -- a command that was not heard
+  -- a command that was refused
   Refuses : Command → Meeting
   -- an arrival at a node
   Arrives : Sight → Meeting
@@ -43,7 +43,7 @@ commands (meeting ∷ met) = command_in meeting ++ commands met
 
 -- ---- its bytes
 
--- what is answered to an agent with this past
+-- the reply to an agent with this past
 abbrev pub answer_to : (limit : ℕ) → View → Meeting → Reply
 answer_to limit view (Hears command glance) = answer limit (standing view) (ports view) command glance
 answer_to limit view (Refuses command) = No (refusal (standing view) command)
@@ -54,13 +54,13 @@ bytes_from limit view [] = []
 bytes_from limit view (meeting ∷ met) =
     text_of (answer_to limit view meeting) ++ bytes_from limit (past_after view meeting) met
 
--- the lines that are sent for it, one after the other
+-- the output for these meetings, concatenated
 abbrev pub bytes : (limit : ℕ) → List Meeting → List ℕ
 bytes limit met = bytes_from limit Start met
 
 -- ---- what can be met
 
--- whether commands are taken of an agent: not while it is on a link, and not after it has ended
+-- Whether lines are taken from an agent with this standing: not on a link, and not after its end.
 abbrev pub takes_commands : Standing → Bool
 takes_commands Away = false
 takes_commands Ended = false

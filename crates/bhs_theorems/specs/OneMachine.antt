@@ -19,7 +19,7 @@ use Rattle.bhs_rehearsal.specs.Stages.{news}
 
 -- ---- items, taken by the machine
 
--- the match and the phase after it, the items that are left, and the text that is sent
+-- the match and the phase afterwards, the remaining items, and the output
 pub record Ran : Type 0 where
   pub game : Game
   pub phase : Phase

@@ -95,7 +95,7 @@ gone = codes "{\"ok\":\"gone\"}"
 abbrev pub written : List ℕ
 written = codes "{\"ok\":\"written\"}"
 
--- an `a` stands on the whiteboard
+-- The whiteboard shows an `a`.
 abbrev pub changed_to_a : List ℕ
 changed_to_a = codes "{\"board\":\"a\",\"ok\":\"changed\"}"
 
@@ -105,7 +105,7 @@ bye = codes "{\"ok\":\"bye\"}"
 abbrev pub over : List ℕ
 over = codes "{\"ok\":\"over\"}"
 
--- there is no such port; the quota is spent
+-- no such port; the quota is used up
 abbrev pub no_port : List ℕ
 no_port = codes "{\"no\":\"port\"}"
 
@@ -165,11 +165,11 @@ TheSecondWriterSeesTheFirst =
     sends (stage_of triangle) (says 0 enter_ka ∷ says 1 enter_kb ∷ says 0 write_a ∷ says 1 write_b ∷ [])
     ≡ sent 0 here_at_home ∷ sent 1 here_at_home ∷ sent 0 written ∷ sent 1 changed_to_a ∷ []
 
--- the same with a quota of 3
+-- the same match with a quota of 3
 abbrev pub short : Game
 short = record triangle { setup = record triangle.setup { quota = 3 } }
 
--- a departure by a port that is not there is one of the three, and leaving needs none
+-- A departure by a port that does not exist uses up one of the three commands; a Leave uses none.
 abbrev pub TheQuotaIsSpent : Type 0
 TheQuotaIsSpent =
     sends (stage_of short) (
@@ -226,7 +226,7 @@ TheAgentOfAnEndLeaves =
 abbrev pub side_by_side : Stage
 side_by_side = begun (triangle ∷ triangle ∷ []) ((codes "ka", (0, 0)) ∷ (codes "kb", (1, 0)) ∷ []) 2
 
--- what is done in one match, and in both in turn
+-- instructions for one match, and for both matches alternately
 abbrev pub in_one : List Instruction
 in_one = says 0 enter_ka ∷ says 0 look ∷ says 0 depart_by_0 ∷ Draws 0 0 ∷ []
 

@@ -18,7 +18,7 @@ pub record Rehearsed : Type 0 where
 abbrev pub beginning : Rehearsed → Stage
 beginning one = begun one.games one.keys one.connections
 
--- how it stands after the script
+-- the stage after the script
 abbrev pub outcome : Rehearsed → Stage
 outcome one = stands_after (beginning one) one.script
 

@@ -39,7 +39,7 @@ abbrev pub joined : List (List ℕ) → List ℕ
 joined [] = []
 joined (piece ∷ pieces) = piece ++ joined pieces
 
--- pieces are fed to a connection, one after the other
+-- feeds pieces to a connection, in order
 abbrev pub fed : (conn : ℕ) → List (List ℕ) → List Instruction
 fed conn pieces = map (Feeds conn) pieces
 
@@ -82,7 +82,7 @@ pub record IsOfGame (stage : Stage) (game : ℕ) (new : Stepped) : Type 0 where
   pub keys : new.stage.keys ≡ stage.keys
   pub outs : (conn : ℕ) → plays_in game (connection_at stage conn) ≡ false → bytes_among conn new.outs ≡ []
 
--- what a client does is of its connection
+-- The instructions of a client concern its connection only.
 abbrev pub ClientsKeepToThemselves : Type 0
 ClientsKeepToThemselves =
     (stage : Stage) (conn : ℕ) (bytes : List ℕ) →
@@ -116,7 +116,7 @@ abbrev pub SettledStagesSettle : Type 0
 SettledStagesSettle = (stage : Stage) (instruction : Instruction) → IsSettled stage →
     IsSettled (step stage instruction).stage
 
--- so is the stage after each script, from the start
+-- The same holds for the stage after each script, from the initial stage.
 abbrev pub ScriptsSettle : Type 0
 ScriptsSettle =
     (games : List Game) (keys : List Seat) (connections : ℕ) (script : List Instruction) →
@@ -127,7 +127,7 @@ abbrev pub SettledConnectionsRest : Type 0
 SettledConnectionsRest = (stage : Stage) (conn : ℕ) → IsSettled stage →
     moves stage conn ≡ record { stage = stage; text = [] }
 
--- these connections take of their items what they can, one after the other
+-- These connections, in order, take as many of their items as they can.
 abbrev pub moves_in_turn : Stage → (conns : List ℕ) → Stepped
 moves_in_turn stage [] = nothing stage
 moves_in_turn stage (conn ∷ conns) =
@@ -172,7 +172,8 @@ MatchesAreHeardApart =
     (game : ℕ) (one two : Stage) (script : List Instruction) → SameBut game one two →
     HeardAlike game one script two script
 
--- whether an instruction is for a match: a draw, a delivery, a close, or one for a connection that plays in it
+-- Whether an instruction concerns a match: a draw, a delivery, a close, or an instruction for a connection that plays
+-- in it.
 abbrev pub is_of_match : (game : ℕ) → Stage → Instruction → Bool
 is_of_match game stage (Feeds conn bytes) = plays_in game (connection_at stage conn)
 is_of_match game stage (EndsInput conn) = plays_in game (connection_at stage conn)
@@ -180,7 +181,7 @@ is_of_match game stage (Draws other word) = other == game
 is_of_match game stage (Delivers other agent) = other == game
 is_of_match game stage (Closes other) = other == game
 
--- a script without what it has for a match
+-- the script without the instructions that concern a match
 abbrev pub without : (game : ℕ) → Stage → List Instruction → List Instruction
 without game stage [] = []
 without game stage (instruction ∷ script) =

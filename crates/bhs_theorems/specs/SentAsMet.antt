@@ -19,8 +19,8 @@ use Rattle.bhs_theorems.specs.ScriptHeadline.{Rehearsed, outcome, BeginsEmpty, s
 abbrev pub IsPastOf : (has_ended : Bool) → View → View → Type 0
 IsPastOf has_ended view past = (past ≡ view) ⊎ ((past ≡ Told view Leave Nothing) × (has_ended ≡ true))
 
--- What is sent of the close: that the match is over. An agent on a link is told so at the close; one at a node, or one
--- that has not entered, at its next line, which is the first that was not taken; one that has ended never.
+-- The line that reports the end of the match. An agent on a link gets it at the close; an agent at a node, or one that
+-- has not entered, at its next line, the first that was not taken; an ended agent never.
 abbrev pub over_text : (closed : Bool) → Standing → (untaken : List Line) → List ℕ
 over_text false stands untaken = []
 over_text true Away untaken = text_of Over
@@ -33,7 +33,7 @@ over_text true Present (line ∷ untaken) = text_of Over
 -- What a connection was fed and sent, where its agent has this past.
 pub record IsSentAsMet (setup : Setup) (past : View) (closed : Bool) (fed : Fed) (sent : List ℕ) : Type 0 where
   pub met : List Meeting
-  -- the lines that were taken, and those that were not
+  -- The taken lines, and the lines that were not taken.
   pub taken : List Line
   pub untaken : List Line
   pub split : lines fed.bytes ≡ taken ++ untaken

@@ -92,7 +92,7 @@ abbrev pub before_arrival : WalkedMatch → TimedView
 before_arrival walk =
     ToldAt (ToldAt Fresh 0 Enter (SawThen (SeenThen walk.ports None UnwrittenThen))) 0 (Depart walk.port) NothingThen
 
--- a settlement is of this match, with these turns
+-- The settlement belongs to this match, with these turns.
 pub record IsOfWalk (walk : WalkedMatch) (wait : ℕ) (one : Settlement) : Type 0 where
   pub sealed : one.sealed ≡ play_of walk
   pub turns : one.turns.items ≡ turns_of wait

@@ -1,4 +1,4 @@
--- Calls of what stands under the lock of a match, one after the other, and the timed execution that they come to.
+-- A sequence of calls on the state under a match's lock, and the timed execution that it amounts to.
 use Rattle.std.specs.Prelude.{ℕ, ◌≡◌, ◌<◌, ◌^◌, ◌-◌, true, List, [], ◌∷◌, length}
 use Rattle.bhs_model.specs.declared.commands.Command.{Command}
 use Rattle.bhs_model.specs.declared.events.Event.TheVariants.{Close}
@@ -62,7 +62,7 @@ IsCall terms (Says agent command) hall hall' = IsToldCall hall agent command hal
 IsCall terms Passes hall hall' = IsTurnCall terms hall hall'
 IsCall terms Ends hall hall' = IsCloseCall hall hall'
 
--- calls one after the other, each of which did what its contract says
+-- a sequence of calls, each of which meets its contract
 abbrev pub AreCalls : TurnTerms → List TimedAct → Housed → Housed → Type 0
 AreCalls terms [] hall hall' = hall' ≡ hall
 AreCalls terms (act ∷ acts) hall hall' =

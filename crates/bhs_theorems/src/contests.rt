@@ -42,8 +42,9 @@ pub fn every_arrival_in_contests()
     ensures { EveryArrivalInContests }
 {}
 
-/// A session of a client, worked out by hand; and one in a match on another network, with other black holes and another
-/// number of agents, of which the headline says that it wrote the same. And one whose agent is on a link at the close.
+/// Worked examples: the session of a client; a session in a match on another network, with other black holes and
+/// another number of agents, for which the headline theorem gives the same output; and a session whose agent is on a
+/// link at the close.
 pub fn worked_session()
     ensures text { TheTextIsOfWhatWasMet }
     ensures receipts { TheReceiptsAreThese }

@@ -19,9 +19,9 @@ pub fn equal_pasts_are_sent_equal_bytes()
     ensures { EqualPastsAreSentEqualBytes }
 {}
 
-/// A connection that plays an agent was sent the bytes of what the agent met. If the match is closed, it was then sent
-/// that the match is over: at the close if its agent was on a link, at its next line if its agent was at a node or had
-/// not entered, never if its agent had ended. A connection that plays no agent was sent nothing, or one denial.
+/// A connection that plays an agent gets exactly the bytes of what the agent met. If the match is closed, it then gets
+/// the report that the match is over: at the close if its agent was on a link; at its next line if its agent was at a
+/// node or had not entered; never if its agent had ended. A connection that plays no agent gets nothing, or one denial.
 pub fn sent_as_met()
     ensures sent { SentAsMet }
     ensures others { OthersAreDenied }

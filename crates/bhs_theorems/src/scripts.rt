@@ -47,8 +47,8 @@ pub fn two_pieces_do_alike()
     ensures { TwoPiecesDoAlike }
 {}
 
-/// In a script the bytes that are fed to a connection may be cut otherwise: the stage after it and all that is sent to
-/// each connection are the same.
+/// How a script cuts a connection's input into pieces makes no difference: the stage afterwards and the output to each
+/// connection are the same.
 pub fn cuts_do_alike()
     ensures { CutsDoAlike }
 {}

@@ -1,4 +1,4 @@
--- A match among others is as it is alone, with its turns.
+-- Non-interference in time: a match of a contest behaves as it does alone, with equal turns.
 use Rattle.std.proofs.Common.{ℕ, ◌≡◌, Bool, true, false, List, [], ◌∷◌, ◌==◌, if◌then◌else◌, refl, sym, ap, ◌∙◌}
 use Rattle.std.proofs.lemmas.Bool.{eqb-true}
 use Rattle.bhs_model.specs.Runs.{changed}

@@ -51,7 +51,7 @@ unasked_seen early node own lates none =
     (ap (λ (written : Option ℕ). meet late.seen written) own ∙ passes)))
     lates none
 
--- who is not watched does nothing more that is chosen, and what is tainted is not seen by what is chosen
+-- Invariant of the cut: an unwatched agent has no further chosen events, and chosen events see no tainted whiteboard.
 record IsClear (live tainted : ℕ → Bool) (chosen : List Footprint) : Type 0 where
   agents : (agent : ℕ) → live agent ≡ false → list_any (is_by agent) chosen ≡ false
   nodes : (node : ℕ) → tainted node ≡ true → list_any (sees node) chosen ≡ false
@@ -63,7 +63,7 @@ later_clear live tainted first lates clear = record {
   nodes = λ node dirty. (or_parts (sees node first) _ (clear.nodes node dirty)).1;
 }
 
--- who does what is chosen is watched, and what it sees is clean
+-- The agent of a chosen event is watched, and the whiteboard that the event sees is untainted.
 is_live : (live tainted : ℕ → Bool) (first : Footprint) (lates : List Footprint) (agent : ℕ) →
     first.who ≡ Some agent → IsClear live tainted (first ∷ lates) → live agent ≡ true
 is_live live tainted first lates agent own clear =
@@ -87,7 +87,7 @@ clean_event : (world : World) (state : State) (tainted : ℕ → Bool) (event : 
 clean_event world state tainted None clean = clean
 clean_event world state tainted (Some event) clean = clean
 
--- what is clear after an act that is not chosen
+-- The invariant after an act that is not chosen.
 gone_clear : (live : ℕ → Bool) (early : Footprint) (agent : ℕ) (lates : List Footprint) →
     early.who ≡ Some agent → list_any (needs early) lates ≡ false →
     ((other : ℕ) → live other ≡ false → list_any (is_by other) lates ≡ false) →

@@ -31,7 +31,7 @@ use Rattle.bhs_time.proofs.TimedLogLemmas.{is_kept, IsNow, IsNext, behind, Follo
 
 -- ---- the turns that deliver an agent
 
--- who may be delivered, is while the match is open
+-- An agent can be delivered only in an open match.
 open_by : (closed through struck fresh : Bool) → ((not closed && through) || ((not closed && struck) && fresh)) ≡ true →
     closed ≡ false
 open_by true through struck fresh e = absurd (false≢true e)
@@ -62,7 +62,7 @@ delivered_now held schedule timed agent unclosed free released =
       | inr h ↦ absurd (false≢true (sym h.0 ∙ e))
     ]
 
--- who is delivered by a turn is released by it, over a link that is not held
+-- An agent that a turn delivers is released by that turn, over a link that is not held.
 pub now_released : (held : Held) (schedule : Schedule) (timed : TimedState) (agent : ℕ) →
     delivery_now held schedule timed ≡ Some (Deliver agent) →
     (releases schedule agent (departed_at (timed.pasts agent)) timed.turn ≡ true)
@@ -107,7 +107,7 @@ now_released held schedule timed agent at =
 
 -- ---- agents that wait
 
--- who is on a link and is heard stays there, or ends
+-- An agent on a link stays on it, or ends, when one of its commands is heard.
 stays_bound : (world : World) (position : Position) (room : Bool) (command : Command) → is_bound position ≡ true →
     accepts (standing_at position) room command ≡ true →
     is_bound (position_after world position command) ≡ true → position_after world position command ≡ position

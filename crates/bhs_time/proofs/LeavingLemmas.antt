@@ -1,4 +1,4 @@
--- What is not seen may be left out.
+-- Events that are not observed can be left out.
 use Rattle.std.proofs.Common.{arith, ℕ, ◌≡◌, ◌+◌, Bool, true, false, not, ◌&&◌, ◌==◌, Option, Some, None, List, [], ◌∷◌}
 use Rattle.std.proofs.Common.{nat_lt, refl, sym, ap, ap₂, ◌∙◌, if◌then◌else◌, inl, inr, subst}
 use Rattle.std.proofs.lemmas.Bool.{cond-true, cond-false, true≢false, false≢true}
@@ -34,7 +34,8 @@ pub record IsAlike (here there : TimedState) (agent : ℕ) : Type 0 where
   pub past : here.pasts agent ≡ there.pasts agent
   pub position : here.state.position agent ≡ there.state.position agent
 
--- what holds of the match and of what is kept of it, where all but these agents and whiteboards are alike
+-- Similarity of two timed states: all agents and whiteboards agree except for the unwatched agents and the tainted
+-- whiteboards.
 pub record AreAlike (live : ℕ → Bool) (tainted : ℕ → Bool) (here there : TimedState) : Type 0 where
   pub closed : here.state.closed ≡ there.state.closed
   pub agents : (agent : ℕ) → live agent ≡ true → IsAlike here there agent
@@ -78,7 +79,7 @@ writes_alike tainted one two (At here came) (Write expect put) past other same a
     ]
 writes_alike tainted one two position command past other same all node clean = all node clean
 
--- who is watched still after one agent is not
+-- Agents watched after an agent is dropped were watched before.
 still_live : (live : ℕ → Bool) (agent other : ℕ) → changed live agent false other ≡ true →
     ((other == agent) ≡ false) × (live other ≡ true)
 still_live live agent other lives = elim (eqb_tells other agent) [
@@ -215,7 +216,7 @@ delivery_at held schedule timed turn =
     else delivery_if held timed.state (schedule.picked turn)
     (schedule.ready (schedule.picked turn) (departed_at (timed.pasts (schedule.picked turn))) turn)
 
--- it is none, or the Deliver of the agent that is picked
+-- Case analysis: the turn has no event, or delivers the agent that it picks.
 delivery_cases : (held : Held) (schedule : Schedule) (timed : TimedState) (turn : ℕ) (P : Option Event → Type 0) →
     P None →
     P (Some (Deliver (schedule.picked turn))) → P (delivery_at held schedule timed turn)
@@ -230,7 +231,7 @@ delivery_cases held schedule timed turn P none some =
         (schedule.picked turn)))
         none some)
 
--- the event by what it depends on
+-- the event of a turn, computed from its conditions
 abbrev delivery_with : (is_ready is_still : Bool) → (agent : ℕ) → Option Event
 delivery_with true is_still agent = if is_still then None else Some (Deliver agent)
 delivery_with false is_still agent = None

@@ -20,7 +20,7 @@ use Rattle.bhs_time.specs.TimedRuns.{arrived_then}
 use Rattle.bhs_time.specs.TimedRuns.{happened, happened_if, timed_next, timed_run_from, timed_events_from}
 use Rattle.bhs_time.specs.Laws.{ClocksOnlyStamp}
 
--- the state after an event is that of the model
+-- The state after an event agrees with the model.
 arrived_state : (world : World) (timed : TimedState) (agent : ℕ) (position : Position) →
     (arrived_then world timed agent position).state ≡ delivered world timed.state agent position
 arrived_state world timed agent (Bound node port) = refl

@@ -19,7 +19,7 @@ use Rattle.bhs_time.specs.Stamps.{Stamped, happened_at}
 use Rattle.bhs_time.specs.TimedLogs.{lost_then, logged_first, timed_log_from, IsTimedLog, turn_behind}
 use Rattle.bhs_time.specs.TimedLogs.{TimedLogsMayBeCut}
 
--- ---- what an event leaves as it was
+-- ---- the state that an event leaves unchanged
 
 -- an event happens within a turn
 pub arrived_turn : (world : World) (timed : TimedState) (agent : ℕ) (position : Position) →
@@ -40,9 +40,9 @@ unkept_timed world timed lost Close unkept =
     ap (λ (state : State). record timed { state = state }) (next_closed timed.state
     (not-false timed.state.closed unkept))
 
--- ---- what the next event of a log may be
+-- ---- the candidates for the next event of a log
 
--- whether there is an event, and the match keeps it
+-- whether an event exists and the match keeps it
 abbrev pub is_kept : World → State → (lost : ℕ → Bool) → Option Event → Bool
 is_kept world state lost None = false
 is_kept world state lost (Some event) = keeps world state lost event
@@ -272,7 +272,7 @@ module _ (world : World) (held : Held) (schedule : Schedule) where
   act_begins lost timed Passes rest = passes_begin lost timed rest
   act_begins lost timed Ends rest = ends_begin lost timed rest
 
-  -- what is known of the acts behind
+  -- the induction hypothesis for the remaining acts
   abbrev Rest : List TimedAct → Type 0
   Rest acts = (lost : ℕ → Bool) (timed : TimedState) → Follows world held schedule lost timed (LogFrom lost timed acts)
 

@@ -115,7 +115,7 @@ module _ (world : World) (held : Held) (schedule : Schedule) where
     | inr h ↦ rw h.0 (all other)
   ]
 
-  -- an agent that arrives when it is released, and was not released before since it departed
+  -- The agent arrives in the turn that releases it; no turn since its departure released it before.
   arrived_all : (timed : TimedState) (agent : ℕ) (position : Position) → timed.state.position agent ≡ position →
       timed.state.closed ≡ false → is_let_through world position ≡ true → is_held held position ≡ false →
       releases schedule agent (departed_at (timed.pasts agent)) timed.turn ≡ true →
@@ -172,7 +172,7 @@ module _ (world : World) (held : Held) (schedule : Schedule) where
         ];
   }
 
-  -- an agent that is picked and could arrive, but does not, was not released
+  -- An agent that is picked, could arrive and does not arrive was not released.
   picked_idle : (timed : TimedState) (none : schedule.ready (schedule.picked timed.turn)
       (departed_at (timed.pasts (schedule.picked timed.turn))) timed.turn ≡ true →
       is_held held (timed.state.position (schedule.picked timed.turn)) ≡ false →

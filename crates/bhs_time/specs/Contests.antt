@@ -6,13 +6,13 @@ use Rattle.bhs_model.specs.Draws.{Held}
 use Rattle.bhs_time.specs.Schedules.{Schedule}
 use Rattle.bhs_time.specs.TimedRuns.{TimedState, timed_initial, TimedAct, timed_next, timed_run}
 
--- what is fixed of a match before it begins
+-- the parameters of a match that are fixed before it begins
 pub record TimedSetup : Type 0 where
   pub world : World
   pub held : Held
   pub schedule : Schedule
 
--- an act, and the number of the match that it is done with
+-- an act together with the number of its match
 pub record TimedHappening : Type 0 where
   pub game : ℕ
   pub act : TimedAct

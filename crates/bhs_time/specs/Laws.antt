@@ -39,7 +39,7 @@ IsPunctual schedule agent (ToldAt before turn command glance) = IsPunctual sched
 IsPunctual schedule agent (ArrivedAt before turn sight) =
     IsFirst schedule agent (departed_at before) turn × IsPunctual schedule agent before
 
--- while an agent is on a link that lets it through and is not held, no turn since its departure has released it
+-- While an agent is on a link that is neither destroying nor held, no turn since its departure has released it.
 abbrev pub IsNotYetReleased : World → Held → Schedule → TimedState → (agent : ℕ) → Type 0
 IsNotYetReleased world held schedule timed agent =
     timed.state.closed ≡ false → is_let_through world (timed.state.position agent) ≡ true →
@@ -91,9 +91,9 @@ pub record GoesOnAlike (world : World) (held : Held) (schedule : Schedule) (here
       (timed_next world held schedule here Passes).pasts agent ≡
       (timed_next other still schedule there Passes).pasts agent
 
--- Isolation in time. Two matches may differ in their other agents, in all that those say, in their black holes, dark
--- links and held links. If an agent has the same timed view in both, then it arrives with the next turn in both or in
--- neither, unless its link destroys or is held in one match and not in the other.
+-- Isolation in time. Two matches may differ in their other agents, in these agents' commands, and in black holes, dark
+-- links and held links. If an agent has the same timed view in both matches, then it arrives with the next turn in both
+-- or in neither, unless its link destroys or is held in only one of the matches.
 abbrev pub IsolatedInTime : Type 0
 IsolatedInTime = (world : World) (held : Held) (schedule : Schedule) (acts : List TimedAct)
     (other : World) (still : Held) (others : List TimedAct) (agent : ℕ) →

@@ -21,12 +21,12 @@ abbrev pub all_of : List Marked → List TimedAct
 all_of [] = []
 all_of (one ∷ others) = one.act ∷ all_of others
 
--- the acts with one before them, unless it is a command that is not kept
+-- prepends an act, unless it is a command that is not kept
 abbrev pub if_kept : TimedAct → (kept : Bool) → List TimedAct → List TimedAct
 if_kept (Says agent command) false acts = acts
 if_kept act kept acts = act ∷ acts
 
--- The acts without the commands that are not kept. Turns pass, and the match ends, as before.
+-- The acts without the dropped commands. Turns and the close remain.
 abbrev pub kept_of : List Marked → List TimedAct
 kept_of [] = []
 kept_of (one ∷ others) = if_kept one.act one.kept (kept_of others)
@@ -40,7 +40,7 @@ pub record TaintState : Type 0 where
 abbrev pub all_watched : TaintState
 all_watched = record { live = λ agent. true; tainted = λ node. false }
 
--- the nodes where a write was left out, with this one
+-- adds this node to the nodes where a write was left out
 abbrev pub taint : (ℕ → Bool) → Option ℕ → ℕ → Bool
 taint tainted None = tainted
 taint tainted (Some node) = changed tainted node true
@@ -55,12 +55,12 @@ watch_after world schedule timed watch Passes false =
     record watch { live = changed watch.live (schedule.picked timed.turn) false }
 watch_after world schedule timed watch act kept = watch
 
--- what is seen is not a node where a write was left out
+-- The observed node has no left-out write.
 abbrev pub IsClean : (tainted : ℕ → Bool) → (seen : Option ℕ) → Type 0
 IsClean tainted None = Unit {0}
 IsClean tainted (Some node) = tainted node ≡ false
 
--- the event, if there is one, sees no node where a write was left out
+-- The event, if any, observes no node with a left-out write.
 abbrev pub IsCleanIf : World → State → (tainted : ℕ → Bool) → Option Event → Type 0
 IsCleanIf world state tainted None = Unit {0}
 IsCleanIf world state tainted (Some event) = IsClean tainted (footprint world state event).seen
@@ -83,7 +83,7 @@ IsUnseen world held schedule timed watch (one ∷ others) =
     × IsUnseen world held schedule (timed_next world held schedule timed one.act)
     (watch_after world schedule timed watch one.act one.kept) others
 
--- who is watched in the end
+-- the watched agents at the end
 abbrev pub watched : World → Held → Schedule → TimedState → TaintState → List Marked → TaintState
 watched world held schedule timed watch [] = watch
 watched world held schedule timed watch (one ∷ others) =
@@ -105,12 +105,12 @@ TheUnseenMayBeLeftOut = (world : World) (held : Held) (schedule : Schedule) (act
     (watched world held schedule timed_initial all_watched acts).live agent ≡ true →
     MeetsTheSame world held schedule (all_of acts) (kept_of acts) agent
 
--- the node that an event sees, if there is one
+-- the node that an optional event observes
 abbrev pub seen_if : World → State → Option Event → Option ℕ
 seen_if world state None = None
 seen_if world state (Some event) = (footprint world state event).seen
 
--- what an act has to do with others: a turn is of the agent that it picks
+-- The footprint of an act; a turn belongs to the agent that it picks.
 abbrev pub act_footprint : World → Held → Schedule → TimedState → TimedAct → Footprint
 act_footprint world held schedule timed (Says agent command) = footprint world timed.state (Tell agent command)
 act_footprint world held schedule timed Passes = record {

@@ -12,7 +12,7 @@ pub record Schedule : Type 0 where
 abbrev pub releases : Schedule → (agent departed turn : ℕ) → Bool
 releases schedule agent departed turn = agent == schedule.picked turn && schedule.ready agent departed turn
 
--- the words of a match: one for each turn, and one for each agent and each turn at which it may depart
+-- The random words of a match: one for each turn, and one for each agent and each turn at which it may depart.
 pub record Words : Type 0 where
   pub picks : (turn : ℕ) → ℕ
   pub delays : (agent departed : ℕ) → ℕ

@@ -43,7 +43,7 @@ AreInTimeFrom schedule world timed (one ∷ others) =
 abbrev pub AreInTime : Schedule → World → List Stamped → Type 0
 AreInTime schedule world stamps = AreInTimeFrom schedule world timed_initial stamps
 
--- the event with this turn, and then the others, if there is an event
+-- prepends an optional event with its turn to the remaining events
 abbrev pub stamped_first : Option Event → (turn : ℕ) → List Stamped → List Stamped
 stamped_first None turn others = others
 stamped_first (Some event) turn others = record { event = event; turn = turn } ∷ others
@@ -70,9 +70,9 @@ abbrev pub DeliveriesInTimeArrivePunctually : Type 0
 DeliveriesInTimeArrivePunctually = (schedule : Schedule) (world : World) (stamps : List Stamped) (agent : ℕ) →
     AreInTime schedule world stamps → IsPunctual schedule agent ((stamped_run world stamps).pasts agent)
 
--- Equal waits in logs: take two logs with turns of matches under one schedule, whose Delivers were made in time. The
--- matches may differ in all else. If an agent with the same timed view before arrives next in both, then it arrives
--- after equally many turns.
+-- Equal waits in logs: take two logs with turns of matches under one schedule, both with timely Delivers. The matches
+-- may differ in everything else. If an agent with the same timed view arrives next in both, then it arrives after
+-- equally many turns.
 abbrev pub EqualWaitsInLogs : Type 0
 EqualWaitsInLogs = (schedule : Schedule) (world other : World) (stamps others : List Stamped) (agent : ℕ)
     (before : TimedView) (turn later : ℕ) (sight seen : TimedSight) →
@@ -81,7 +81,7 @@ EqualWaitsInLogs = (schedule : Schedule) (world other : World) (stamps others : 
     (stamped_run other others).pasts agent ≡ ArrivedAt before later seen →
     turn ≡ later
 
--- a past has, anywhere in it, an arrival at this turn, and before that it was this past
+-- The past contains, at any depth, an arrival at this turn whose earlier past was this one.
 abbrev pub HasArrival : TimedView → (before : TimedView) → (turn : ℕ) → Type 0
 HasArrival Fresh before turn = ⊥
 HasArrival (ToldAt past at command glance) before turn = HasArrival past before turn

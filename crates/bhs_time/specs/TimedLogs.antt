@@ -10,12 +10,12 @@ use Rattle.bhs_time.specs.Schedules.{Schedule}
 use Rattle.bhs_time.specs.TimedRuns.{TimedState, timed_initial, TimedAct, event_of, timed_next}
 use Rattle.bhs_time.specs.Stamps.{Stamped, happened_at, AreInTime}
 
--- the lost agents after the event, if there is one
+-- the lost agents after an optional event
 abbrev pub lost_then : World → State → (lost : ℕ → Bool) → Option Event → ℕ → Bool
 lost_then world state lost None = lost
 lost_then world state lost (Some event) = lost_after world state lost event
 
--- the event with its turn before the others, if there is an event and the match keeps it
+-- prepends an optional event with its turn, if the match keeps the event
 abbrev pub logged_first : World → State → (lost : ℕ → Bool) → Option Event → (turn : ℕ) → List Stamped → List Stamped
 logged_first world state lost None turn others = others
 logged_first world state lost (Some event) turn others =
@@ -44,7 +44,7 @@ abbrev pub turn_behind : Event → (turn : ℕ) → ℕ
 turn_behind (Deliver agent) turn = turn + 1
 turn_behind event turn = turn
 
--- the same after a log, if this many have passed before it
+-- the number of turns after a log, given the number before it
 abbrev pub turns_passed : (turn : ℕ) → List Stamped → ℕ
 turns_passed turn [] = turn
 turns_passed turn (one ∷ others) = turns_passed (turn_behind one.event one.turn) others
@@ -54,7 +54,7 @@ abbrev pub TimedLogsAreInTime : Type 0
 TimedLogsAreInTime = (world : World) (held : Held) (schedule : Schedule) (stamps : List Stamped) →
     IsTimedLog world held schedule stamps → AreInTime schedule world stamps
 
--- no turn of a log is less than the one before it, and the first is not less than this
+-- The turns of a log ascend (weakly), starting from this turn.
 abbrev pub Ascend : (turn : ℕ) → List Stamped → Type 0
 Ascend turn [] = Unit {0}
 Ascend turn (one ∷ others) = (turn ≤ one.turn) × Ascend one.turn others

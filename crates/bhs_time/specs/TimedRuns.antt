@@ -29,7 +29,7 @@ timed_initial = record {
   writes = λ node. UnwrittenThen;
 }
 
--- what is done with a match from outside: a timed execution is a list of these
+-- An act on a match from outside; a timed execution is a list of acts.
 pub data TimedAct : Type 0 where
   -- an agent says a command
   Says : (agent : ℕ) → Command → TimedAct
@@ -44,8 +44,8 @@ abbrev pub delivery_if : Held → State → (agent : ℕ) → (is_ready : Bool) 
 delivery_if held state agent true = delivery_to held state (Some agent)
 delivery_if held state agent false = None
 
--- The event of a turn, if it has one, where these are the turns of departure: the Deliver of the agent that the
--- schedule picks. There is none after the close.
+-- The event of a turn, given the turns of departure: the Deliver of the agent that the schedule picks, if it is due.
+-- After the close there is no event.
 abbrev pub delivery_in : Held → Schedule → State → (departed : ℕ → ℕ) → (turn : ℕ) → Option Event
 delivery_in held schedule state departed turn =
     let agent = schedule.picked turn in
@@ -113,7 +113,7 @@ happened world timed (Deliver agent) =
     if arrives world timed.state agent then arrived_then world timed agent (timed.state.position agent) else timed
 happened world timed Close = record timed { state = next world timed.state Close }
 
--- the timed state after the event, if there is one
+-- the timed state after an optional event
 abbrev pub happened_if : World → TimedState → Option Event → TimedState
 happened_if world timed None = timed
 happened_if world timed (Some event) = happened world timed event

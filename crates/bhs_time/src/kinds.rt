@@ -7,6 +7,6 @@ use crate::delays::Delays;
 pub enum ScheduleKind {
     /// A turn's word picks out of the pool of those on a link.
     Adaptive,
-    /// A turn's word picks one of all agents, which arrives if it has been on its link for its delay.
+    /// Each turn's word picks one of all agents, which arrives if its delay on the link has passed.
     Oblivious(Delays),
 }

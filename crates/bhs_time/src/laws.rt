@@ -74,7 +74,7 @@ pub fn holes_look_slow_in_time()
     ensures { HolesLookSlowInTime }
 {}
 
-/// A match among others is as it is alone, with its turns.
+/// Non-interference in time: a match of a contest behaves as it does alone, with equal turns.
 pub fn matches_are_apart_in_time()
     ensures { MatchesAreApartInTime }
 {}

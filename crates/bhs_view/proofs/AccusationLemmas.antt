@@ -1,4 +1,4 @@
--- Who accused what, and who arrived where, in a match and in its twin.
+-- Accusations and arrivals in a match and in its twin.
 use Rattle.std.proofs.Common.{ℕ, suc, ◌<◌, ◌≡◌, ◌⊎◌, Bool, true, false, not, ◌&&◌, ◌||◌, ◌==◌, Option, Some, None, List}
 use Rattle.std.proofs.Common.{[], ◌∷◌, if◌then◌else◌, inl, inr, nat_lt, refl, sym, ap, ap₂, ◌∙◌, subst}
 use Rattle.std.specs.Prelude.{is_some}

@@ -142,7 +142,7 @@ needed_more needed own chosen footprint are_needed = record {
   any = refl;
 }
 
--- how the walk back stands that has come down to a place, with these footprints from there on
+-- The invariant of the backward walk at a place, given the footprints from there on.
 pub record IsBack (needed : Needed) (agent place : ℕ) (footprints : List Footprint) (places : List ℕ) : Type 0 where
   pub are_needed : AreNeeded needed (Some agent) (at_places footprints (cut agent footprints))
   pub found : places ≡ reverse (places_from place (cut agent footprints))

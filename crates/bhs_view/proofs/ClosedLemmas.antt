@@ -18,7 +18,7 @@ use Rattle.bhs_view.specs.Walks.{seen_by, footprint_at, footprints_at, Needed, i
 use Rattle.bhs_view.specs.Walks.{IsInRange, AreNeeded}
 use Rattle.bhs_view.proofs.BackLemmas.{needed_same, needed_more, length_footprints_at, IsThere}
 
--- how the walk back stands that has come down to a place, with these footprints and this part of the set from there on
+-- The invariant of the backward walk at a place, given the footprints and the part of the set from there on.
 pub record IsJudged (needed : Needed) (place : ℕ) (footprints : List Footprint) (set : List Bool)
     (lacking : Option ℕ) : Type 0 where
   pub are_needed : AreNeeded needed None (at_places footprints set)

@@ -1,4 +1,4 @@
--- What the footprints of a log are, and the cut of a stranger.
+-- The footprints of a log's events, and the cut of a number without an agent.
 use Rattle.std.proofs.Common.{ℕ, suc, ◌<◌, ◌≤◌, ◌≡◌, Bool, true, false, ◌||◌, Option, Some, None, List, [], ◌∷◌}
 use Rattle.std.proofs.Common.{length, map, refl, sym, ap, ◌∙◌, arith, inl, inr, if◌then◌else◌}
 use Rattle.std.specs.Prelude.{IfSome, replicate}

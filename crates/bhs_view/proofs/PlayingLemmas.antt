@@ -21,7 +21,7 @@ use Rattle.bhs_match.specs.Matches.{Play, world_in, state_of}
 use Rattle.bhs_match.specs.Laws.{IsLogOf}
 use Rattle.bhs_match.proofs.LawLemmas.{logs_grow_lemma}
 
--- a match that began as this one, in which this happened
+-- A match that began as `start` and in which these events happened.
 pub record HasPlayed (start : Play) (events : List Event) (game : Play) : Type 0 where
   pub log : IsLogOf (world_in start) events game.log
   pub net : game.net ≡ start.net

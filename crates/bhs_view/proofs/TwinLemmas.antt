@@ -1,4 +1,4 @@
--- A match and its twin: what is left of the one happens in the other, with the same replies.
+-- Simulation: the remaining events of a match happen in its twin with equal replies.
 use Rattle.std.proofs.Common.{ℕ, suc, ◌≡◌, Bool, true, false, not, ◌&&◌, ◌||◌, ◌==◌, Option, Some, None, List, [], ◌∷◌}
 use Rattle.std.proofs.Common.{if◌then◌else◌, inl, inr, refl, sym, ap, ap₂, ◌∙◌, subst}
 use Rattle.std.proofs.lemmas.Bool.{cond-true, cond-false, and_parts, and_from, and_right, or_cases, or_left, or_right}
@@ -54,7 +54,7 @@ twin_doom world holes dark old new node port moved other =
     (moved.same_links node port)
     ∙ shuffled (there == new) (is_hole world.holes there) (is_dark world.net.far world.dark node port)
 
--- an event that is left does the same in both
+-- A remaining event has the same effect in both matches.
 pub record HappensAlike (world twin : World) (state : State) (lost lose : ℕ → Bool) (event : Event) : Type 0 where
   pub struck : is_struck world twin state event ≡ is_struck twin world state event
   pub hides : reveals world twin state event ≡ false
@@ -185,7 +185,7 @@ left_alike world holes dark old new state lost lose (Deliver agent) moved fewer 
 left_alike world holes dark old new state lost lose Close moved fewer other is_kept elsewhere =
     record { struck = refl; hides = refl; hides_too = refl; next = refl; reply = refl; keeps = is_kept; fewer = fewer }
 
--- each event that is taken out
+-- each struck event
 
 heads_somewhere : (world : World) (old : Option ℕ) (position : Position)
     → meet old (node_reached world position) ≡ true →
@@ -217,7 +217,7 @@ taken_out world holes dark old new state lost lose (Deliver agent) moved fewer h
     }
 taken_out world holes dark old new state lost lose Close moved fewer heads = absurd (false≢true heads)
 
--- what is left of a list, in the twin
+-- the remaining events of a list, in the twin
 pub record IsLeft (world twin : World) (state : State) (lose : ℕ → Bool) (events chosen : List Event)
     (answers : List (Option Reply)) : Type 0 where
   pub struck : strike_from world twin state events ≡ strike_from twin world state chosen

@@ -26,7 +26,7 @@ use Rattle.bhs_view.specs.Twins.{hole_replaced, twin_setup, twin_events, places_
 use Rattle.bhs_view.proofs.TwinLemmas.{with_these, HasMoved, left_same}
 use Rattle.bhs_view.proofs.TwinSetupLemmas.{has_moved}
 
--- what a twin is, in the definitions
+-- a match and its twin in the model
 pub record IsPair (world twin : World) (events chosen : List Event) (answers : List (Option Reply)) : Type 0 where
   pub twins : Twins world events twin chosen
   pub alike : LookAlike world events twin chosen
@@ -53,7 +53,7 @@ pair_of world holes dark old new events moved all unreached =
       answers_are = same.answers_are;
     }
 
--- what it means that there is no fault
+-- the meaning of the absence of a fault
 pub record IsFree (play : Play) (node : ℕ) : Type 0 where
   pub is_node : node < nodes_of play.net
   pub away : (node == play.setup.home) ≡ false
@@ -76,7 +76,7 @@ is_free play node fits =
     (first_arrival (world_in play) node (events_of play.log)) fits in
     record { is_node = ltb-true _ _ parts.0; away = parts.1; no_hole = parts.2; unreached = parts.3 }
 
--- what a twin is made of
+-- a twin, in terms of the match that it was made from
 pub record IsTwinOf (whole part : Play) (node : ℕ) (holes : List ℕ) (dark : List (ℕ × ℕ))
     (old : Option ℕ) : Type 0 where
   pub moved : HasMoved (world_in whole) holes dark old node

@@ -1,4 +1,4 @@
--- The setup of a twin, and that it is one.
+-- The setup of a twin, and its validity.
 use Rattle.std.proofs.Common.{ℕ, ◌≡◌, ◌<◌, Bool, true, false, not, ◌&&◌, ◌||◌, ◌==◌, Option, Some, None, List, [], ◌∷◌}
 use Rattle.std.proofs.Common.{if◌then◌else◌, inl, inr, refl, sym, ap, ◌∙◌, subst}
 use Rattle.std.specs.Prelude.{filter, find}
@@ -87,7 +87,7 @@ accused_is_hole world state (Tell agent Bad) hole is = cc
 accused_is_hole world state (Deliver agent) hole is = cc
 accused_is_hole world state Close hole is = cc
 
--- the first or else the second
+-- case analysis: the first option has a value, or the second one counts
 pub option_cases : (P : ℕ → Type 0) (one two : Option ℕ) → ((hole : ℕ) → one ≡ Some hole → P hole)
     → ((hole : ℕ) → two ≡ Some hole → P hole) → (hole : ℕ) → option_or one two ≡ Some hole → P hole
 option_cases P (Some first) two here there hole is = here hole is

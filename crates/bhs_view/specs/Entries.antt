@@ -6,7 +6,7 @@ use Rattle.bhs_model.specs.declared.replies.Reply.{Reply}
 use Rattle.bhs_model.specs.declared.marks.Kept.{Kept}
 use Rattle.bhs_model.specs.Marks.{read_if}
 
--- an event and its reply, if it was given one
+-- an event, with its reply if it got one
 abbrev pub LogEntry : Type 0
 LogEntry = Event × Option Reply
 
@@ -18,6 +18,6 @@ abbrev pub closes : Event → Bool
 closes Close = true
 closes event = false
 
--- all but the Close, and then one Close
+-- moves the Close to the end
 abbrev pub closed_once : List LogEntry → List LogEntry
 closed_once chosen = filter (λ entry. not (closes entry.0)) chosen ++ (Close, None) ∷ []

@@ -17,13 +17,13 @@ abbrev pub set_from : {A : Type 0} → (place : ℕ) → (places : List ℕ) →
 set_from place places [] = []
 set_from place places (x ∷ xs) = list_any (nat_eq place) places ∷ set_from (suc place) places xs
 
--- the index of the first of these places that is below the least that may stand there, or past the end; the least is
--- one more than the place before
+-- The index of the first place that is less than the least admissible place or lies beyond the end; the least is one
+-- more than the preceding place.
 abbrev pub misplaced_from : (index least count : ℕ) → List ℕ → Option ℕ
 misplaced_from index least count [] = None
 misplaced_from index least count (place ∷ places) =
     if nat_le least place && nat_lt place count then misplaced_from (suc index) (suc place) count places else Some index
 
--- the index of the first of these places that is not above the one before it, or is past the end
+-- the index of the first place that does not exceed its predecessor, or lies beyond the end
 abbrev pub misplaced : (count : ℕ) → List ℕ → Option ℕ
 misplaced count places = misplaced_from 0 0 count places

@@ -1,4 +1,4 @@
--- What is looked up of a match that has ended.
+-- Queries about a match that has ended.
 use Rattle.std.specs.Prelude.{ℕ, ◌≡◌, ◌<◌, ◌≤◌, true, Option, IfSome, List, length, map}
 use Rattle.std.specs.List.{All}
 use Rattle.bhs_net.specs.Network.{Network, IsNetwork, nodes_of}
@@ -12,8 +12,7 @@ use Rattle.bhs_model.specs.Sites.{sites}
 use Rattle.bhs_world.specs.Faults.{IsWithinLimits}
 use Rattle.bhs_match.specs.Matches.{Play, world_in, state_of, most_kept}
 
--- these are the network, the setup, the log and the sites of the match; it is one that has ended. Only contracts of
--- private functions cite it.
+-- The network, setup, log and sites of a match that has ended. Only contracts of private functions cite it.
 pub record IsRead (play : Play) (net_read : Network) (setup_read : Setup) (log_read : List Kept)
     (sites_read : List (Option ℕ)) : Type 0 where
   pub net : net_read ≡ play.net

@@ -34,7 +34,8 @@ fault_of None None = None
 abbrev pub first_fault : Play → (places : List ℕ) → Option RestrictFault
 first_fault play places = fault_of (misplaced (length play.log) places) (unclosed play places)
 
--- the match in which the events of these places of another were played, and a Close: each has the reply that it had
+-- The match that replays the events at these places of another match, followed by a Close; each event has the reply
+-- that it had.
 pub record IsRestricted (whole : Play) (places : List ℕ) (part : Play) : Type 0 where
   pub net : part.net ≡ whole.net
   pub setup : part.setup ≡ whole.setup

@@ -34,7 +34,7 @@ left_at old [] sites = []
 left_at old (kept ∷ log) [] = []
 left_at old (kept ∷ log) (site ∷ sites) = not (is_bound_for kept.event site old) ∷ left_at old log sites
 
--- whether an event with this mark and this site is an arrival at a node
+-- whether an event with this mark and site is an arrival at the node
 abbrev pub is_arrival_by : Event → Option Mark → (site : Option ℕ) → (node : ℕ) → Bool
 is_arrival_by (Deliver agent) (Some mark) site node = meet (Some node) site
 is_arrival_by event mark site node = false

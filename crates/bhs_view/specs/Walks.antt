@@ -1,5 +1,5 @@
--- How the walk back over a log goes about it: it keeps what the chosen places need. That this is what the definitions
--- say is proved of it.
+-- The backward walk over a log: it collects the events that the chosen places need. Its agreement with the model's cut
+-- is proved.
 use Rattle.std.specs.Prelude.{ℕ, ◌<◌, ◌≡◌, Bool, true, false, ◌&&◌, ◌||◌, Option, Some, None, List, [], ◌∷◌}
 use Rattle.std.specs.Prelude.{length, replicate, slice_index_or, slice_set, IfSome}
 use Rattle.std.specs.List.{AllByRecursion, list_any}
@@ -72,7 +72,7 @@ abbrev pub needed_after : Needed → Footprint → Needed
 needed_after needed late =
     record { agents = marks_with needed.agents late.who; nodes = marks_with needed.nodes late.seen; any = true }
 
--- the agent and the node of a footprint are there
+-- The agent and the node of a footprint exist.
 pub record IsInRange (agents nodes : ℕ) (footprint : Footprint) : Type 0 where
   pub who : IfSome footprint.who (λ agent. agent < agents)
   pub seen : IfSome footprint.seen (λ node. node < nodes)

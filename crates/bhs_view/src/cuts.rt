@@ -14,8 +14,8 @@ use bhs_model::Kept;
 use bhs_net::Memory;
 use std::alloc::Global;
 
-/// The places of the agent's causal past, ascending: the least closed set of places of the log that has all places of
-/// the agent. None if no agent has this number. The log is walked over once, back from its end.
+/// Computes an agent's causal past as ascending places: the least closed set of places of the log that contains all
+/// places of the agent. Returns None if no agent has this number. Takes one pass over the log, from its end.
 pub fn cut_of(alloc: Global, sealed: &Sealed, agent: u16) -> Result<Vec<u32>, Memory>
     ensures cut { IfOk result (λ places. places.items
         ≡ places_of (cut agent (footprints (world_in sealed.now) (events_of sealed.now.log)))) }

@@ -23,7 +23,7 @@ pub fn holes_look_slow()
     ensures { HolesLookSlow }
 {}
 
-/// A guess is refuted by a twin, and a match that is solved by none.
+/// A twin refutes a guess, and no twin refutes a match that is solved.
 pub fn guesses_are_refuted()
     ensures guess { GuessesAreRefuted }
     ensures solved { SolvedIsNotRefuted }

@@ -7,7 +7,7 @@ use bhs_match::{Sealed, Site};
 use bhs_model::{Kept, Setup};
 use bhs_net::Net;
 
-/// What is looked up of a match that has ended.
+/// Queries about a match that has ended.
 pub(crate) struct Reading<'m> {
     pub(crate) net: &'m Net,
     pub(crate) setup: &'m Setup,

@@ -21,7 +21,7 @@ use thiserror::Error;
 /// Why places of a log are not played by themselves. The first that holds, in this order, is told.
 #[derive(Clone, Copy, Debug, PartialEq, Eq, Error)]
 pub enum RestrictFault {
-    /// The place at this index of the list is not above the one before it, or is past the log.
+    /// The place at this index does not exceed its predecessor, or lies beyond the log.
     #[error("places at {index}")]
     Places { index: usize },
     /// The list lacks this place, and one of its places needs it; it is the least such place.
@@ -40,8 +40,8 @@ impl From<Memory> for RestrictFault {
     }
 }
 
-/// Plays the events of a closed set of places of the log anew, by themselves, and then a Close. Each event has the
-/// reply that it has in the whole log.
+/// Replays the events at a closed set of places of the log, followed by a Close. Each event has the reply that it has
+/// in the whole log.
 pub fn restrict(alloc: Global, sealed: &Sealed, places: &[u32]) -> Result<Sealed, RestrictFault>
     ensures played { IfOk result (λ part. IsRestricted sealed.now places.now part) }
     ensures fit { OnOk result (first_fault sealed.now places.now ≡ None) }
@@ -78,7 +78,7 @@ fn closed_set(alloc: Global, sealed: &Sealed, places: &[u32]) -> Result<Vec<bool
     Ok(set)
 }
 
-// The index of the first place that is not above the one before it, or is past the end.
+// Returns the index of the first place that does not exceed its predecessor, or lies beyond the end.
 fn misplaced(places: &[u32], count: usize) -> Option<usize>
     ensures { result ≡ misplaced count places.now }
 {
@@ -93,7 +93,7 @@ fn misplaced(places: &[u32], count: usize) -> Option<usize>
     None
 }
 
-// The places as a set, out of this number.
+// Returns the places as a set of `count` flags.
 fn set_of(alloc: Global, places: &[u32], count: usize) -> Result<Vec<bool>, Memory>
     ensures length { IfOk result (λ set. length set.items ≡ count) }
     ensures marks { IfOk result (λ set. (place : ℕ) → place < count → slice_index_or set.items place false

@@ -56,10 +56,10 @@ pub struct Twin {
     pub left: Vec<bool>,
 }
 
-/// The match with a black hole at this node, in which no agent saw anything else. The black hole that was first accused
-/// by a link that is not dark gives way; without such an accusation the least, and none if there is none. Each
-/// Deliver that finds its agent bound for that one is left out. Nothing is played: what is left has the replies that it
-/// had.
+/// Returns the twin: a match with a black hole at this node that no agent could tell apart. It removes the black hole
+/// that was first accused by a link that is not dark, without such an accusation the least one, and none if there is
+/// none. It leaves out each Deliver of an agent bound for the removed black hole. Nothing is replayed: the remaining
+/// events keep their replies.
 pub fn twin_of(alloc: Global, sealed: &Sealed, node: u16) -> Result<Twin, TwinFault>
     ensures start { IfOk result (λ twin. twin.start
         ≡ record { net = sealed.now.net; setup = twin_setup sealed.now node; log = [] }) }
@@ -116,7 +116,7 @@ fn first_arrival(log: &[Kept], sites: &[Site], node: u16) -> Option<u32>
     None
 }
 
-// Whether a place with this site is an arrival at a node.
+// Returns whether the event at a place with this site is an arrival at the node.
 fn is_arrival(kept: &Kept, site: Option<u16>, node: u16) -> bool
     ensures { result ≡ is_arrival_at kept.now site node }
 {

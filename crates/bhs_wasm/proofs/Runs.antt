@@ -9,7 +9,7 @@ use Rattle.bhs_wasm.specs.declared.interpreters.Progress.TheVariants as progress
 use Rattle.bhs_wasm.specs.States.{State, StepResult, Continues, Waits, Ends, Traps, IsStepResult, and_then, burned}
 use Rattle.bhs_wasm.specs.States.{cost_of, do_next, instruction_in, run}
 
--- what the next instruction comes to, and then the others
+-- the result of the next instruction, followed by the remaining instructions
 abbrev goes : Contents → (most left : ℕ) → Option Instruction → State → StepResult
 goes program most left next state = and_then (do_next program next state)
     (burned program most (left - cost_of program.max_pages next state))
@@ -54,7 +54,7 @@ module _ (program : Contents) (fuel counter left : ℕ) (start state : State) (n
         ∙ (λ i. if nat_lt left (sym is_cost i) then Traps
         else and_then (do_next program next state) (burned program (fuel - (counter + 1)) (left - sym is_cost i)))
 
-    -- the fuel does not pay for it
+    -- The fuel does not pay for the instruction.
     pub unpaid : left < cost → run program fuel start ≡ Traps
     unpaid few = one_more ∙ cond-true (nat_lt left cost) _ _ (lt-ltb left cost few)
 

@@ -4,7 +4,7 @@ use Rattle.bhs_wasm.specs.declared.instructions.Instruction.{Instruction}
 use Rattle.bhs_wasm.specs.declared.modules.Function.{Function}
 use Rattle.bhs_wasm.specs.declared.modules.Module.{Module}
 
--- what an instance is made of
+-- The parts of an instance: its code, functions, table, memory and globals.
 pub record Contents : Type 0 where
   pub code : List Instruction
   pub functions : List Function

@@ -1,4 +1,4 @@
--- The state of an instance, and what each instruction makes of it.
+-- The state of an instance, and the small-step semantics of each instruction.
 use Rattle.std.specs.Prelude.{ℕ, zero, suc, ◌+◌, ◌-◌, ◌*◌, ◌/◌, ◌%◌, ◌^◌, ◌==◌, ◌≡◌, Bool, true, false, nat_lt, nat_le}
 use Rattle.std.specs.Prelude.{Option, Some, None, List, [], ◌∷◌, ◌++◌, length, take, drop, slice_get}
 use Rattle.std.specs.Prelude.{slice_index, slice_set, if◌then◌else◌, ◌&&◌, Result, IfOk}
@@ -65,7 +65,7 @@ pub data StepResult : Type 0 where
   Ends : StepResult
   Traps : StepResult
 
--- an interpreter with this result says this, and is then in this state
+-- The interpreter's progress and its new state agree with this result.
 abbrev pub IsStepResult : StepResult → Progress → State → Type 0
 IsStepResult (Continues after) progress new = (progress ≡ progresses.Continues) × (new ≡ after)
 IsStepResult (Waits function after) progress new = (progress ≡ progresses.Waits function) × (new ≡ after)
@@ -89,19 +89,19 @@ next state = jumped ((state.program_counter + 1) % 2 ^ 32) state
 abbrev pub with_stack : List ℕ → State → State
 with_stack stack state = record state { stack = stack }
 
--- the value on top of the stack, and the state without it
+-- pops the value on top of the stack
 abbrev pub top : State → Option ℕ
 top state = slice_get state.stack (length state.stack - 1)
 
 abbrev pub below : State → State
 below state = with_stack (take (length state.stack - 1) state.stack) state
 
--- the operand at this depth, as an i32
+-- the operand at a depth of the stack, as an i32
 abbrev pub operand : (depth : ℕ) → State → ℕ
 operand depth state = if nat_lt depth (length state.stack)
     then low (slice_index state.stack (length state.stack - 1 - depth)) else 0
 
--- a trap, if there is no value
+-- applies a function to a value, or traps without a value
 abbrev pub given : Option ℕ → (ℕ → StepResult) → StepResult
 given None then_do = Traps
 given (Some value) then_do = then_do value
@@ -186,7 +186,7 @@ abbrev pub do_branch_if : (to keep height : ℕ) → State → StepResult
 do_branch_if to keep height state = given (top state) (λ value.
     Continues (if low value == 0 then next (below state) else branch to keep height (below state)))
 
--- the branch of this number among those that follow, or the last of them
+-- takes the branch whose number is on the stack, or the last branch if that number is too large
 abbrev pub do_branch_table : (count : ℕ) → State → StepResult
 do_branch_table count state = given (top state) (λ value. Continues (jumped
     ((state.program_counter + 1 + (if nat_lt (low value) count then low value else count)) % 2 ^ 32) (below state)))
@@ -219,7 +219,7 @@ count_of sizes.Two = 2
 count_of sizes.Four = 4
 count_of sizes.Eight = 8
 
--- whether all these bytes are in the memory
+-- whether all these bytes lie within the memory
 abbrev pub is_within : State → (at count : ℕ) → Bool
 is_within state at count = nat_le (at + count) (size state)
 
@@ -249,7 +249,7 @@ put_at memory (byte ∷ bytes) at = put_at (slice_set memory at byte) bytes (at 
 abbrev pub with_memory : List ℕ → State → State
 with_memory memory state = record state { memory = memory }
 
--- these bytes are written at an address; None if they are not all in the memory
+-- writes bytes at an address; None if they do not all fit the memory
 abbrev pub put : (at : ℕ) → List ℕ → State → Option State
 put at bytes state = if is_within state at (length bytes)
     then Some (with_memory (put_at (reached (at + length bytes) state.memory) bytes at) state) else None
@@ -263,7 +263,7 @@ do_store bytes offset state = given (top state) (λ value. given (top (below sta
     after_put (put (low at + offset) (take (count_of bytes) (to_le_bytes w64 value)) (below (below state)))
     (λ done. Continues (next done))))
 
--- the size before in pages, or -1 if there would be too many
+-- pushes the old size in pages, or -1 if the new size would exceed the limit
 abbrev pub do_memory_grow : (max_pages : ℕ) → State → StepResult
 do_memory_grow max_pages state = given (top state) (λ more.
     if nat_le (state.pages + low more) max_pages
@@ -294,7 +294,7 @@ do_memory_fill state = given (top state) (λ count. given (top (below state)) (�
 
 -- ---- calls
 
--- the caller continues, if there is one
+-- returns to the caller, or ends the run without a caller
 abbrev pub returned : Option Frame → State → StepResult
 returned None state = Ends
 returned (Some frame) state = Continues (record state {
@@ -325,7 +325,7 @@ called (Some function) state = entered function state
 abbrev pub do_call : Contents → (function : ℕ) → State → StepResult
 do_call program function state = called (slice_get program.functions function) state
 
--- a function is entered that must be of this type
+-- calls a function, or traps unless its type is this one
 abbrev pub typed : Option Function → (function_type : ℕ) → State → StepResult
 typed None function_type state = Traps
 typed (Some function) function_type state = checked (function.function_type == function_type) (entered function state)
@@ -351,11 +351,11 @@ parameters_of imports.Accuse = 1
 parameters_of imports.Argument = 1
 parameters_of function = 0
 
--- the argument of a number, or 0
+-- pushes the argument with a number, or 0
 abbrev pub do_argument : State → StepResult
 do_argument state = given (top state) (λ number. pushed (slice_index state.arguments (low number)) (below state))
 
--- as much of the whiteboard as there is room for is written at an address, and its length is pushed
+-- writes the whiteboard at an address, truncated to the room there, and pushes its length
 abbrev pub do_board : State → StepResult
 do_board state = given (top state) (λ room. given (top (below state)) (λ to.
     after_put (put (low to) (take (low room) state.board) (below (below state)))
@@ -429,8 +429,9 @@ and_then (Waits function state) then_do = Waits function state
 and_then Ends then_do = Ends
 and_then Traps then_do = Traps
 
--- The instructions that the fuel pays for, until one does not continue. A module whose fuel does not pay for the next
--- one traps. Since each burns some, there are no more of them than `most`, if that is the fuel.
+-- Runs instructions while the fuel pays for them, until one does not continue. The module traps when its fuel does not
+-- pay for the next instruction. Each instruction burns some fuel, so `most` bounds their number if the fuel is at most
+-- `most`.
 unfoldable pub burned : Contents → (most fuel : ℕ) → State → StepResult
 burned program zero fuel state = Traps
 burned program (suc most) fuel state =
@@ -477,6 +478,6 @@ abbrev pub answered : (parameters value : ℕ) → State → StepResult
 answered parameters value state = checked (nat_le parameters (length state.stack))
     (pushed value (with_stack (take (length state.stack - parameters) state.stack) state))
 
--- the bytes from an address on; None if they are not all in the memory
+-- the bytes from an address on; None if they do not all lie within the memory
 abbrev pub bytes_in : (at count : ℕ) → State → Option (List ℕ)
 bytes_in at count state = if is_within state at count then Some (bytes_at state.memory at count) else None

@@ -103,7 +103,7 @@ impl Interpreter {
         }
     }
 
-    // Enters a function: its parameters are on the stack. Traps if there is no room.
+    // Enters a function whose arguments are on the stack. Traps if the stack or the frames have no room.
     fn enter(&mut self, function: Function) -> Result<Progress, AllocError>
         ensures { specs.Gives (specs.entered function (state_of self.old)) result (state_of self.new) }
     {

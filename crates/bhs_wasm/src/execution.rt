@@ -96,7 +96,7 @@ impl Interpreter {
         }
     }
 
-    /// The operand at this depth, as an i32: 0 is the top of the stack. It is 0 if the stack is not so high.
+    /// Returns the operand at a depth of the stack as an i32; depth 0 is the top. Returns 0 if the stack is lower.
     pub fn operand(&self, depth: usize) -> u32
         ensures { result ≡ specs.operand depth (state_of self.now) }
     {
@@ -107,7 +107,7 @@ impl Interpreter {
         }
     }
 
-    /// The bytes of the memory from an address on; None if they are not all in it.
+    /// Returns bytes of the memory from an address on, or None if they do not all lie within the memory.
     pub fn bytes(&self, at: u32, count: u32) -> Result<Option<Vec<u8>>, AllocError>
         ensures { IfOk result (λ found. option_map (λ bytes. bytes.items) found
             ≡ specs.bytes_in at count (state_of self.now)) }

@@ -73,7 +73,7 @@ pub enum Instruction {
     MemoryFill,
     /// Continues at the end of an `if`, from the end of its first part.
     Jump { to: u32 },
-    /// Continues at the second part of an `if`, or behind it, if the value is 0.
+    /// Continues at the second part of an `if`, or after it, if the value is 0.
     JumpIfZero { to: u32 },
     Branch { to: u32, keep: u32, height: u32 },
     BranchIf { to: u32, keep: u32, height: u32 },

@@ -44,17 +44,17 @@ pub struct Interpreter {
     pub frames: Vec<Frame>,
     pub stack: Vec<u64>,
     pub globals: Vec<u64>,
-    /// The memory up to the last byte that was written. All bytes behind it are zero.
+    /// The memory up to the last byte that was written. All bytes after it are zero.
     pub memory: Vec<u8>,
     pub pages: u32,
     pub last_reply: LastReply,
     pub arguments: Vec<u32>,
-    /// Whether the last run used up its fuel. It is no part of the state.
+    /// Whether the last run used up its fuel. This flag is not part of the semantic state.
     pub is_out_of_fuel: bool,
 }
 
 impl LastReply {
-    // As much of the whiteboard as there is room for.
+    // Returns the whiteboard, truncated to the room.
     pub(crate) fn front(&self, alloc: Global, room: u32) -> Result<Vec<u8>, AllocError>
         ensures { IfOk result (λ front. front.items ≡ take room self.now.board.items) }
     {

@@ -99,7 +99,7 @@ fn put_into(memory: &mut [u8], bytes: &[u8], at: u64)
     }
 }
 
-// The bytes from an address on.
+// Returns the bytes from an address on.
 #[tactic(auto, unfolding(crate::specs::States::bytes_at))]
 fn copied(alloc: Global, memory: &[u8], at: u64, count: u64) -> Result<Vec<u8>, AllocError>
     requires { at + count < 2 ^ 60 }
@@ -135,7 +135,7 @@ impl Interpreter {
         u64::from(self.pages) * PAGE
     }
 
-    // Whether all these bytes are in the memory.
+    // Returns whether all these bytes lie within the memory.
     pub(crate) fn is_within(&self, at: u64, count: u64) -> bool
         requires { at + count < 2 ^ 60 }
         ensures { result ≡ specs.is_within (state_of self.now) at count }
@@ -155,7 +155,7 @@ impl Interpreter {
         }
     }
 
-    /// Writes bytes into the memory. If they do not fit, it writes none and says so.
+    /// Writes bytes into the memory and returns true, or writes none and returns false if they do not fit.
     #[tactic(auto, using(crate::proofs::Lengths::le_reached))]
     pub(crate) fn put(&mut self, at: u64, bytes: &[u8]) -> Result<bool, AllocError>
         requires { at < 2 ^ 38 }
@@ -174,7 +174,7 @@ impl Interpreter {
         Ok(true)
     }
 
-    /// The bytes from an address on.
+    /// Returns a copy of the bytes from an address on.
     pub(crate) fn copied(&self, at: u64, count: u64) -> Result<Vec<u8>, AllocError>
         requires { at + count < 2 ^ 60 }
         ensures { IfOk result (λ bytes. bytes.items ≡ specs.bytes_at self.now.memory.items at count) }

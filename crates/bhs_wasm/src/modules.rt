@@ -12,7 +12,7 @@ pub struct Function {
     pub function_type: u32,
 }
 
-/// A module as an instance of it begins: its segments are in the table and in the memory.
+/// A module in the initial state of its instances: its element and data segments are in the table and the memory.
 #[derive(Drop)]
 pub struct Module {
     pub code: Vec<Instruction>,

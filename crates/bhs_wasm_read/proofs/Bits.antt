@@ -10,7 +10,7 @@ below-more bits n b some below few =
     let same : 2 ^ bits ≡ 2 ^ (bits - 7) * 128 = ap (λ k. 2 ^ k) whole ∙ pow-add 2 (bits - 7) 7 in
     omega arith
 
--- and it fits, if the number does
+-- The extended number fits as well.
 pub fits-more : (bits n b : ℕ) → bits ≤ 32 → 7 < bits → n < 2 ^ (bits - 7) → b < 128 → n * 128 + b < 2 ^ 32
 fits-more bits n b most some below few =
     let wide : 2 ^ bits ≤ 2 ^ 32 = pow_mono most in

@@ -63,7 +63,7 @@ imported = record no_parts {
   import_types = 0 ∷ [];
 }
 
--- a type that is equal to an earlier one has its number
+-- Equal types share the number of the first one.
 types_row : sections 9 0 no_parts (1 ∷ 12 ∷ 3 ∷ 0x60 ∷ 0 ∷ 1 ∷ 0x7f ∷ 0x60 ∷ 0 ∷ 0 ∷ 0x60 ∷ 0 ∷ 1 ∷ 0x7f ∷ []) ≡ Ok (
   record no_parts {
     types = record { parameters = []; results = types.I32 ∷ [] } ∷ record { parameters = []; results = [] }

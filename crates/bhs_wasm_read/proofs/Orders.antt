@@ -3,7 +3,7 @@ use Rattle.std.proofs.Common.{◌≡◌, ◌<◌, ◌≤◌, ℕ, zero, suc, Lis
 use Rattle.bhs_wasm_read.specs.Modules.{Parts, section, sections}
 use Rattle.bhs_wasm_read.specs.Values.{Read}
 
--- what is left leads to this: sections in it, behind those up to a rank, give it
+-- The remaining sections, which come after a rank in the order, give this result.
 abbrev pub Leads : (last : ℕ) → Parts → List ℕ → Read Parts → Type 0
 Leads last parts left whole = (fewer : ℕ) × (length left ≤ fewer) × (sections fewer last parts left ≡ whole)
 

@@ -1,7 +1,7 @@
--- The body of a function. Its instructions become flat ones, without blocks: a branch names the number of a label, and
--- a label the number of the instruction to which it leads. The label of a loop leads to its first instruction, and any
--- other block's label to the instruction behind the block's end. The label of the first part of an `if` leads to the
--- beginning of the second part or, where there is none, behind the end.
+-- The body of a function, compiled to flat instructions without blocks: a branch names the number of a label, and a
+-- label the number of the instruction where execution continues. A loop's label names its first instruction, the label
+-- of any other block the instruction after the block's end. The label of the first part of an `if` names the start of
+-- the second part or, without a second part, the instruction after the end.
 use Rattle.std.specs.Prelude.{ℕ, zero, suc, ◌+◌, ◌-◌, ◌==◌, ◌&&◌, not, Bool, true, false, nat_lt, nat_le}
 use Rattle.std.specs.Prelude.{Option, Some, None, Ok, Err, List, [], ◌∷◌, ◌++◌, length, take, map, slice_get}
 use Rattle.std.specs.Prelude.{slice_index, slice_set, if◌then◌else◌}
@@ -23,7 +23,7 @@ use Rattle.bhs_wasm_read.specs.Opcodes.{found, numeric, loads, stores}
 use Rattle.bhs_wasm_read.specs.Types.{Signature, signature_of, one_type}
 use Rattle.bhs_wasm_read.specs.Values.{Read, then_read, over, byte, next, u32, s32, s64, index_of_type}
 
--- what a module has beside the bodies of its functions
+-- the context of a function body: the module's types, imports and functions
 pub record Around : Type 0 where
   pub types : List Signature
   -- the number of the first type that is equal to each
@@ -232,7 +232,7 @@ branched_out (Some block) flow = Some (branched_to block (arity flow.around bloc
 abbrev pub branched : (depth : ℕ) → Flow → Option Flow
 branched depth flow = branched_out (target depth flow) flow
 
--- A branch if the value is not 0. There is no conditional return: it is jumped over.
+-- Branches if the value is not 0. Flat code has no conditional return, so a jump skips the return.
 abbrev pub branched_if_to : BlockKind → (label keep height : ℕ) → Flow → Flow
 branched_if_to kinds.Function label keep height flow = emitted (instruction.Return keep)
     (emitted (instruction.JumpIfZero (length flow.labels)) (with_label (place flow + 2) flow))
@@ -246,7 +246,7 @@ branched_if_out (Some block) flow = let keep = arity flow.around block.kind bloc
 abbrev pub branched_if : (depth : ℕ) → Flow → Option Flow
 branched_if depth flow = branched_if_out (target depth flow) (lowered 1 flow)
 
--- the flow that there is, and the bytes behind it
+-- the flow, if there is one, with the bytes after it
 abbrev pub with_flow : Option Flow → List ℕ → Read Flow
 with_flow None rest = Err faults.Index
 with_flow (Some flow) rest = Ok (flow, rest)
@@ -254,13 +254,13 @@ with_flow (Some flow) rest = Ok (flow, rest)
 abbrev pub one_branch : Flow → List ℕ → Read Flow
 one_branch flow left = then_read (u32 left) (λ depth rest. with_flow (branched depth flow) rest)
 
--- one of so many branches, or a last one
+-- a branch table: branches to choose from, and a default branch
 abbrev pub branch_table : Flow → List ℕ → Read Flow
 branch_table flow left = then_read (u32 left) (λ count rest. then_read
     (over one_branch (count + 1) (emitted (instruction.BranchTable count) (lowered 1 flow)) rest)
     (λ flow rest. Ok (unreached flow, rest)))
 
--- a branch out of the body
+-- a branch out of the function's body
 abbrev pub unreached_if : Option Flow → Option Flow
 unreached_if None = None
 unreached_if (Some flow) = Some (unreached flow)
@@ -425,7 +425,7 @@ begun around own locals start = record {
   labels = 0 ∷ [];
 }
 
--- its instructions, behind those that stand
+-- appends the function's instructions to earlier ones
 abbrev pub appended : (code : List Instruction) → Flow → List Instruction
 appended code flow = code ++ map (led flow.labels) flow.code
 

@@ -24,7 +24,7 @@ place_of (refused.Inside kind at import) = at
 abbrev pub order : List ℕ
 order = 1 ∷ 2 ∷ 3 ∷ 4 ∷ 5 ∷ 6 ∷ 7 ∷ 8 ∷ 9 ∷ 12 ∷ 10 ∷ 11 ∷ []
 
--- the place of a section in the order, from 1 on
+-- the rank of a section in the order, from 1 on
 abbrev pub placed : Option ℕ → Option ℕ
 placed None = None
 placed (Some at) = Some (at + 1)
@@ -42,12 +42,12 @@ abbrev pub ranked : (last number : ℕ) → (held rest : List ℕ) → Read ℕ
 ranked last number held rest =
     if number == 0 then then_read (name held) (λ _ _. Ok (last, rest)) else behind last (rank number) rest
 
--- a section behind those up to a rank: the rank up to which sections then stand, and the bytes behind it
+-- Reads a section that comes after a rank: gives its own rank, and the bytes after it.
 abbrev pub section : (last : ℕ) → List ℕ → Read ℕ
 section last left = then_read (byte left) (λ number sized. then_read (u32 sized) (λ count behind_it.
     then_read (part behind_it count) (λ rest held. ranked last number held rest)))
 
--- a test of what is read and of the bytes behind it
+-- tests a number that was read and the bytes after it
 abbrev pub passes : Read ℕ → (ℕ → List ℕ → Bool) → Bool
 passes (Ok x) test = test x.0 x.1
 passes (Err fault) test = false

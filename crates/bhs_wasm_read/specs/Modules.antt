@@ -1,4 +1,4 @@
--- The module that a file is.
+-- The decoding of a file as a module.
 use Rattle.std.specs.Prelude.{ℕ, zero, suc, ◌+◌, ◌-◌, ◌*◌, ◌==◌, ◌&&◌, ◌||◌, Bool, nat_lt, nat_le, min}
 use Rattle.std.specs.Prelude.{Option, Some, None, Ok, Err, List, [], ◌∷◌, ◌++◌, length, drop, map, position}
 use Rattle.std.specs.Prelude.{slice_get, slice_index, slice_set, bytes_eq, codes, option_and_then, if◌then◌else◌}
@@ -23,7 +23,7 @@ pub record Parts : Type 0 where
   pub types : List Signature
   -- the number of the first type that is equal to each
   pub first_types : List ℕ
-  -- the functions that it imports, and the number of the type of each
+  -- the imported functions, with the number of each function's type
   pub imports : List HostFunction
   pub import_types : List ℕ
   -- the types of its own functions
@@ -81,7 +81,7 @@ no_parts = record {
 abbrev pub is_same : Signature → Signature → Bool
 is_same a b = pointwise is_type a.parameters b.parameters && pointwise is_type a.results b.results
 
--- the number of the first type that is equal to one that stands behind them
+-- the number of the first type that is equal to the last one
 abbrev pub first_or : Option ℕ → (last : ℕ) → ℕ
 first_or None last = last
 first_or (Some first) last = first
@@ -228,7 +228,7 @@ with_body parts own parameters locals code = record parts {
   } ∷ [];
 }
 
--- all of a part is read
+-- The part must be read to its end.
 abbrev pub all_of : {A : Type 0} → Read A → (rest : List ℕ) → Read A
 all_of (Ok (x, [])) rest = Ok (x, rest)
 all_of (Ok (x, b ∷ left)) rest = Err faults.Section
@@ -336,7 +336,7 @@ abbrev pub called_by : Option HostFunction → Option ℕ → Parts → Option P
 called_by (Some function) (Some own) parts = Some (with_caller parts function own)
 called_by function own parts = None
 
--- one for each of the first imports
+-- the callers of the first imports, one function for each
 unfoldable pub callers : (count : ℕ) → Parts → Option Parts
 callers zero parts = Some parts
 callers (suc count) parts = option_and_then (λ done. called_by (slice_get parts.imports count)
@@ -364,6 +364,6 @@ abbrev pub module_of_parts : Read Parts → Option Contents
 module_of_parts (Ok x) = whole x.0 x.0.entry
 module_of_parts (Err fault) = None
 
--- the module that a file is: what its sections say, where types are as they should be
+-- The module of a file: the contents of its sections, if its types are valid.
 unfoldable pub module_in : List ℕ → Option Contents
 module_in file = if has_head file then module_of_parts (sections (length file) 0 no_parts (drop 8 file)) else None

@@ -1,5 +1,5 @@
--- The opcodes of the instructions on integers and of loads and stores, with the names that the specification gives them
--- behind, and which instructions of an instance they are. An instance keeps an i32 with zeros in front of it.
+-- The opcodes of integer instructions, loads and stores, with the specification's names in comments, and the instance's
+-- instructions for them. An instance stores an i32 zero-extended.
 use Rattle.std.specs.Prelude.{ℕ, ◌==◌, ◌||◌, ◌&&◌, nat_le, Bool, List, [], ◌∷◌, Option, Some, None, find}
 use Rattle.bhs_wasm.specs.declared.operators.Unary.{Unary}
 use Rattle.bhs_wasm.specs.declared.operators.Unary.TheVariants as unary

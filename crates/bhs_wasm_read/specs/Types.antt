@@ -67,7 +67,7 @@ host_function name =
 
 -- ---- types of functions
 
--- the types of its parameters and of its results
+-- a function's parameter types and result types
 pub record Signature : Type 0 where
   pub parameters : List ValueType
   pub results : List ValueType
@@ -75,7 +75,7 @@ pub record Signature : Type 0 where
 abbrev pub signature_of : FunctionType → Signature
 signature_of own = record { parameters = own.parameters.items; results = own.results.items }
 
--- a type, and the bytes behind it
+-- a decoded type, with the bytes after it
 abbrev pub with_rest : {A : Type 0} → Result A FaultKind → List ℕ → Read A
 with_rest (Ok value) rest = Ok (value, rest)
 with_rest (Err fault) rest = Err fault

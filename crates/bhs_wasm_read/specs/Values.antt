@@ -6,7 +6,7 @@ use Rattle.bhs_wasm_read.specs.declared.bytes.Bytes.{Bytes}
 use Rattle.bhs_wasm_read.specs.declared.faults.FaultKind.{FaultKind}
 use Rattle.bhs_wasm_read.specs.declared.faults.FaultKind.TheVariants as faults
 
--- a value and the bytes that are left behind it, or what is wrong
+-- a value and the bytes after it, or a fault
 abbrev pub Read : Type 0 → Type 0
 Read A = Result (A × List ℕ) FaultKind
 
@@ -44,13 +44,13 @@ next left = then_read (byte left) (λ b rest. Ok (b, left))
 abbrev pub part : List ℕ → (count : ℕ) → Read (List ℕ)
 part left count = then_read (bytes left count) (λ taken rest. Ok (rest, taken))
 
--- A part ends: all of it must have been read, and `rest`, which stands behind it, is left.
+-- The end of a part: its bytes are all read, and reading continues with `rest` after it.
 abbrev pub rest_behind : (left rest : List ℕ) → Read (Unit {0})
 rest_behind [] rest = Ok (tt, rest)
 rest_behind (b ∷ left) rest = Err faults.Section
 
--- An unsigned number below 2^bits, in LEB128. A byte below 2^7 is the last, and is below 2^bits. Any other has the
--- lowest seven bits, and behind it stands a number of seven bits less.
+-- Decodes an unsigned LEB128 number below 2^bits. A byte below 2^7 is the last and must be below 2^bits. Any other byte
+-- has the lowest seven bits; a number with seven bits fewer follows.
 unfoldable pub unsigned : List ℕ → (bits : ℕ) → Read ℕ
 unsigned [] bits = Err faults.End
 unsigned (b ∷ rest) bits =
@@ -100,7 +100,7 @@ abbrev pub ReadsTo : {A B : Type 0} → Read B → Result A FaultKind → (value
 ReadsTo read (Ok x) value left = read ≡ Ok (value, left)
 ReadsTo read (Err fault) value left = Unit {0}
 
--- a step, again and again: each begins with what the one before gave, at the byte behind it
+-- Iterates a reader: each step starts with the previous step's value, at the byte after it.
 unfoldable pub over : {A : Type 0} → (A → List ℕ → Read A) → (count : ℕ) → A → List ℕ → Read A
 over step zero x left = Ok (x, left)
 over step (suc count) x left = then_read (over step count x left) step
@@ -112,7 +112,7 @@ added one xs left = then_read (one left) (λ x rest. Ok (xs ++ x ∷ [], rest))
 abbrev pub times : {A : Type 0} → (List ℕ → Read A) → (count : ℕ) → List ℕ → Read (List A)
 times one count left = over (added one) count [] left
 
--- what there is, if there is something
+-- continues with an optional value
 abbrev pub given : {A B : Type 0} → Option A → (A → Read B) → Read B
 given None then_do = Err faults.Index
 given (Some x) then_do = then_do x

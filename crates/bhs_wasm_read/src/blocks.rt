@@ -12,7 +12,7 @@ use crate::opcodes::ValueType;
 use bhs_wasm::{HostFunction, Instruction};
 use std::alloc::Global;
 
-/// What a module has beside the bodies of its functions.
+/// The context of a function body: the module's types, functions, table, memory and globals.
 #[derive(Clone, Copy)]
 pub(crate) struct Context<'m> {
     pub(crate) alloc: Global,
@@ -22,20 +22,20 @@ pub(crate) struct Context<'m> {
     pub(crate) imports: &'m [HostFunction],
     /// The types of the module's own functions.
     pub(crate) functions: &'m [u32],
-    /// The types of the globals, and whether they can be set.
+    /// The types of the globals, and whether they are mutable.
     pub(crate) globals: &'m [(ValueType, bool)],
     pub(crate) has_memory: bool,
     pub(crate) has_table: bool,
 }
 
-/// A block, and how branches to it are made.
+/// A block, with what branches to it need.
 #[derive(Clone, Copy, Debug, PartialEq, Eq)]
 pub(crate) enum BlockKind {
     Function,
     Block,
     /// Branches lead to its first instruction.
     Loop,
-    /// The first part of an `if`. This label leads to the second part.
+    /// The first part of an `if`. This label names the start of the second part.
     If(u32),
 }
 
@@ -52,9 +52,9 @@ pub(crate) enum BlockType {
 pub(crate) struct Block {
     pub(crate) kind: BlockKind,
     pub(crate) block_type: BlockType,
-    /// How many operands there are below it.
+    /// The number of operands below the block.
     pub(crate) height: usize,
-    /// Whether code reached its beginning. If none did, it has no instructions.
+    /// Whether code reached the block's start. Unreachable blocks emit no instructions.
     pub(crate) is_entered: bool,
     /// Whether no code reaches what is read now.
     pub(crate) is_unreachable: bool,
@@ -166,7 +166,7 @@ impl<'m> Body<'m> {
         }
     }
 
-    /// Pops an operand of this type. It may be one of which no type is known.
+    /// Pops an operand of this type. After unreachable code the operand may have an unknown type.
     pub(crate) fn pop(&mut self, wanted: ValueType) -> Result<ValueType, FaultKind>
         ensures { OnOk result (flow_of self.new ≡ specs.lowered 1 (flow_of self.old)) }
     {

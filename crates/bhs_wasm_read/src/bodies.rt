@@ -258,7 +258,7 @@ impl<'m> Body<'m> {
         self.emit(Instruction::LocalTee(local))
     }
 
-    // The type of a global, and whether it can be set.
+    // Returns the type of a global, and whether the global is mutable.
     fn global_type(&self, global: u32) -> Result<(ValueType, bool), FaultKind> {
         self.context
             .globals

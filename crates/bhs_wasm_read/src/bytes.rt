@@ -64,7 +64,7 @@ impl<'b> Bytes<'b> {
         }
     }
 
-    /// Ends a part, all of which must be read, and goes on with the bytes behind it.
+    /// Ends a part, which must have been read completely, and continues with the bytes after it.
     pub(crate) fn leave(&mut self, rest: &'b [u8]) -> Result<(), FaultKind>
         ensures read { Gives (specs.rest_behind self.old.left.now rest.now) result self.new.left.now }
         ensures behind { OnOk result (self.new.behind ≡ self.old.behind - length rest.now) }

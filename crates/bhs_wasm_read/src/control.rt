@@ -59,7 +59,7 @@ impl<'m> Body<'m> {
         }
     }
 
-    /// Goes on with the second part of an `if`.
+    /// Starts the second part of an `if`.
     pub(crate) fn go_on_with_else(&mut self) -> Result<(), FaultKind>
         ensures { OnOk result (specs.gone_on (flow_of self.old).block.kind (flow_of self.old)
             ≡ Some (flow_of self.new)) }
@@ -162,7 +162,7 @@ impl<'m> Body<'m> {
     {
         let height = number_of(self.locals.len().saturating_add(block.height))?;
         match block.kind {
-            // There is no conditional return: it is jumped over.
+            // Flat code has no conditional return, so a jump skips the return.
             BlockKind::Function => {
                 let place = self.place()?;
                 let label = self.add_label(number_of((place as usize).saturating_add(2))?)?;

@@ -16,7 +16,7 @@ use crate::sections::Sections;
 use bhs_wasm::HostFunction;
 use std::alloc::Global;
 
-// The most pages that agents may have, the most that a memory may have at all, and the most elements of a table.
+// Limits: the pages of an agent's memory, the pages of any memory, and the elements of a table.
 const MAX_PAGES: u32 = 1_024;
 
 const ALL_PAGES: u32 = 65_536;
@@ -184,7 +184,7 @@ impl Sections {
         }
     }
 
-    // Whether there is a function, a table, a memory or a global of this number.
+    // Returns whether a function, table, memory or global with this number exists.
     fn has_export(&self, kind: u8, number: usize) -> bool {
         match kind {
             0 => number < self.imports.len().saturating_add(self.functions.len()),
@@ -225,7 +225,7 @@ fn nulls(alloc: Global, count: u32) -> Result<Vec<Option<u32>>, FaultKind>
     Ok(table)
 }
 
-// The limits of a table or of a memory.
+// Reads the limits of a table or a memory: minimum and optional maximum.
 fn limits(bytes: &mut Bytes<'_>) -> Result<(u32, Option<u32>), FaultKind>
     ensures { Gives (specs.limits bytes.old.left.now) result bytes.new.left.now }
 {
@@ -245,7 +245,7 @@ fn limits(bytes: &mut Bytes<'_>) -> Result<(u32, Option<u32>), FaultKind>
     }
 }
 
-/// A constant of this type, and the end behind it.
+/// Reads a constant expression of this type with its `end`.
 pub(crate) fn constant(bytes: &mut Bytes<'_>, wanted: ValueType) -> Result<u64, FaultKind>
     ensures { Gives (specs.constant wanted bytes.old.left.now) result bytes.new.left.now }
 {

@@ -1,17 +1,17 @@
-//! Why a file is no module that agents can be.
+//! Reasons to refuse a file as a module for agents.
 
 use std::alloc::{AllocError, AllocFailed};
 use std::fmt;
 use std::fmt::{Display, Formatter};
 use thiserror::Error;
 
-/// What is wrong with a file.
+/// A reason to refuse a file.
 #[derive(Clone, Copy, Debug, PartialEq, Eq, Error)]
 pub enum FaultKind {
     /// The program's memory ran out.
     #[error("memory")]
     Memory,
-    /// It ends too soon, or a part of it does.
+    /// The file, or one of its parts, ends too early.
     #[error("end")]
     End,
     /// A number is too long or too large.
@@ -23,10 +23,10 @@ pub enum FaultKind {
     /// It has floating-point numbers.
     #[error("float")]
     Float,
-    /// It has an instruction that agents do without.
+    /// The file has an instruction that agents may not use.
     #[error("opcode {0}")]
     Opcode(u32),
-    /// It does not have the types that its instructions and functions want.
+    /// The types of an instruction or a function do not match.
     #[error("type")]
     Type,
     /// It imports something that is no function of `arena`.
@@ -44,7 +44,7 @@ pub enum FaultKind {
     /// A section is unknown, out of order, or longer than what it holds.
     #[error("section")]
     Section,
-    /// It is larger than a limit.
+    /// The module exceeds a limit.
     #[error("size")]
     Large,
     /// It names a function, type, local, global, memory or table that it does not have.
@@ -72,7 +72,7 @@ pub enum FaultKind {
 pub enum ModuleFault {
     /// It does not begin as a WebAssembly module, version 1.
     Head,
-    /// What is wrong behind its head, at which byte, and what it imports, if that is wrong.
+    /// A fault after the head, with the offset of its byte, and the import's name if an import is at fault.
     Inside {
         kind: FaultKind,
         at: usize,

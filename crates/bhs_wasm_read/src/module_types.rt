@@ -1,4 +1,4 @@
-//! The types of a module, of its functions and of the functions of the host.
+//! The types of a module: of its own functions and of the host functions.
 
 ghost use Rattle.std.specs.Prelude.{◌≡◌};
 ghost use Rattle.bhs_wasm_read.specs.Modules.{is_same};
@@ -19,7 +19,7 @@ pub(crate) const MAX_LOCALS: u32 = 50_000;
 // type.
 const MAX_PARAMETERS: u32 = 1_000;
 
-/// The types of the parameters and of the results of a function.
+/// A function's parameter types and result types.
 #[derive(Drop)]
 pub(crate) struct FunctionType {
     pub(crate) parameters: Vec<ValueType>,
@@ -85,7 +85,7 @@ pub(crate) fn value_type(byte: u8) -> Result<ValueType, FaultKind>
     }
 }
 
-/// The function of the host that has this name.
+/// Returns the host function with this name.
 pub(crate) fn host_function_of(name: &str) -> Option<HostFunction>
     ensures { result ≡ specs.host_function name.now }
 {

@@ -170,7 +170,7 @@ fn two64(operator: Binary, gives: ValueType) -> Option<Numeric>
     })
 }
 
-/// The load that an opcode is.
+/// Returns the load instruction of an opcode.
 pub(crate) fn load_of(code: u8) -> Option<Access>
     ensures { result ≡ specs.found code specs.loads }
 {
@@ -211,7 +211,7 @@ pub(crate) fn load_of(code: u8) -> Option<Access>
     }
 }
 
-/// The store that an opcode is.
+/// Returns the store instruction of an opcode.
 pub(crate) fn store_of(code: u8) -> Option<Access>
     ensures { result ≡ specs.found code specs.stores }
 {

@@ -15,14 +15,14 @@ use crate::sections::Sections;
 use bhs_wasm::Module;
 use std::alloc::Global;
 
-/// The module that a file is. A file that is none is refused, and so is one that agents cannot be.
+/// Decodes a file as a module. Refuses files that are not valid modules, and modules that agents may not use.
 pub fn module_of(alloc: Global, file: &[u8]) -> Result<Module, ModuleFault>
-    // A module has the head, and behind it sections in their order.
+    // Only files with the head, followed by sections in their order, are accepted.
     ensures head { IsOk result → has_head file.now ≡ true }
     ensures sections { IsOk result → AreInOrder (drop 8 file.now) }
-    // It is what the file says.
+    // The module is the decoding of the file.
     ensures contents { IfOk result (λ it. module_in file.now ≡ Some (contents_of it)) }
-    // A file is refused for its head exactly if it lacks it. Any other fault is in the file.
+    // A file without the head is refused with `Head`, and no other file is. Other faults lie in the sections.
     ensures lacks_head { has_head file.now ≡ false → result ≡ Err ModuleFault.Head }
     ensures refused_head { result ≡ Err ModuleFault.Head → has_head file.now ≡ false }
     ensures within { IfErr result (λ fault. place_of fault ≤ length file.now) }
@@ -65,7 +65,7 @@ fn read(bytes: &mut Bytes<'_>, sections: &mut Sections) -> Result<(), FaultKind>
     Ok(())
 }
 
-// Reads a section behind those up to a rank, and answers the rank up to which there are sections then.
+// Reads a section that comes after a rank in the order, and returns the section's own rank.
 fn read_section(last: u8, bytes: &mut Bytes<'_>, sections: &mut Sections) -> Result<u8, FaultKind>
     ensures read { IfOk result (λ own. specs.section last bytes.old.left.now ≡ Ok (own, bytes.new.left.now)) }
     ensures parts { IfOk result (λ own. modules.section last (parts_of sections.old) bytes.old.left.now

@@ -15,7 +15,7 @@ use bhs_wasm::{Function, HostFunction, Instruction, Module};
 use std::alloc::Global;
 use std::collections::BTreeSet;
 
-/// What is read of a module.
+/// The parts of a module that were read so far.
 #[derive(Drop)]
 pub(crate) struct Sections {
     pub(crate) alloc: Global,
@@ -35,7 +35,7 @@ pub(crate) struct Sections {
     /// Whether there is an export named `main`.
     pub(crate) has_main: bool,
     pub(crate) entry: Option<u32>,
-    /// How many data segments there are, and how many the module says that it has, if it does.
+    /// The number of data segments so far, and the number that the module declares, if it does.
     pub(crate) segments: u32,
     pub(crate) data_count: Option<u32>,
     pub(crate) module: Module,
@@ -77,7 +77,7 @@ impl Sections {
         }
     }
 
-    /// The module, if it has all that it needs.
+    /// Returns the module if all its required parts are present.
     pub(crate) fn whole(mut self) -> Result<Module, FaultKind>
         ensures { IfOk result (λ it. modules.whole (parts_of self) (parts_of self).entry
             ≡ Some (contents_of it)) }

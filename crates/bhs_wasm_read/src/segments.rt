@@ -16,8 +16,8 @@ use crate::sections::Sections;
 const PAGE: u64 = 65_536;
 
 impl Sections {
-    // The function that an element of a table names: one of the module's own, or behind them the one that calls an
-    // import.
+    // Returns the function that an element of a table refers to: one of the module's own or, after them, the caller of
+    // an import.
     fn callee(&self, number: u32) -> Result<u32, FaultKind>
         ensures { IfOk result (λ function. function ≡ modules.callee (parts_of self.now) number) }
     {
@@ -89,7 +89,7 @@ impl Sections {
         }
     }
 
-    // What is put into an element of the table.
+    // Returns the function that an element of the table gets.
     fn element(&self, flags: u32, bytes: &mut Bytes<'_>) -> Result<Option<u32>, FaultKind>
         ensures { ReadsAs (λ element. element) (modules.element_of flags (parts_of self.now) bytes.old.left.now) result
             bytes.new.left.now }

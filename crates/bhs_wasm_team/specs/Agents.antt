@@ -66,7 +66,7 @@ memory_of_saved saved = record {
 
 -- ---- what an agent says
 
--- the bytes, if they are UTF-8
+-- the bytes, if they are valid UTF-8
 abbrev pub in_utf8 : Option (List ℕ) → Option (List ℕ)
 in_utf8 None = None
 in_utf8 (Some bytes) = if is_utf8 bytes then Some bytes else None
@@ -86,8 +86,9 @@ writes (Some expect) (Some put) =
     if nat_le (write_length expect put) MAX_LINE then Some (steps.Says (commands.Write expect put)) else None
 writes expect put = None
 
--- What an agent does that has called this: it says a command, or sleeps. None if this is no command, the port is no
--- port, a text lies outside of the memory or is not in UTF-8, or the line of a Write is longer than a server takes.
+-- The step of an agent that has called a host function: it issues a command, or sleeps. None if the function is no
+-- command, the port is out of range, a text lies outside the memory or is not valid UTF-8, or the line of a Write
+-- exceeds the server's limit.
 abbrev pub said : HostFunction → State → Option Step
 said imports.Enter state = Some (steps.Says commands.Enter)
 said imports.Look state = Some (steps.Says commands.Look)
@@ -107,7 +108,7 @@ abbrev pub waiting : HostFunction → State → Option Step → AgentMemory
 waiting function state None = halted statuses.Failed
 waiting function state (Some step) = record { status = statuses.Waits function; state = state }
 
--- when its instance does not continue
+-- the agent's memory once its instance does not continue
 abbrev pub settled : StepResult → AgentMemory
 settled (Waits function state) = waiting function (forgotten state) (said function (forgotten state))
 settled Ends = halted statuses.Ended

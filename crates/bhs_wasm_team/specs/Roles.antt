@@ -38,7 +38,7 @@ pub record RoleMemory : Type 0 where
 abbrev pub role_memory_of : Saved → RoleMemory
 role_memory_of saved = record { role = saved.role; memory = memory_of_saved saved }
 
--- at the start, in the role of this number
+-- the initial memory in the role with this number
 abbrev pub start_in : Roles → (fuel role : ℕ) → RoleMemory
 start_in roles fuel role = record {
   role = role;

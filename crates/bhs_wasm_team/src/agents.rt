@@ -20,8 +20,8 @@ pub struct Role {
     pub arguments: Vec<u32>,
 }
 
-/// The roles of a team, counted from 0. Each agent has the role of its own number, and an agent for which there is none
-/// has the first: so one role is for all agents.
+/// The roles of a team, counted from 0. Each agent has the role with its own number, or role 0 if there is none; so a
+/// single role serves all agents.
 #[derive(Drop)]
 pub struct Roles {
     pub first: Role,
@@ -213,7 +213,7 @@ impl Agents {
         }
     }
 
-    // Answers for an agent that was restored, and to which this has happened.
+    // Answers a question about an agent whose memory was restored, after an observation.
     fn resume(
         &mut self,
         role: u32,
@@ -242,7 +242,7 @@ impl Agents {
         }
     }
 
-    // Answers for an agent that had this memory, and to which this has happened.
+    // Answers a question about an agent with this memory, after an observation.
     fn asked(&mut self, before: u32, latest: Latest, shown: &str) -> Result<TeamAnswer, AllocError>
         ensures { IfOk result (λ answer. IsSomeAnd (saved_at self.old.table.states.items before) (λ role_memory.
             Tells self.old self.new

@@ -22,8 +22,7 @@ pub struct ModuleFailure {
     pub function: u32,
 }
 
-/// The function of a module that has this instruction. Functions are counted as in the file, those that are imported
-/// first.
+/// Returns the function that contains an instruction. Functions are numbered as in the file, imports first.
 pub(crate) fn function_at(program: &Module, instruction: u32) -> u32 {
     let mut count = program.imports;
     for function in program.functions.iter().skip(1) {

@@ -67,7 +67,7 @@ pub(crate) fn is_depart(function: HostFunction) -> bool
     }
 }
 
-/// Whether it hears that it is on its link.
+/// Returns whether the observation is that the agent has departed.
 pub(crate) fn is_gone(latest: Latest) -> bool
     ensures { (shown : List ℕ) → result ≡ specs.is_gone (item_with latest shown) }
 {
@@ -100,8 +100,8 @@ pub(crate) fn number_of(latest: Latest) -> u32
     }
 }
 
-/// What an agent does that has called this. None if it is no command, the port is no port, a text is none, or the line
-/// of a Write is longer than a server takes.
+/// Returns the step of an agent that has called a host function. None if the function is no command, the port is out of
+/// range, a text is invalid, or the line of a Write exceeds the server's limit.
 pub(crate) fn said_by(
     alloc: Global,
     interpreter: &Interpreter,
@@ -198,7 +198,7 @@ fn width_of(byte: u8) -> usize
     }
 }
 
-// A text in the memory of an instance, if it is one.
+// Returns a text from an instance's memory, or None if it lies outside or is not valid UTF-8.
 fn text_at(
     alloc: Global,
     interpreter: &Interpreter,

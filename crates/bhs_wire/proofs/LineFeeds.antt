@@ -20,7 +20,7 @@ no_line_feed bytes none =
     let all = passed (position_or_len is_line_feed bytes) (length bytes) _ refl none in
     list_any_none is_line_feed bytes (λ k d h. fails_before_first is_line_feed bytes k d (omega arith))
 
--- and none stands before the first
+-- No line feed stands before the first one.
 pub no_line_feed_before : (bytes : List ℕ) (end : ℕ) → position is_line_feed bytes ≡ Some end
     → list_any is_line_feed (take end bytes) ≡ false
 no_line_feed_before bytes end found =
@@ -28,7 +28,7 @@ no_line_feed_before bytes end found =
     let here : k < end = omega (arith, length-take end bytes) in
     rw get_or-take ((position-Some is_line_feed bytes end d found).2 k here))
 
--- where a byte is found first, the bytes are those before it, itself, and those after it
+-- The bytes consist of those before the first occurrence, the byte itself, and those after it.
 pub around : (mark : ℕ) (bytes : List ℕ) (end : ℕ) → position (λ byte. byte == mark) bytes ≡ Some end
     → bytes ≡ take end bytes ++ mark ∷ take (length bytes - (end + 1)) (drop (end + 1) bytes)
 around mark bytes end found =

@@ -81,7 +81,7 @@ unfolding value
 too_deep depth ts r t is none (inl e) = ap (converted of_json) (ap₂ value none (is ∙ ap (λ k. k ∷ r) e))
 too_deep depth ts r t is none (inr e) = ap (converted of_json) (ap₂ value none (is ∙ ap (λ k. k ∷ r) e))
 
--- ---- an array that is passed over
+-- ---- skipping an array
 
 passed : {A B : Type 0} (g : A → B) (o : Option (A × List Token)) → rest_of (parse_map g o) ≡ rest_of o
 passed g None = refl

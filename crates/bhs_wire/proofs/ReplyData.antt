@@ -22,7 +22,7 @@ abbrev pub changed : List ℕ → Data
 changed board = object (member (codes "board") (string board)
     (member (codes "ok") (string (codes "changed")) no_members))
 
--- a reply that is a word
+-- a reply without arguments, encoded as a word
 abbrev pub plain : List ℕ → Data
 plain ok = object (member (codes "ok") (string ok) no_members)
 

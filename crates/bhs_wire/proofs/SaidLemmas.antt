@@ -1,4 +1,4 @@
--- What is taken from an object while its members go in, and what it says in the end.
+-- The fold over an object's members, and the command that its final state gives.
 use Rattle.std.proofs.Common.{◌≡◌, ℕ, List, [], ◌∷◌, false, bytes_eq, true≢false, Option, Some, None}
 use Rattle.std.proofs.Common.{option_map, option_and_then, length, codes, refl, sym, ap, ◌∙◌, arith}
 use Rattle.std.proofs.lemmas.Slice.Eq.{bytes_eq-Decides}
@@ -124,7 +124,7 @@ pub told-first_in : (said : Said) (ms : Members) → IsSaidBy said ms → told s
 told-first_in said ms is =
     ap (λ o. told_with o said) is.word ∙ told_with-first_by (text_at (codes "do") (object ms)) said ms is
 
--- ---- a text that is one object, or is not
+-- ---- a text that is one object, and any other text
 
 ends : (j : json.Json) (r : List Token) → first_of_read (of_json j) ≡ Tell Bad
     → first_of_read (whole (Some (j, r))) ≡ Tell Bad
@@ -160,7 +160,7 @@ no_object a o Fault r other = refl
 pub said-none : (ts : List Token) → ts ≡ [] → said_by_tokens ts ≡ Tell Bad
 said-none ts none = ap said_by_tokens none ∙ ap (λ o. first_of_read (whole o)) (value_is 127 [])
 
--- and so is what does not begin as an object
+-- A text that begins with another token than an object is refused.
 pub said-no_object : (ts : List Token) (t : code.Token) (r : List Token) → ts ≡ token_of t ∷ r → (t ≡ BeginObject → ⊥)
     → said_by_tokens ts ≡ Tell Bad
 said-no_object ts t r is other =
@@ -172,7 +172,7 @@ module _ (ts r : List Token) (is : ts ≡ Token.begin_object ∷ r) where
       ≡ parse_map object (converted (λ ms. of_members ms no_members) (members (value 126) (length r) r))
   opened = object_opened 127 ts r is (omega arith)
 
-  -- an object with nothing behind it
+  -- an object at the end of the text
   pub said-object : (said : Said) (all : Members) (rest : List Token)
       → converted (λ ms. of_members ms no_members) (members (value 126) (length r) r) ≡ Some (all, rest)
       → rest ≡ [] → IsSaidBy said all → said_by_tokens ts ≡ told said
@@ -180,7 +180,7 @@ module _ (ts r : List Token) (is : ts ≡ Token.begin_object ∷ r) where
       let value_read = opened ∙ (ap (parse_map object) read ∙ ap (λ left. Some (object all, left)) none) in
       ap first_of_read (whole_read (value 127 ts) (object all) value_read) ∙ sym (told-first_in said all kept)
 
-  -- an object with more behind it
+  -- an object followed by further tokens
   pub said-more : (all : Members) (rest more : List Token) (t : Token)
       → converted (λ ms. of_members ms no_members) (members (value 126) (length r) r) ≡ Some (all, rest)
       → rest ≡ t ∷ more → said_by_tokens ts ≡ Tell Bad
@@ -188,7 +188,7 @@ module _ (ts r : List Token) (is : ts ≡ Token.begin_object ∷ r) where
       let value_read = opened ∙ (ap (parse_map object) read ∙ ap (λ left. Some (object all, left)) some) in
       ap first_of_read (whole_and_more (value 127 ts) (object all) t more value_read)
 
-  -- what breaks off within the object
+  -- an object that breaks off inside
   pub said-refused : converted (λ ms. of_members ms no_members) (members (value 126) (length r) r) ≡ None
       → said_by_tokens ts ≡ Tell Bad
   said-refused none = ap first_of_read (whole_refused (value 127 ts) (opened ∙ ap (parse_map object) none))

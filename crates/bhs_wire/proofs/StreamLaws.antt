@@ -147,7 +147,7 @@ grown-flat line byte flat = rw flat
 regrouped : (line piece : List ℕ) (byte : ℕ) → (line ++ byte ∷ []) ++ piece ≡ line ++ byte ∷ piece
 regrouped line piece byte = append_assoc line (byte ∷ []) piece
 
--- what is held after a piece of a line
+-- the buffer after a piece without a line feed
 pub left_by-flat : (line piece : List ℕ) → length line ≤ MAX_LINE → list_any is_line_feed piece ≡ false
     → left_by (Some line) piece ≡ as_held (line ++ piece)
 left_by-flat line [] fits flat = sym (held_whole line fits) ∙ ap as_held (sym (append-nil line))
@@ -168,7 +168,7 @@ left_at-ended : (held : Option (List ℕ)) → left_at held 10 ≡ Some []
 left_at-ended None = refl
 left_at-ended (Some line) = refl
 
--- what is held is no longer than a line may be
+-- The buffer is no longer than a line may be.
 abbrev pub FitsHeld : Option (List ℕ) → Type 0
 FitsHeld held = ForSome held (λ line. length line ≤ MAX_LINE)
 
@@ -222,7 +222,7 @@ lines-ended line more flat =
 pub rest-ended : (line more : List ℕ) → rest (line ++ 10 ∷ more) ≡ rest more
 rest-ended line more = rest_after-append [] line (10 ∷ more)
 
--- ---- of each stream that may have come before
+-- ---- quantification over all earlier streams
 
 pub lines_of_stream : (held : Option (List ℕ)) (piece : List ℕ) (found : List Line) → found ≡ found_in held piece
     → (stream : List ℕ) → held ≡ held_of stream → lines (stream ++ piece) ≡ lines stream ++ found
@@ -234,7 +234,7 @@ pub held_of_stream : (held : Option (List ℕ)) (piece : List ℕ) (left : Optio
 held_of_stream held piece left is stream stands =
     is ∙ (ap (λ old. left_by old piece) stands ∙ sym (held_of-append stream piece))
 
--- ---- what is held, as the code has it
+-- ---- the buffer in terms of the code
 
 abbrev pub bytes_of : Option (Vec ℕ Global) → Option (List ℕ)
 bytes_of held = option_map (λ line. line.items) held

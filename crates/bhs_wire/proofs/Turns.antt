@@ -19,7 +19,7 @@ pub record IsPastItems (p : Parse json.Json) (start here : List Token) : Type 0 
       ≡ rest_of (converted of_items (items p turns here))
   pub shorter : length here ≤ length start
 
--- the members from the start are those found so far and then those from here, and what was found is taken
+-- The members read so far and the members still to come are all members, and the fold has consumed the former.
 pub record IsPastMembers (p : Parse json.Json) (start here : List Token) (said : Said) : Type 0 where
   pub turns : ℕ
   pub found : Members

@@ -16,11 +16,11 @@ use Rattle.bhs_wire.specs.LineKind.{line_kind}
 abbrev pub text_at : List ℕ → Data → Option (List ℕ)
 text_at key value = option_and_then as_str (get key value)
 
--- a number, where it is at most 65,535
+-- a number, if it is at most 65,535
 abbrev pub if_port : ℕ → Option ℕ
 if_port number = if nat_lt number (2 ^ 16) then Some number else None
 
--- the whole number at a key, where it is a port's; `1.0` is none
+-- The integer at a key, if it is in the range of ports; `1.0` is no integer.
 abbrev pub port_at : List ℕ → Data → Option ℕ
 port_at key value = option_and_then if_port (option_and_then as_u64 (option_and_then as_number (get key value)))
 
@@ -60,7 +60,7 @@ accuse_by (Some port) = Accuse port
 abbrev pub accuses : Data → Command
 accuses value = accuse_by (port_at (codes "port") value)
 
--- what an object says, by its text at "do". Keys that its command does not need are not looked at
+-- The command of an object, selected by its text at "do". Keys that the command does not need are ignored.
 abbrev pub first_by : Option (List ℕ) → Data → First
 first_by None value = Tell Bad
 first_by (Some word) value =
@@ -72,7 +72,7 @@ first_by (Some word) value =
     else (if bytes_eq word (codes "leave") then Tell Leave
     else Tell Bad)))))
 
--- what a JSON value says; one that is no object has no text at "do"
+-- The command of a JSON value; a value other than an object has no text at "do".
 abbrev pub first_in : Data → First
 first_in value = first_by (text_at (codes "do") value) value
 

@@ -56,7 +56,7 @@ abbrev pub lines_after : List ℕ → List ℕ → List Line
 lines_after line [] = []
 lines_after line (byte ∷ bytes) = given_at line byte ++ lines_after (grown line byte) bytes
 
--- the line that is unfinished behind them
+-- the unfinished line after these pieces
 abbrev pub rest_after : List ℕ → List ℕ → List ℕ
 rest_after line [] = line
 rest_after line (byte ∷ bytes) = rest_after (grown line byte) bytes
@@ -69,13 +69,13 @@ lines = lines_after []
 abbrev pub rest : List ℕ → List ℕ
 rest = rest_after []
 
--- ---- the same, of what is held
+-- ---- the same in terms of the buffer
 
 -- an unfinished line as it is held: none of its bytes once they are too many
 abbrev pub as_held : List ℕ → Option (List ℕ)
 as_held line = if nat_lt MAX_LINE (length line) then None else Some line
 
--- what is held of a stream
+-- the buffer of a stream
 abbrev pub held_of : List ℕ → Option (List ℕ)
 held_of stream = as_held (rest stream)
 
@@ -84,7 +84,7 @@ abbrev pub found_at : Option (List ℕ) → ℕ → List Line
 found_at None byte = if is_line_feed byte then Over ∷ [] else []
 found_at (Some line) byte = given_at line byte
 
--- what is held after it: nothing of a line that is too long, until it has ended
+-- The buffer afterwards: empty while a line that is too long has not ended.
 abbrev pub left_at : Option (List ℕ) → ℕ → Option (List ℕ)
 left_at None byte = if is_line_feed byte then Some [] else None
 left_at (Some line) byte = as_held (grown line byte)

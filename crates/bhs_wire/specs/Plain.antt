@@ -6,7 +6,7 @@ use Rattle.std.specs.List.{list_all}
 abbrev pub is_plain : ℕ → Bool
 is_plain byte = nat_lt 31 byte && (not (byte == 34) && not (byte == 92))
 
--- the line has no space outside its texts, which have no escape
+-- The line has no space outside its texts, and its texts contain no escape.
 pub record IsPlainWrite (line expect put : List ℕ) : Type 0 where
   pub spelled : line ≡ codes "{\"do\":\"write\",\"expect\":\"" ++ (expect
       ++ (codes "\",\"put\":\"" ++ (put ++ codes "\"}")))

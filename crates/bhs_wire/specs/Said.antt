@@ -1,4 +1,4 @@
--- How a line is read without its tree: what is taken from the members of an object as they come.
+-- Reading a line without building a tree: a fold over the members of an object.
 use Rattle.std.specs.Prelude.{◌≡◌, ℕ, List, codes, bytes_eq, if◌then◌else◌, Option, Some, None, option_map}
 use Rattle.std.specs.Prelude.{option_and_then}
 use Rattle.json.specs.Json.{value, if_last}
@@ -14,7 +14,7 @@ use Rattle.bhs_wire.specs.declared.said.Content.TheVariants.{Text, Port, Other}
 use Rattle.bhs_wire.specs.declared.said.Said.{Said}
 use Rattle.bhs_wire.specs.First.{text_at, port_at, if_port, first_with, write_with, depart_by, accuse_by, first_of_read}
 
--- the tokens behind what was read
+-- the remaining tokens
 abbrev pub rest_of : {A : Type 0} → Option (A × List Token) → Option (List Token)
 rest_of read = option_map (λ p. p.1) read
 
@@ -24,13 +24,13 @@ text_in (Text text) = Some text.now
 text_in (Port port) = None
 text_in Other = None
 
--- the port that was taken from it
+-- the port in a value that was read
 abbrev pub port_in : Content → Option ℕ
 port_in (Text text) = None
 port_in (Port port) = Some port
 port_in Other = None
 
--- the number of a value, where it is a port's
+-- the number of a value, if it is in the range of ports
 abbrev pub port_from : Data → Option ℕ
 port_from value = option_and_then if_port (option_and_then as_u64 (as_number value))
 
@@ -47,7 +47,7 @@ pub record IsSaidBy (said : Said) (members : Members) : Type 0 where
   pub put : text_in said.put ≡ text_at (codes "put") (object members)
   pub port : port_in said.port ≡ port_at (codes "port") (object members)
 
--- what an object says, by its word and what was taken from it
+-- the command of an object, from its word and its other members
 abbrev pub told_with : Option (List ℕ) → Said → First
 told_with None said = Tell Bad
 told_with (Some word) said =
@@ -59,7 +59,7 @@ told_with (Some word) said =
     else (if bytes_eq word (codes "leave") then Tell Leave
     else Tell Bad)))))
 
--- what an object says, by what was taken from it
+-- the command of an object, from its members
 abbrev pub told : Said → First
 told said = told_with (text_in said.word) said
 

@@ -22,8 +22,8 @@ pub enum First {
     Tell(Command),
 }
 
-/// Reads lines, one after the other. It keeps the memory that a line took for the next one, and remembers what the last
-/// short lines said.
+/// A reader of command lines. It reuses its buffer from line to line, and caches the commands of the latest short
+/// lines.
 #[derive(Drop)]
 pub struct LineReader {
     alloc: Global,
@@ -41,8 +41,8 @@ impl LineReader {
         }
     }
 
-    /// What a line of a client says that is not too long and not blank. What is no JSON object in UTF-8, or
-    /// lacks what its command needs, is the command `Bad`. Other keys of the object are not looked at.
+    /// Parses a line of a client that is neither blank nor too long. A line that is no JSON object in UTF-8, or lacks
+    /// what its command needs, gives the command `Bad`. Other keys of the object are ignored.
     pub fn command_of(&mut self, line: &[u8]) -> Result<First, Memory>
         ensures { IfOk result (λ first. first ≡ first_of line.now) }
     {

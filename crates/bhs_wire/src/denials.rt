@@ -1,4 +1,4 @@
-//! Why a client is not let in.
+//! Reasons to turn a client away.
 
 ghost use Rattle.std.specs.Prelude.{◌≡◌};
 ghost use Rattle.bhs_wire.specs.Denial.{denial_line};

@@ -57,7 +57,7 @@ impl<'b> LentReply<'b> {
         }
     }
 
-    /// The reply that a mark of a log stands for, if this is the text that its whiteboard shows there.
+    /// Returns the reply for a mark of a log, given the text that its whiteboard shows there.
     pub fn of_mark(mark: Mark, board: &'b str) -> LentReply<'b>
         ensures { (log : List Kept) → board.now ≡ text_at log (board_of mark) → reply_of result ≡ read log mark }
     {

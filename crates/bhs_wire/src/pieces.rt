@@ -18,8 +18,8 @@ use std::collections::VecDeque;
 /// A line that a client sent, without its line feed.
 #[derive(Drop)]
 pub enum Raw<'p> {
-    /// The bytes of a line that is neither blank nor too long. They are those of the piece that it ended in, where it
-    /// began there too.
+    /// The bytes of a line that is neither blank nor too long; borrowed from the piece if the line lies within one
+    /// piece.
     Whole(CowSlice<'p, u8>),
     /// A line of more than `MAX_LINE` bytes.
     Over,
@@ -41,7 +41,7 @@ impl Raw<'_> {
     }
 }
 
-/// The bytes before the first line feed, and those after it; None if there is no line feed.
+/// Splits bytes at the first line feed, which belongs to neither part; None without a line feed.
 pub fn split_line(bytes: &[u8]) -> Option<(&[u8], &[u8])>
     ensures { MatchOption result (list_any is_line_feed bytes.now ≡ false)
         (λ parts. (bytes.now ≡ parts.0.now ++ 10 ∷ parts.1.now) × (list_any is_line_feed parts.0.now ≡ false)) }
@@ -106,7 +106,7 @@ pub(crate) fn push_lines<'p>(
     Ok(after)
 }
 
-// Adds what a line gives that lies in two parts. One that is too long is not put together.
+// Adds the result of a line in two parts. A line that is too long is not joined.
 fn push_line<'p>(
     alloc: Global,
     found: &mut VecDeque<Raw<'p>>,
@@ -130,7 +130,7 @@ fn push_line<'p>(
     Ok(())
 }
 
-// A line in two parts. It is copied only if there is a first one.
+// Joins a line in two parts; copies only if the first part is not empty.
 fn joined<'p>(alloc: Global, front: &[u8], end: &'p [u8]) -> Result<CowSlice<'p, u8>, Memory>
     requires { length front.now + length end.now ≤ MAX_LINE }
     ensures { IfOk result (λ line. cow_slice_items line ≡ front.now ++ end.now) }

@@ -21,7 +21,7 @@ pub(crate) fn plain_write(line: &str) -> Option<(&str, &str)>
     texts_of(line)
 }
 
-// The texts between which the line is spelled so.
+// Returns the two texts of a line with this spelling.
 fn texts_of(line: &str) -> Option<(&str, &str)>
     ensures { IfSome result (λ texts. IsPlainWrite line.now texts.0.now texts.1.now) }
 {

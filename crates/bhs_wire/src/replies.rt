@@ -18,7 +18,7 @@ use std::mem::replace;
 // The most bytes of a text that is looked through byte by byte.
 const SHORT: usize = 32;
 
-/// Adds the line of a reply to a text, without its line feed. An `Err` may have added a part of it.
+/// Appends the line of a reply to a text, without its line feed. On `Err`, a part of the line may have been appended.
 #[inline]
 pub fn push_line(alloc: Global, text: &mut Vec<u8>, reply: LentReply<'_>) -> Result<(), Memory>
     ensures line { OnOk result (text.new.items ≡ text.old.items ++ line (reply_of reply.entry)) }

@@ -14,7 +14,7 @@ use json::{Invalid, Reader, Token};
 // How deep arrays and objects may nest within an object.
 const MAX_DEPTH: usize = 126;
 
-// What is looked at of a value: the text that it is, or the port that it is.
+// The relevant content of a value: a text, or a port.
 #[derive(Clone, Copy, Drop)]
 pub(crate) enum Content<'t> {
     Text(&'t str),

@@ -67,7 +67,7 @@ struct Remembered {
 }
 
 impl Remembered {
-    // The line with the command that it says, if it is short and the command has no texts.
+    // Remembers a line with its command if the line is short and its command has no texts.
     fn new(line: &[u8], command: &Command) -> Option<Remembered>
         requires { first_of line.now ≡ Tell command.now }
     {
@@ -84,7 +84,7 @@ impl Remembered {
         })
     }
 
-    // What a line says, if it is this one.
+    // Returns the command of a remembered line, if this is the line.
     fn recall(&self, line: &[u8]) -> Option<Command>
         ensures { IfSome result (λ command. first_of line.now ≡ Tell command) }
     {

@@ -63,7 +63,7 @@ impl Lines {
         ensures found { IfOk result (λ found. map seen found.items ≡ found_in self.old piece.now) }
         ensures left { OnOk result (self.new ≡ left_by self.old piece.now) }
 
-        // The same, of each stream that may have come before.
+        // The same holds for every earlier stream with this buffer.
         ensures lines { (stream : List ℕ) → self.old ≡ held_of stream
             → IfOk result (λ found. lines (stream ++ piece.now) ≡ lines stream ++ map seen found.items) }
         ensures held { (stream : List ℕ) → self.old ≡ held_of stream
@@ -75,8 +75,8 @@ impl Lines {
         Ok(Vec::from(found))
     }
 
-    /// The same, but the lines are added to those that were found before. An `Err` may have added some of them, and
-    /// changes nothing of what is held.
+    /// The same, but appends the lines to earlier ones. On `Err`, some lines may have been appended, and the buffer is
+    /// unchanged.
     pub fn feed_into<'p>(
         &mut self,
         piece: &'p [u8],

@@ -128,7 +128,7 @@ same_after table log (Deliver agent) = either (HasSame table) table.closed table
     (same_delivered table agent (agent_at table.agents agent).position)
 same_after table log Close = (refl, refl)
 
--- the same of a table and a mark that are those of the step
+-- Congruence: the step of an equal table with an equal mark.
 pub step_played : (table new : Table) (log : List Kept) (event : Event) (mark : Option Mark)
     → mark ≡ mark_after table log event → new ≡ table_after table log event → IsSound table → StandsFor table log
     → HasPlayed table new log event mark

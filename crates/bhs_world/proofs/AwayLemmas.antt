@@ -36,7 +36,7 @@ same_answer limit seen (Accuse port) sight = refl
 same_answer limit seen Leave sight = refl
 same_answer limit seen Bad sight = refl
 
--- what an agent is answered that is on a link
+-- the reply to a command of an agent on a link
 abbrev away_answer : (limit : ℕ) → (closed room : Bool) → Command → Option Reply
 away_answer limit closed room command =
     if closed then Some replies.Over else (if accepts Away room command then Some

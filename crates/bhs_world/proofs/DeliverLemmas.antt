@@ -32,7 +32,7 @@ use Rattle.bhs_world.proofs.TellLemmas.{none_shown}
 
 -- a Deliver
 
--- of an agent that is on this link, the match being open
+-- The agent travels on this link in an open match.
 arrives_bound : (world : World) (state : State) (agent node port : ℕ) → state.closed ≡ false
     → state.position agent ≡ Bound node port → arrives world state agent ≡ not (doomed world node port)
 arrives_bound world state agent node port is_open at =
@@ -83,7 +83,7 @@ idle_played table log agent stood no_arrival no_destruction =
 pub closed_idle : (closed b : Bool) → closed ≡ true → (not closed && b) ≡ false
 closed_idle closed b h = rw h refl
 
--- where the agent is on no link
+-- The agent's position is no link.
 still_arrives : (world : World) (state : State) (agent : ℕ) (position : Position) → state.position agent ≡ position
     → IsStill world position → (arrives world state agent ≡ false) × (destroys world state agent ≡ false)
 still_arrives world state agent position at still = (
@@ -293,7 +293,7 @@ arrived_played table log agent node port stood within is_open on is_safe =
     ∙ ap (λ (reply : Option Reply). place_shown at_place reply ((next world state (Deliver agent)).position agent))
     replied)
 
--- who is on a link is an agent
+-- Only an agent of the match travels on a link.
 bound_within : (table : Table) (agent node port : ℕ) → (agent_at table.agents agent).position ≡ Bound node port
     → agent < length table.agents
 bound_within table agent node port on = elim (lt_tells agent (length table.agents)) [

@@ -61,7 +61,7 @@ told_shown world log boards written (At node came) (Accuse port) same =
     (port_shown log written (nat_lt port (world.net.degree node)) _).1
 told_shown world log boards written position command same = grind arith
 
--- and one that is not heard
+-- An event that is not heard leaves the log and the whiteboards unchanged.
 pub unheard_shown : (log : List Kept) (written : ℕ → Option ℕ) (x y z : Bool) (mark : Mark) (why : Why)
     (position : Position) → (x && (not y && z)) ≡ false →
     board_of (if x then (if y then marks.Over else (if z then mark else marks.No why)) else marks.No whys.Agent)

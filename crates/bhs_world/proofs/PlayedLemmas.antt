@@ -1,4 +1,4 @@
--- What a step is to bring about, and how, where an event is kept and where it is not.
+-- The postcondition of a step: for events that are kept, and for events that are not.
 use Rattle.std.proofs.Common.{◌≡◌, ℕ, ◌+◌, Bool, true, false, Option, List, [], ◌∷◌}
 use Rattle.std.proofs.Common.{◌++◌, length, refl, sym, ap, ◌∙◌, subst, arith, if◌then◌else◌}
 use Rattle.std.specs.Prelude.{option_and_then}
@@ -28,7 +28,7 @@ chosen_true b x y h = rw h refl
 pub chosen_false : {A : Type 0} (b : Bool) (x y : A) → b ≡ false → (if b then x else y) ≡ y
 chosen_false b x y h = rw h refl
 
--- what a step is to bring about
+-- the postcondition of a step
 pub record HasPlayed (table new : Table) (log : List Kept) (event : Event) (mark : Option Mark) : Type 0 where
   pub reply : read_if (log_after (world_in table) log event mark) mark ≡ reply (world_in table)
       (run (world_in table) (events_of log)) event
@@ -95,7 +95,7 @@ kept_played table agents boards closed log event mark stood is_kept agrees repli
       shown = shown;
     }
 
--- an event that is not kept
+-- An event that is not kept leaves the log unchanged.
 pub unkept_played : (table new : Table) (log : List Kept) (event : Event) (mark : Option Mark) → StandsFor new log →
     keeps_next (world_in table) log event ≡ false →
     read_if log mark ≡ reply (world_in table) (run (world_in table) (events_of log)) event →

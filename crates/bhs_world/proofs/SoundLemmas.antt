@@ -107,7 +107,7 @@ sound_heard table log agent command sound within =
           (λ k _. sound.places k);
     }
 
--- the same, for lists that are those of the table that was heard
+-- The same result for the lists of the table after the command.
 pub sound_told : (table : Table) (log : List Kept) (agent : ℕ) (command : Command) (agents : List AgentState)
     (boards : List Whiteboard) → IsSound table → agent < length table.agents
     → agents ≡ (table_heard table log agent command).agents → boards ≡ (table_heard table log agent command).boards

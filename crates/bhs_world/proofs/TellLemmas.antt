@@ -80,7 +80,7 @@ tests_hold true false true h = (refl, refl, refl)
 tests_hold true false false h = cc
 tests_hold false y z h = cc
 
--- who is heard is an agent
+-- Only an agent of the match is heard.
 below_of : (table : Table) (agent : ℕ) (command : Command) → IsSound table → heard_in table agent command ≡ true
     → agent < length table.agents
 below_of table agent command sound heard_it =
@@ -119,7 +119,7 @@ known_of net setup view (At node came) knows = knows
 known_of net setup view (Bound node port) knows = tt
 known_of net setup view After knows = tt
 
--- what is read of a command that is heard
+-- The log records the reply to a command that is heard.
 heard_reads : (table : Table) (log : List Kept) (state : State) (lost : ℕ → Bool) (agent : ℕ) (command : Command)
     → IsSound table → Agrees table log state lost → AllLegal (world_in table) state →
     heard (world_in table) state agent command ≡ true → hears_in table agent command ≡ true →

@@ -19,7 +19,7 @@ pub record IsWithinLimits (net : Network) (setup : Setup) : Type 0 where
   pub board : setup.board ≤ MAX_BOARD
   pub dark : (node port : ℕ) → is_dark (far_of net) setup.dark node port ≡ true → port < degree_of net node
 
--- whether a number is from the least to the most
+-- whether a number lies in the closed interval from `least` to `most`
 abbrev pub is_within : (least most n : ℕ) → Bool
 is_within least most n = nat_le least n && nat_le n most
 
@@ -27,23 +27,24 @@ is_within least most n = nat_le least n && nat_le n most
 abbrev pub is_hole_fit : (nodes home hole : ℕ) → Bool
 is_hole_fit nodes home hole = nat_lt hole nodes && not (hole == home)
 
--- whether each of these black holes, which stand after others, is a node other than home, and stands but once
+-- whether each of these black holes is a node other than the home base and occurs once, also among the holes before
+-- them
 abbrev pub are_holes_fit : (nodes home : ℕ) → (before holes : List ℕ) → Bool
 are_holes_fit nodes home before [] = true
 are_holes_fit nodes home before (hole ∷ holes) =
     (is_hole_fit nodes home hole && not (is_hole before hole)) && are_holes_fit nodes home (before ++ hole ∷ []) holes
 
--- whether an end is a port of a node
+-- whether an end names an existing port
 abbrev pub is_port_of : Network → ℕ × ℕ → Bool
 is_port_of net end = nat_lt end.1 (degree_of net end.0)
 
--- whether each of these ends, which stand after others, is a port of a node, and its link stands but once
+-- whether each of these ends names an existing port and its link occurs once, also among the ends before them
 abbrev pub are_links_fit : Network → (before ends : List (ℕ × ℕ)) → Bool
 are_links_fit net before [] = true
 are_links_fit net before (end ∷ ends) =
     (is_port_of net end && not (is_dark (far_of net) before end.0 end.1)) && are_links_fit net (before ++ end ∷ []) ends
 
--- the first fault of a setup on this network; None if it is within the limits
+-- the first fault of a setup for this network, or None if the setup is within the limits
 abbrev pub first_fault : Network → Setup → Option SetupFault
 first_fault net setup =
     if not (nat_lt setup.home (nodes_of net)) then Some Home

@@ -11,17 +11,17 @@ use Rattle.bhs_model.specs.Setups.{world_of, normal}
 use Rattle.bhs_world.specs.Faults.{IsWithinLimits}
 use Rattle.bhs_model.specs.Runs.{is_bound, run, past, reply}
 
--- an agent of the match is on a link
+-- An agent of the match travels on a link.
 pub record IsAway (world : World) (events : List Event) (agent : ℕ) : Type 0 where
   pub of_match : agent < world.agents
   pub bound : is_bound ((run world events).position agent) ≡ true
 
--- whether its quota is not used up
+-- whether the agent has quota left
 abbrev pub has_room : World → List Event → (agent : ℕ) → Bool
 has_room world events agent = nat_lt (used (past world events agent)) world.quota
 
--- Two agents that are on links are answered alike, whatever they say, if both have room in their quotas or
--- neither has. It is not asked which of them is lost.
+-- Two agents on links get the same replies to all commands, if both have quota left or neither has. Whether an agent is
+-- lost makes no difference.
 abbrev pub AwayAlike : Type 0
 AwayAlike = (world : World) (events : List Event) (agent other : ℕ) (command : Command) →
     IsAway world events agent → IsAway world events other →

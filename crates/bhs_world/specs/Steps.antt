@@ -1,5 +1,5 @@
--- What a step does to a table, and which mark it answers. This says how the code goes about it; that it is
--- what the definitions say is proved of it.
+-- A step on a table: the new table and the mark of its reply. This describes the implementation; the simulation of the
+-- model's step by it is proved.
 use Rattle.std.specs.Prelude.{ℕ, ◌+◌, ◌<◌, ◌≡◌, Bool, true, false, not, ◌&&◌, Option, Some, None, List, length, nat_lt}
 use Rattle.std.specs.Prelude.{nat_le, if◌then◌else◌, slice_set}
 use Rattle.bhs_net.specs.Network.{Network, nodes_of, degree_of}
@@ -26,7 +26,7 @@ use Rattle.bhs_state.specs.Boards.{Whiteboard, swap_of, last_after}
 use Rattle.bhs_world.specs.Faults.{IsWithinLimits}
 use Rattle.bhs_world.specs.Tables.{Table, agent_at, board_at, world_in}
 
--- why the command is not heard, if it is not
+-- the reason to refuse a command, if it is refused
 abbrev pub refusal_of : views.Standing → (room : Bool) → Command → Option Why
 refusal_of standing room command = if accepts standing room command then None else Some (refusal standing command)
 
@@ -38,7 +38,7 @@ agent_told world course command = record {
   lost = course.lost;
 }
 
--- what is answered at a node
+-- the mark of a reply at a node
 abbrev pub mark_here : World → List Whiteboard → (node : ℕ) → (came : Option ℕ) → Mark
 mark_here world boards node came = marks.Here (world.net.degree node) came (board_at boards node).last
 
@@ -165,7 +165,7 @@ keeps_in table (Deliver agent) = not table.closed && keeps_delivered (world_in t
     (agent_at table.agents agent).position
 keeps_in table Close = not table.closed
 
--- an agent at this position is at a node, or on a link from a node
+-- The agent's node, or the departure node and port of its link, exists.
 abbrev pub IsPlaced : Network → Position → Type 0
 IsPlaced net (At node came) = node < nodes_of net
 IsPlaced net (Bound node port) = (node < nodes_of net) × (port < degree_of net node)
@@ -189,14 +189,14 @@ is_of_board marks.Written = true
 is_of_board (marks.Changed board) = true
 is_of_board mark = false
 
--- whether the answer to a command that is heard of an agent at this position does
+-- whether the reply to a command that is heard at this position shows a whiteboard
 abbrev pub shows_from : (limit : ℕ) → Position → Command → Bool
 shows_from limit position Enter = true
 shows_from limit (At node came) Look = true
 shows_from limit (At node came) (Write expect put) = nat_le (length put) limit
 shows_from limit position command = false
 
--- whether the answer to a command does
+-- whether the reply to a command shows a whiteboard
 abbrev pub shows_in : Table → (agent : ℕ) → Command → Bool
 shows_in table agent command =
     heard_in table agent command && shows_from table.setup.board (agent_at table.agents agent).position command

@@ -21,7 +21,7 @@ use Rattle.bhs_model.specs.Marks.{events_of, put_at, read_if, board_of}
 use Rattle.bhs_state.specs.Agents.{AgentState, newcomer}
 use Rattle.bhs_state.specs.Boards.{Whiteboard}
 
--- a network, how a match on it is set up, its agents by number, its whiteboards by node, and whether it has ended
+-- The state of a match: its network and setup, its agents by number, its whiteboards by node, and whether it has ended.
 pub record Table : Type 0 where
   pub net : Network
   pub setup : Setup
@@ -29,7 +29,7 @@ pub record Table : Type 0 where
   pub boards : List Whiteboard
   pub closed : Bool
 
--- the agent of a number; a number without an agent is as one that has not entered
+-- The state of an agent by its number; a number without an agent reads as an agent that has not entered.
 abbrev pub agent_at : List AgentState → ℕ → AgentState
 agent_at agents agent = slice_index_or agents agent newcomer
 
@@ -44,7 +44,7 @@ board_at boards node = slice_index_or boards node untouched
 abbrev pub world_in : Table → World
 world_in table = world_of table.net table.setup
 
--- what is kept of an agent is what the definitions say of it
+-- The implementation's state of an agent agrees with the model's.
 pub record IsCourseOf (course : AgentState) (state : State) (is_lost : Bool) (agent : ℕ) : Type 0 where
   pub position : state.position agent ≡ course.position
   pub used : used (state.past agent) ≡ course.used
@@ -91,7 +91,7 @@ is_of_board_if None = false
 abbrev pub keeps_next : World → List Kept → Event → Bool
 keeps_next world log event = keeps world (run world (events_of log)) (lost world (events_of log)) event
 
--- the log after an event, with what was answered, which stands in it if the event is kept
+-- the log after an event: extended by the event and its mark if the event is kept
 abbrev pub log_after : World → List Kept → Event → Option Mark → List Kept
 log_after world log event mark = if keeps_next world log event then log
     ++ record { event = event; mark = mark } ∷ [] else log

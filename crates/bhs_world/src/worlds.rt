@@ -124,8 +124,8 @@ impl World {
         self.boards[usize::from(node)].last()
     }
 
-    /// Lets an agent stand so, with nothing used. Says whether there is such an agent and such a place; if not, nothing
-    /// is changed.
+    /// Sets an agent's standing, with nothing of its quota used. Returns whether the agent and its place exist; if not,
+    /// changes nothing.
     pub fn place(&mut self, agent: u16, standing: Standing) -> bool
         ensures placed { IsTrue result → self.new ≡ record self.old {
           agents = slice_set self.old.agents agent (record newcomer { position = position_of standing });
@@ -142,8 +142,8 @@ impl World {
         true
     }
 
-    /// Lets the whiteboard of a node name this place, whose text it shows then. Says whether there is such a node; if
-    /// not, nothing is changed.
+    /// Sets the log place whose text a node's whiteboard shows. Returns whether the node exists; if not, changes
+    /// nothing.
     pub fn show(&mut self, node: u16, last: Option<u32>) -> bool
         ensures shown { IsTrue result → self.new ≡ record self.old {
           boards = slice_set self.old.boards node (record { limit = self.old.setup.board; last = last });
@@ -160,7 +160,7 @@ impl World {
         true
     }
 
-    /// Whether a link destroys who travels on it; a number without a link does not.
+    /// Returns whether the link at a port destroys agents; false if the port does not exist.
     pub fn is_doomed(&self, node: u16, port: u16) -> bool
         ensures link { IsPlaced self.now.net (Bound node port) → result ≡ doomed (world_in self.now) node port }
         ensures only { IsTrue result → doomed (world_in self.now) node port ≡ true }
@@ -352,7 +352,7 @@ impl World {
     }
 }
 
-// Whether there is such a place.
+// Returns whether the standing names an existing node or port.
 fn is_placed(net: &Net, standing: Standing) -> bool
     ensures { IsTrue result → IsPlaced net.now (position_of standing) }
 {

@@ -39,6 +39,6 @@ pub(crate) const GAME: Argument = Argument {
     help: "The match's number in the tournament, from 0",
 };
 
-/// What is told where only some of the options are given.
+/// The message when only some of the options are given.
 pub(crate) const TOGETHER: &str =
     "--turns <TURNS>, --tournament <TOURNAMENT> and --match <MATCH> go together";

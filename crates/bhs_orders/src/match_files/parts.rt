@@ -56,7 +56,7 @@ pub fn put_earlier_aside<F: Files>(
 // How many earlier contests with one prefix are kept at most.
 const EARLIER: u32 = 1_000_000;
 
-/// Renames a file, if it is there. It gets the first name that is free.
+/// Renames a file, if it exists, to the first free name.
 pub fn put_aside<F: Files>(alloc: Global, files: &F, name: &str) -> Result<(), Fault> {
     if is_free(files, name)? {
         return Ok(());

@@ -7,10 +7,10 @@ use std::io::ErrorKind;
 use std::os::unix::fs::OpenOptionsExt;
 use std::rt::Files;
 
-// What the owner of a file may do with it, and nobody else: read and write.
+// The mode of private files: the owner may read and write.
 const OWNER: u32 = 0o600;
 
-/// How a file is made that only its owner may read. If its name is taken, it is not made.
+/// Returns the options that create a file which only its owner may read; an existing file makes the creation fail.
 pub fn private_options() -> OpenOptions {
     let mut options = OpenOptions::new();
     options.create_new(true).mode(OWNER);

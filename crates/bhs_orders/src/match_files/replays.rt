@@ -150,7 +150,7 @@ pub fn file_name(alloc: Global, prefix: &str, number: usize) -> Result<String, M
     format!(in alloc; "{prefix}{number}.jsonl")
 }
 
-// Writes a replay to a file of this name, which has the whole text or what it had before.
+// Writes a replay to a file atomically: the file has the whole text or its old contents.
 fn write_file<F: Files>(alloc: Global, files: &F, name: &str, sealed: &Sealed) -> Result<(), Fault>
     ensures { OnOk result (Took (known_takes F.File.contents) (replay_of sealed.now)) }
 {

@@ -73,7 +73,7 @@ pub fn turns_name(alloc: Global, prefix: &str, number: usize) -> Result<String, 
     format!(in alloc; "{prefix}{number}.turns")
 }
 
-// Writes turns to a file of this name, which has the whole text or what it had before.
+// Writes turns to a file atomically: the file has the whole text or its old contents.
 fn write_file<F: Files>(alloc: Global, files: &F, name: &str, turns: &[u32]) -> Result<(), Fault>
     ensures { OnOk result (Took (known_takes F.File.contents) (turns_text turns.now)) }
 {

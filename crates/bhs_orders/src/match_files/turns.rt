@@ -50,7 +50,7 @@ pub fn turns_in(alloc: Global, text: &[u8]) -> Result<Vec<u32>, Fault>
     }
 }
 
-// The line behind those of these turns.
+// Returns the fault of the line after those of these turns.
 fn wrong_line(turns: &[u32]) -> Fault
     ensures { (line : ℕ) × (result ≡ faults.Line line) }
 {

@@ -6,7 +6,7 @@ ghost use Rattle.bhs_orders.specs.Fault.{appeal_status};
 use crate::reporting::statuses::{REFUSED_MATCH, REFUSED_TEXT};
 use thiserror::Error;
 
-/// Why the match of a replay is not judged by the turns of its events.
+/// Reasons why the turns of a replay's events cannot be judged.
 #[derive(Clone, Copy, Debug, PartialEq, Eq, Error)]
 pub enum AppealFault {
     /// The tournament has the adaptive schedule, under which turns say nothing.
@@ -18,7 +18,8 @@ pub enum AppealFault {
     /// There are not as many turns as events.
     #[error("{turns} turns, {events} events")]
     Count { turns: usize, events: usize },
-    /// The turn of the event at this place has passed: it is less than the one before it, or an arrival has ended it.
+    /// The turn of the event at this place is out of order: it is less than its predecessor, or an arrival has ended
+    /// it.
     #[error("turn of place {place}")]
     Early { place: usize },
     /// Before the event at this place this turn delivers this agent, and the replay leaves that out.

@@ -1,4 +1,4 @@
-//! Why a file was not read or not made, as the system says when it is asked again.
+//! Why a file could not be read or created, according to a second request to the system.
 
 use crate::reporting::names::folder_of;
 use std::fs;

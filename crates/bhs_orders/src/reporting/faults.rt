@@ -24,7 +24,7 @@ use std::io::{ErrorKind, Write};
 use std::rt::Files;
 use thiserror::Error;
 
-/// Why an order was not done.
+/// The fault of an order.
 #[derive(Clone, Copy, Debug, PartialEq, Eq, Error)]
 pub enum Fault {
     /// A file could not be opened, or a read failed.
@@ -45,13 +45,13 @@ pub enum Fault {
     /// A file is no replay.
     #[error("{0}")]
     Replay(ReplayFault),
-    /// The match has no such twin.
+    /// The match has no twin at this node.
     #[error("{0}")]
     Twin(TwinFault),
     /// The tournament has no match of this number.
     #[error("no match {game}")]
     NoMatch { game: u16 },
-    /// There is not one module for all agents of a match, and not one for each.
+    /// The number of modules is neither one nor the number of agents.
     #[error("{modules} modules, {agents} agents")]
     Modules { modules: usize, agents: u16 },
     /// Not every schedule of a match was tried.
@@ -60,16 +60,16 @@ pub enum Fault {
     /// A replay does not stand an appeal.
     #[error("{0}")]
     Appeal(AppealFault),
-    /// No client can connect: the port is in use, or the program may not have it.
+    /// No client can connect: the port is in use, or the program lacks the permission.
     #[error("listen")]
     Listen,
     /// Another server writes the replays of this prefix.
     #[error("busy")]
     Busy,
-    /// A thread could not be started.
+    /// Starting a thread failed.
     #[error("threads")]
     Threads,
-    /// The match of this number is not what its sessions were answered.
+    /// The match with this number disagrees with the answers of its sessions.
     #[error("unsettled {game}")]
     Unsettled { game: usize },
     /// A write failed.
@@ -99,7 +99,7 @@ impl Fault {
     }
 }
 
-// A text that is not spelled as a replay, or one whose events are those of no match.
+// Returns the exit status for a text whose spelling is wrong, or whose events no match has.
 fn replay_status(fault: ReplayFault) -> u8
     ensures { result ≡ replay_status fault }
 {

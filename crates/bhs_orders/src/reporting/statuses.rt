@@ -12,7 +12,7 @@ pub const REFUSED_WORDS: u8 = 2;
 /// The exit status if a script or a file was refused.
 pub const REFUSED_TEXT: u8 = 3;
 
-/// The exit status if the events of a replay are those of no match, or a match has no such twin.
+/// The exit status if no match has the events of a replay, or a match has no such twin.
 pub const REFUSED_MATCH: u8 = 4;
 
 /// The exit status if memory ran out.

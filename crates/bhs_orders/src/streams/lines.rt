@@ -11,19 +11,19 @@ use bhs_wire::split_line;
 /// The most reads of an input that is answered line by line. No program lives to make them.
 pub const MAX_READS: u64 = 281_474_976_710_656;
 
-/// Where a line is after a piece of what is read.
+/// The state of a line after a piece of the input.
 #[derive(Clone, Copy, Debug)]
 pub enum LineState<'p> {
-    /// It has ended in the piece, with this behind its line feed.
+    /// The line has ended within the piece; these bytes follow its line feed.
     Ended(&'p [u8]),
-    /// All of the piece belongs to it, and it goes on.
+    /// The whole piece belongs to the line, which continues.
     Unfinished,
     /// It has more than `MAX_TEXT` bytes.
     Overlong,
 }
 
-/// Adds to a line what a piece has of it, up to the piece's first line feed. One that would be too long, and one for
-/// which there is no memory, stays as it is.
+/// Appends the piece to a line, up to the first line feed. The line is unchanged if it would be too long, or if memory
+/// runs out.
 pub fn take_line<'p>(line: &mut Vec<u8>, piece: &'p [u8]) -> Result<LineState<'p>, Memory>
     ensures taken { IsPart line.old.items → IfOk result (IsTaken line.old.items piece.now line.new.items) }
     ensures part { IsPart line.old.items → IsPart line.new.items }

@@ -11,7 +11,7 @@ use bhs_net::Memory;
 use bhs_stream::{Output, WriteFault, finish, send};
 use std::io::Write;
 
-// Writes a text, and sees that all of it is out.
+// Writes a text and flushes the output.
 fn show<W: Output>(text: &str, writer: &mut W) -> Result<(), WriteFault>
     ensures ok { OnOk result (Shows W.takes W.flushes text.now true writer.old writer.new) }
     ensures err { OnErr result (PutsPart W.takes writer.old text.now writer.new
@@ -21,7 +21,7 @@ fn show<W: Output>(text: &str, writer: &mut W) -> Result<(), WriteFault>
     finish(writer)
 }
 
-/// Writes a text, and sees that all of it is out. A fault goes to `errors`. The answer is the exit status.
+/// Writes a text and flushes the output. Reports faults to `errors`. Returns the exit status.
 pub fn show_text<W: Output, E: Write>(text: &str, writer: &mut W, errors: &mut E) -> u8
     ensures { Prints W.takes W.flushes text.now writer.old writer.new result }
 {

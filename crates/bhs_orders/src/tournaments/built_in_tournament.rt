@@ -1,4 +1,4 @@
-//! The tournament that is played if none is named.
+//! The built-in tournament, used if none is named.
 
 ghost use Rattle.std.specs.Prelude.{◌≡◌, IfOk, MatchResult};
 ghost use Rattle.bhs_files.specs.declared.faults.FileFault.TheVariants as faults;
@@ -34,7 +34,7 @@ keys = [\"ka\", \"kb\"]
 held = []
 ";
 
-/// The tournament that is rehearsed if none is named.
+/// Returns the built-in tournament, which is rehearsed if none is named.
 pub fn built_in(alloc: Global) -> Result<Lineup, Memory>
     ensures made { IfOk result (λ lineup. contest lineup ≡ texts.built_in) }
     ensures fresh { IfOk result (λ lineup. AreFresh lineup.ready.items) }

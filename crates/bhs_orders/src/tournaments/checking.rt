@@ -61,8 +61,8 @@ pub fn lineup_of<F: Files, E: Write>(
     assembled(alloc, files, name, tournament, errors)
 }
 
-/// Does as `lineup_of` does, and tells on `errors` what a reader of the file may not expect: each key that is ignored,
-/// and then, unless there is a fault, the schedule and the links that are held or dark.
+/// Does the same as `lineup_of`, and also reports what a reader of the file may not expect to `errors`: each ignored
+/// key and then, unless there is a fault, the schedule and the held and dark links.
 pub fn told_lineup_of<F: Files, E: Write>(
     alloc: Global,
     files: &F,

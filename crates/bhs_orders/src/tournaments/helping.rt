@@ -55,8 +55,8 @@ pub(crate) fn report_fault<E: Write>(name: &str, fault: FileFault, errors: &mut 
     status
 }
 
-/// Reports why the file of a network was not read, and the folders where it was looked for if it is absent. The answer
-/// is the exit status. `own` is the name of the tournament's file.
+/// Reports why a network's file could not be read, with the folders that were searched if it is absent. Returns the
+/// exit status. `own` is the name of the tournament's file.
 pub(crate) fn report_unread<F: Files, E: Write>(
     files: &F,
     own: &str,
@@ -111,7 +111,7 @@ fn tell_line<E: Write>(alloc: Global, text: &str, errors: &mut E) {
     }
 }
 
-// Tells the key that a tournament, or a match of it, may not have, and the keys that it may have.
+// Reports the first unknown key of a tournament or match, with the known keys.
 fn tell_unknown<E: Write>(alloc: Global, text: &str, game: Option<u32>, errors: &mut E) {
     let Ok(file) = toml::table_from_str(alloc, text) else {
         return;
@@ -132,7 +132,7 @@ fn tell_unknown<E: Write>(alloc: Global, text: &str, game: Option<u32>, errors: 
     let _ = errors.write_all(b"\n");
 }
 
-// The table of a tournament, or of a match of it.
+// Returns the table of a tournament, or of one of its matches.
 fn part_of(file: &Table, game: Option<u32>) -> Option<&Table> {
     match game {
         None => Some(file),
@@ -149,7 +149,7 @@ fn line_at(text: &[u8], place: usize) -> usize {
     1 + before.filter(|byte| **byte == b'\n').count()
 }
 
-// Tells what a file may have at a key.
+// Reports the admissible values of a key.
 fn tell_shape<E: Write>(key: FileKey, errors: &mut E) {
     let _ = writeln!(errors, "  {key}: {}", shape_of(key));
 }
@@ -173,7 +173,7 @@ fn tell_network<E: Write>(fault: NetFault, errors: &mut E) {
     };
 }
 
-// Tells what a match may have where it is out of its limits.
+// Reports the limits that a match's setup violates.
 fn tell_setup<E: Write>(fault: SetupFault, errors: &mut E) {
     match fault {
         SetupFault::Home => {
@@ -196,7 +196,7 @@ fn tell_setup<E: Write>(fault: SetupFault, errors: &mut E) {
     }
 }
 
-// What a file may have at a key.
+// Returns a description of the admissible values of a key.
 fn shape_of(key: FileKey) -> &'static str {
     match key {
         FileKey::Version => "1, 2 or 3; of a network 1 or 2",

@@ -1,4 +1,4 @@
-//! Where the file of a network is looked for.
+//! The folders in which a network's file is searched.
 
 use bhs_net::Memory;
 use std::alloc::Global;
@@ -22,8 +22,8 @@ pub(crate) fn place_of<F: Files>(
     Ok(String::from_str(alloc, name)?)
 }
 
-/// The folder of a tournament's file, with the slash at its end, in which the file of a network is looked for too; None
-/// if the tournament is named without a folder, or the network by a path that begins with a slash.
+/// Returns the folder of a tournament's file, with a final slash, which is searched for the network's file as well;
+/// None if the tournament has no folder in its name, or the network's path is absolute.
 pub(crate) fn other_folder<'a>(own: &'a str, name: &str) -> Option<&'a str> {
     if name.starts_with('/') {
         return None;

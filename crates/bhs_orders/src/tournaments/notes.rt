@@ -38,7 +38,7 @@ pub(crate) fn notes_on(
     Ok(format!(in alloc; "{notes}")?)
 }
 
-// What is said of a key that is ignored.
+// The note on an ignored key.
 #[derive(Drop)]
 struct KeyNote<'a> {
     one: &'a IgnoredKey,
@@ -57,7 +57,7 @@ impl Display for KeyNote<'_> {
     }
 }
 
-// The beginning of a key, which may be long.
+// Returns a prefix of a key, which may be long.
 fn beginning(key: &str) -> &str {
     for end in (0..MOST_BYTES + 1).rev() {
         if let Some(front) = key.get(..end) {
@@ -96,7 +96,7 @@ fn write_keys<W: fmt::Write>(version: u16, game: Option<u32>, f: &mut Formatter<
     Ok(())
 }
 
-// What is said of a tournament that can be played.
+// The notes on a tournament that is valid.
 #[derive(Drop)]
 struct Notes<'a> {
     name: &'a str,

@@ -1,4 +1,4 @@
-//! What is printed of the matches of a tournament.
+//! The summary of a tournament's matches.
 
 ghost use Rattle.std.specs.Prelude.{◌≡◌, IfOk, string_bytes};
 ghost use Rattle.bhs_orders.specs.Summary.{match_line, summary_from};

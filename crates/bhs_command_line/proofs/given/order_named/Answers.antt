@@ -12,7 +12,7 @@ differs one other apart = go (bytes_eq one other) refl
     go true e = absurd (apart ((bytes_eq-Decides one other).0 e))
     go false e = refl
 
--- a name that no command has
+-- No command has this name.
 no_order : (name : Text) (rows : List Row) → name ≢ codes "rehearse" → name ≢ codes "check" → name ≢ codes "judge"
     → name ≢ codes "table" → name ≢ codes "explain" → name ≢ codes "twin" → name ≢ codes "recover"
     → name ≢ codes "explore" → name ≢ codes "serve" → order_by (name, rows) ≡ None

@@ -1,4 +1,4 @@
--- What is queued, with the lines that are left, is what was queued and all lines.
+-- Loop invariant: the queued lines followed by the remaining lines are the old queue followed by all lines.
 use Rattle.std.proofs.Common.{◌≡◌, ◌++◌, map, length}
 use Rattle.bhs_wire.specs.Lines.{seen}
 use Rattle.bhs_rehearsal.specs.Connections.{Says}

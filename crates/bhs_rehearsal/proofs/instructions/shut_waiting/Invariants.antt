@@ -1,4 +1,4 @@
--- The connections before the index were seen to; the others are as they were.
+-- Loop invariant: the connections before the index are closed if they waited; the others are unchanged.
 use Rattle.std.proofs.Common.{◌≡◌, ◌++◌, take, drop}
 use Rattle.bhs_rehearsal.specs.Stages.{shut_in}
 use Rattle.bhs_rehearsal.specs.Rehearsing.{game_of}

@@ -1,4 +1,4 @@
--- What was found so far, with what the other connections are told, is what all are told.
+-- Loop invariant: the reports collected so far, followed by those to the remaining connections, are all reports.
 use Rattle.std.proofs.Common.{◌≡◌, ◌++◌, map, drop}
 use Rattle.bhs_rehearsal.specs.Stages.{told_over}
 use Rattle.bhs_rehearsal.specs.Rehearsing.{game_of, seen_out}

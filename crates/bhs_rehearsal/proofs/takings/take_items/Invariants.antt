@@ -1,4 +1,5 @@
--- What was taken so far, with what is to be taken, is what is taken of all items.
+-- Loop invariant: the effect of the items taken so far, followed by that of the remaining items, is the effect of all
+-- items.
 use Rattle.std.proofs.Common.{◌≡◌, map, length}
 use Rattle.bhs_rehearsal.specs.Connections.{taken}
 use Rattle.bhs_rehearsal.specs.Rehearsing.{game_of, team_of, seen_item}

@@ -25,7 +25,7 @@ begun : {O : Type 0} (takes : O → List ℕ → WriteAnswer → O → Type 0) (
 begun takes a play answered = first_line takes a (replay_of play) (head_of play ++ 10 ∷ [])
     (left_of play.log play.log) (replay-along play answered)
 
--- before the event at a place
+-- the writer's state before the event at a place
 at_event : {O : Type 0} (takes : O → List ℕ → WriteAnswer → O
     → Type 0) (a b : O) (text : List ℕ) (log : List Kept) (i : ℕ)
     (one : Kept) → i < length log → one ≡ get_or log i one

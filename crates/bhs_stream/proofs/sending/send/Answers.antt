@@ -5,7 +5,7 @@ use Rattle.bhs_stream.specs.Streams.{Takes}
 use Rattle.bhs_stream.specs.Sending.{begins, goes_on, IsOffered}
 use Rattle.bhs_stream.proofs.sending.send.Goals as goal
 
--- all that is left is offered
+-- The writer is offered all remaining bytes.
 is_offered : (bytes : List ℕ) (sent : ℕ) → sent < length bytes → IsOffered bytes sent (drop sent bytes)
 is_offered bytes sent short = record {
   rest = [];

@@ -4,8 +4,8 @@ use Rattle.bhs_wasm_read.specs.Modules.{parts_of, sections}
 use Rattle.bhs_wasm_read.proofs.Orders.{Leads}
 use Rattle.bhs_wasm_read.proofs.reading.read.Given as goal
 
--- With sections behind those that are read there are sections in order from the beginning. What they say comes to what
--- all of them say.
+-- The remaining sections extend the sections that were read: both together are in order, and their contents are the
+-- contents of all sections.
 abbrev pub invariant-loop-bytes : goal.invariant-loop-bytes
 invariant-loop-bytes l = record {
   order : (count : ℕ) → are_sections count l.last l.bytes.left.now ≡ true → AreInOrder l.fn.bytes.left.now;

@@ -2,7 +2,8 @@ use Rattle.std.proofs.Common.{◌≡◌, List, ◌++◌, length, map}
 use Rattle.bhs_wire.specs.Lines.{Line, seen, lines, rest}
 use Rattle.bhs_wire.proofs.pieces.push_lines.Given as goal
 
--- the lines found so far and those of what is left are those of all, and those found before stay in front
+-- Loop invariant: the lines found so far, followed by the lines of the remaining bytes, are all lines; earlier lines
+-- are kept in front.
 abbrev pub invariant-loop-line : goal.invariant-loop-line
 invariant-loop-line l =
     record {
