@@ -2,6 +2,7 @@
 use Rattle.std.proofs.Common.{ℕ, refl, sym, subst}
 use Rattle.bhs_net.specs.Network.{Network, nodes_of, degree_of}
 use Rattle.bhs_model.specs.Setups.{world_of}
+use Rattle.bhs_match.specs.Matches.{world_in}
 use Rattle.bhs_model.specs.Examples.{none_held}
 use Rattle.bhs_protocols.specs.Halves.{halves}
 use Rattle.bhs_protocols.specs.Halving.{most_moves}
@@ -12,6 +13,10 @@ use Rattle.bhs_protocols.specs.Shuttle.{shuttle}
 use Rattle.bhs_protocols_charts.specs.Charting.{charters}
 use Rattle.bhs_protocols_charts.specs.ChartLaws.{chart_bounds, chart_moves}
 use Rattle.bhs_protocols_charts.proofs.ChartLemmas.{charters_solve}
+use Rattle.bhs_protocols_divided.specs.Dividing.{dividers}
+use Rattle.bhs_protocols_divided.specs.DividingLaws.{divided_bounds}
+use Rattle.bhs_protocols_divided.specs.DividingLaws as divided
+use Rattle.bhs_protocols_divided.proofs.DividingTheorem.{dividers_solve}
 use Rattle.bhs_protocols_mapped.specs.Exploring.{explorers}
 use Rattle.bhs_protocols_mapped.specs.MapLaws.{guided_trial}
 use Rattle.bhs_protocols_mapped.proofs.MapLemmas.{two_agents_with_a_map_solve}
@@ -20,11 +25,11 @@ use Rattle.bhs_protocols.proofs.HalvesRings.{halves_solve_all_rings}
 use Rattle.bhs_protocols_unmapped.specs.Degrees.{ports_beside}
 use Rattle.bhs_schedules.specs.Schedules.{Trial}
 use Rattle.bhs_contested.specs.Contests.{trial_in}
-use Rattle.bhs_contested.specs.Instances.{ChartersSolveContests, HalvesSolveContests, MapsSolveContests}
-use Rattle.bhs_contested.specs.Instances.{ShuttleSolvesContests, limits_of}
+use Rattle.bhs_contested.specs.Instances.{ChartersSolveContests, DividersSolveContests}
+use Rattle.bhs_contested.specs.Instances.{HalvesSolveContests, MapsSolveContests, ShuttleSolvesContests, limits_of}
 use Rattle.bhs_contested.proofs.Contest.{contests_are_solved}
 use Rattle.bhs_contested.proofs.Orderly.{waiters_are_orderly}
-use Rattle.bhs_contested.proofs.Waiters.{charters_wait, explorers_wait, halves_wait, shuttles_wait}
+use Rattle.bhs_contested.proofs.Waiters.{charters_wait, dividers_wait, explorers_wait, halves_wait, shuttles_wait}
 
 pub halves_solve_contests : HalvesSolveContests
 halves_solve_contests play hole wakeups clients set room enough played plain done =
@@ -58,6 +63,15 @@ maps_solve_contests net home is within =
           (waiters_are_orderly (trial_in play none_held wakeups (strategies_by (explorers n searched.guide)))
           (λ agent. refl) (explorers_wait n searched.guide)) solved.solves solved.rests;
     }
+
+pub dividers_solve_contests : DividersSolveContests
+dividers_solve_contests play hole wakeups plan clients searched room enough played plain done =
+    let n : ℕ = nodes_of play.net in
+    let solved : IsSolved (trial_in play none_held wakeups (strategies_by (dividers plan))) (divided_bounds n) =
+    dividers_solve (world_in play) n hole wakeups plan searched room enough in
+    contests_are_solved play none_held wakeups (strategies_by (dividers plan)) (divided.most_moves n) 1 clients played
+    plain done (waiters_are_orderly (trial_in play none_held wakeups (strategies_by (dividers plan))) (λ agent. refl)
+    (dividers_wait plan)) solved.solves solved.rests
 
 pub charters_solve_contests : ChartersSolveContests
 charters_solve_contests play tells hole wakeups clients holes dark can played plain done =

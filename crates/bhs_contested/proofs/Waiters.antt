@@ -1,5 +1,5 @@
 -- Programs whose agents wait once they have departed.
-use Rattle.std.proofs.Common.{ℕ, ◌≡◌, Bool, true, false, ◌==◌, Option, Some, None, List, refl}
+use Rattle.std.proofs.Common.{ℕ, ◌-◌, ◌≡◌, Bool, true, false, ◌==◌, Option, Some, None, List, refl}
 use Rattle.std.proofs.Common.{nat_le, nat_lt, if◌then◌else◌, unwrap_or}
 use Rattle.bhs_model.specs.declared.commands.Command.{Command}
 use Rattle.bhs_model.specs.declared.commands.Command.TheVariants.{Depart, Accuse}
@@ -21,6 +21,10 @@ use Rattle.bhs_protocols.specs.declared.shuttle.Phase.{Phase as ShuttlePhase}
 use Rattle.bhs_protocols.specs.declared.shuttle.Phase.TheVariants as ways
 use Rattle.bhs_protocols.specs.Programs.{held_after, strategies_by}
 use Rattle.bhs_protocols_charts.specs.Charting.{charters}
+use Rattle.bhs_protocols_divided.specs.Dividing as dividing
+use Rattle.bhs_protocols_divided.specs.Dividing.{dividers}
+use Rattle.bhs_protocols_divided.specs.Dividing.{Memory as DividerMemory, Phase as DividerPhase}
+use Rattle.bhs_protocols_divided.specs.Plans.{Plan, left_at}
 use Rattle.bhs_protocols_mapped.specs.Exploring as exploring
 use Rattle.bhs_protocols_mapped.specs.Exploring.{explorers}
 use Rattle.bhs_protocols_mapped.specs.Exploring.{Memory as ExplorerMemory, Phase as ExplorerPhase}
@@ -99,6 +103,29 @@ waits_explorer n guide m (exploring.Returns step) port is = absurd (cc)
 waits_explorer n guide m exploring.Writes port is = absurd (cc)
 waits_explorer n guide m exploring.Ends port is = absurd (cc)
 
+-- ---- the search by divisions
+
+abbrev does_divider : Plan → DividerMemory → Step
+does_divider plan m = dividing.does_in plan m m.phase
+
+waits_divider : (plan : Plan) (m : DividerMemory) (phase : DividerPhase) (port : ℕ)
+    → dividing.does_in plan m phase ≡ Says (Depart port)
+    → does_divider plan (dividing.after_in plan m phase (Heard Gone)) ≡ Stops
+waits_divider plan m dividing.Begins port is = absurd (cc)
+waits_divider plan m dividing.GoesOut port is =
+    either (λ (later : DividerPhase). dividing.does_in plan (record m { phase = later }) later ≡ Stops)
+    ((dividing.own_of plan m).is_new m.step) _ _ refl refl
+waits_divider plan m dividing.Leaves port is = absurd (cc)
+waits_divider plan m dividing.Tries port is = absurd (cc)
+waits_divider plan m dividing.Turns port is = refl
+waits_divider plan m dividing.Returns port is = absurd (cc)
+waits_divider plan m dividing.Writes port is = absurd (cc)
+waits_divider plan m dividing.Follows port is = refl
+waits_divider plan m dividing.Passes port is = absurd (cc)
+waits_divider plan m dividing.Tells port is =
+    absurd (not_both (left_at plan m.divisions (1 - m.side) m.step == 1) _ _ port (λ e. cc) (λ e. cc) is)
+waits_divider plan m dividing.Ends port is = absurd (cc)
+
 -- ---- modules
 
 not_if : (b : Bool) (step : Step) {doing : Step} → (step ≡ doing → ⊥) → (Fails ≡ doing → ⊥)
@@ -160,12 +187,17 @@ explorers_wait n guide agent history port is =
 pub charters_wait : (n : ℕ) (tells : ℕ → ℕ) (agent : ℕ) → WaitsOnLinks (strategies_by (charters n tells) agent)
 charters_wait n tells agent history port is = refl
 
+pub dividers_wait : (plan : Plan) (agent : ℕ) → WaitsOnLinks (strategies_by (dividers plan) agent)
+dividers_wait plan agent history port is =
+    let m : DividerMemory = held_after (dividers plan) agent history in waits_divider plan m m.phase port is
+
 pub programs_wait : ProgramsWait
 programs_wait = record {
   halves_wait = halves_wait;
   shuttles_wait = shuttles_wait;
   explorers_wait = explorers_wait;
   charters_wait = charters_wait;
+  dividers_wait = dividers_wait;
   modules_wait = λ program arguments fuel history port is.
       let m = memory_after program arguments fuel history in
       waits_module program fuel m.status m.state port is;

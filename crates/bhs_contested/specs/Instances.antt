@@ -1,11 +1,11 @@
--- Contests of teams that are known to solve: by halves, by the shuttle, with a map, and by a chart.
+-- Contests of teams that are known to solve: by halves, by the shuttle, with a map, by divisions, and by a chart.
 use Rattle.std.specs.Prelude.{ℕ, ◌+◌, ◌-◌, ◌*◌, ◌<◌, ◌≤◌, ◌≡◌, List, [], ◌∷◌}
 use Rattle.bhs_net.specs.Network.{Network, IsNetwork, nodes_of, degree_of}
 use Rattle.bhs_model.specs.declared.setups.Setup.{Setup}
 use Rattle.bhs_model.specs.Setups.{network_of}
 use Rattle.bhs_model.specs.Examples.{none_held}
 use Rattle.bhs_match.specs.Decided.{AreAllDone}
-use Rattle.bhs_match.specs.Matches.{Play}
+use Rattle.bhs_match.specs.Matches.{Play, world_in}
 use Rattle.bhs_referee.specs.Verdicts.{verdict_of}
 use Rattle.bhs_schedules.specs.Everywhere.{IsSolvedWithin}
 use Rattle.bhs_protocols.specs.AllRings.{IsSetOn, ring_bounds}
@@ -16,6 +16,9 @@ use Rattle.bhs_protocols.specs.Programs.{strategies_by}
 use Rattle.bhs_protocols.specs.Sizes.{Limits}
 use Rattle.bhs_protocols_charts.specs.Charting.{charters}
 use Rattle.bhs_protocols_charts.specs.ChartLaws.{CanSearch, chart_moves}
+use Rattle.bhs_protocols_divided.specs.Dividing.{dividers}
+use Rattle.bhs_protocols_divided.specs.DividingLaws as divided
+use Rattle.bhs_protocols_divided.specs.Plans.{Plan}
 use Rattle.bhs_protocols_mapped.specs.Exploring.{explorers}
 use Rattle.bhs_protocols_mapped.specs.Guides.{Guide, IsGuide}
 use Rattle.bhs_protocols_mapped.specs.MapLaws.{IsSetAt}
@@ -31,6 +34,7 @@ pub record ProgramsWait : Type 0 where
   pub shuttles_wait : (n agent : ℕ) → WaitsOnLinks (strategies_by (shuttle n) agent)
   pub explorers_wait : (n : ℕ) (guide : Guide) (agent : ℕ) → WaitsOnLinks (strategies_by (explorers n guide) agent)
   pub charters_wait : (n : ℕ) (tells : ℕ → ℕ) (agent : ℕ) → WaitsOnLinks (strategies_by (charters n tells) agent)
+  pub dividers_wait : (plan : Plan) (agent : ℕ) → WaitsOnLinks (strategies_by (dividers plan) agent)
   pub modules_wait : (program : Contents) (arguments : List ℕ) (fuel : ℕ)
       → WaitsOnLinks (strategy_of program arguments fuel)
 
@@ -71,6 +75,18 @@ pub record IsSearchedInContests (net : Network) (home : ℕ) : Type 0 where
 -- Each network of a file has such a guide from each home base, which depends on these two alone.
 abbrev pub MapsSolveContests : Type 0
 MapsSolveContests = (net : Network) (home : ℕ) → IsNetwork net → home < nodes_of net → IsSearchedInContests net home
+
+-- Take a network in a contest, with two agents, one black hole and no dark link, and a plan for it. If the contest
+-- settled, both agents have ended or are lost, and each was played by a client that follows the plan, then the match is
+-- solved within 6 (n - 2) R + 2 (n - 1) moves, one agent lost. Each network of a file has such a plan.
+abbrev pub DividersSolveContests : Type 0
+DividersSolveContests = (play : Play) (hole wakeups : ℕ) (plan : Plan) (clients : (agent : ℕ) → Attended)
+    → divided.IsSearchedBy (world_in play) (nodes_of play.net) hole plan → 5 ≤ play.setup.board
+    → divided.most_commands (nodes_of play.net) ≤ play.setup.quota
+    → ((agent : ℕ) → agent < play.setup.agents
+    → IsPlayedIn play wakeups (strategies_by (dividers plan)) agent (clients agent))
+    → IsPlainMatch none_held play → AreAllDone play
+    → IsSolvedWithin (divided.most_moves (nodes_of play.net)) 1 (verdict_of play)
 
 -- the limits of a match, where a sleeper may wake so often although nothing has changed
 abbrev pub limits_of : Setup → (wakeups : ℕ) → Limits

@@ -3,7 +3,8 @@
 ghost use Rattle.bhs_contested.specs.Contests.{ContestsAreNeverWrong, ContestsAreSolved, ContestsStayWithin};
 ghost use Rattle.bhs_contested.specs.Contests.{WaitersAreOrderly};
 ghost use Rattle.bhs_contested.specs.Example.{ItIsSolved, TheLawSpeaksOfIt};
-ghost use Rattle.bhs_contested.specs.Instances.{ChartersSolveContests, HalvesSolveContests, MapsSolveContests};
+ghost use Rattle.bhs_contested.specs.Instances.{ChartersSolveContests, DividersSolveContests};
+ghost use Rattle.bhs_contested.specs.Instances.{HalvesSolveContests, MapsSolveContests};
 ghost use Rattle.bhs_contested.specs.Instances.{ProgramsWait, ShuttleSolvesContests};
 ghost use Rattle.bhs_contested.specs.ModuleContests.{ModulesAreNeverWrong, ModulesSolveContests};
 
@@ -22,8 +23,8 @@ pub fn waiters_are_orderly()
     ensures { WaitersAreOrderly }
 {}
 
-/// Agents that search by halves or by the shuttle, follow a guide, draw a chart, or run a module wait once they have
-/// departed.
+/// Agents that search by halves or by the shuttle, follow a guide or a plan, draw a chart, or run a module wait once
+/// they have departed.
 pub fn programs_wait()
     ensures { ProgramsWait }
 {}
@@ -43,6 +44,12 @@ pub fn the_shuttle_solves_contests()
 /// moves, one agent lost.
 pub fn maps_solve_contests()
     ensures { MapsSolveContests }
+{}
+
+/// Two clients that follow a plan for a network solve each contest there, within 6 (n - 2) R + 2 (n - 1) moves, where R
+/// is the binary logarithm of n - 1, rounded up; one agent is lost. Each network of a file has a plan.
+pub fn dividers_solve_contests()
+    ensures { DividersSolveContests }
 {}
 
 /// Clients that draw a chart of a network of a file, more than the black hole has links, solve it in a contest, within
