@@ -9,7 +9,7 @@ from tests import TOP
 from tests.test_documents import documents
 
 CRATES = TOP / "crates"
-HELP = CRATES / "bhs_command_line" / "src" / "help"
+HELP = CRATES / "bhs_cli_words" / "src" / "help"
 FORMATS = (TOP / "docs" / "FORMATS.md").read_text(encoding="utf-8")
 FAULT = re.compile(
     r'#\[error\("([^"]+)"\)\]|^ +FileFault::.*?f(?:\.write_str\(|, )"(?:match \{game\} )?([^"]+)"',
@@ -28,11 +28,11 @@ READ_TOURNAMENTS = (
     "recover",
 )
 OF_REPLAYS = "bhs_replay/src/faults.rt"
-OF_APPEALS = "bhs_orders/src/reporting/appeal_faults.rt"
+OF_APPEALS = "bhs_cli/src/reporting/appeal_faults.rt"
 OF_FILES, OF_NETWORKS, OF_SETUPS = (
     f"{crate}/src/faults.rt" for crate in ("bhs_files", "bhs_net", "bhs_world")
 )
-OF_COMMANDS = "bhs_orders/src/reporting/faults.rt"
+OF_COMMANDS = "bhs_cli/src/reporting/faults.rt"
 # the first word of each of the faults of commands, and who tells it
 TELLS = {
     "no": ("judge", "explore"),

@@ -203,15 +203,15 @@ class ContractsTest(InTemporary):
         for head in (
             "`contests::equal_pasts_are_sent_equal_bytes` (-)",
             "`Net::try_new` (made, count, refused)",
-            "| `bhs_lock` | `Hall::told` | yes | no | `self`, `pass` | memory, wanting, failed |",
+            "| `bhs_shared_match` | `Hall::told` | yes | no | `self`, `pass` | memory, wanting, failed |",
             "| `bhs_rehearsal` | `Rehearsal::feed_copied` | yes |",
             "| `bhs_view` | `cut_and_looks` | yes |",
             "| `bhs_replay` | `read_part` | yes |",
             "| `bhs_replay` | `head_of` | yes |",
             "| `bhs_model` | `text_shared` | yes |",
             "| `bhs_text` | `Text::new` | yes |",
-            "| `bhs_orders_results` | `print_verdict` | by its status | may |",
-            "| `bhs_lineup` | `Keys::new` | no | no |",
+            "| `bhs_cli_results` | `print_verdict` | by its status | may |",
+            "| `bhs_setups` | `Keys::new` | no | no |",
         ):
             self.assertIn(head, page)
         self.assertNotIn(

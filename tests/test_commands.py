@@ -8,7 +8,7 @@ from typing import Iterator, List, NamedTuple, Optional
 from tests import TOP
 from tests.hostile.commands import COMMANDS, SERVE
 
-DECLARED = TOP / "crates" / "bhs_command_line" / "src"
+DECLARED = TOP / "crates" / "bhs_cli_words" / "src"
 COMMAND = re.compile(r"^    (\w+)::COMMAND,$", re.MULTILINE)
 ROW = re.compile(
     r"^pub\(crate\) const \w+: Argument = Argument \{\n(.*?)^\};",

@@ -21,7 +21,7 @@ PATH = re.compile(
 )
 # what is made, not kept, and what the changelog says of the past
 MADE = ("tests/out/", "CHANGELOG.md")
-THEOREMS = "bhs_theorems"
+THEOREMS = "bhs_theorems_isolation"
 NAMED = re.compile(rf"`{THEOREMS}::(\w+)::(\w+)`")
 KIT = re.compile(r"rattle-kit-\w+(?: logic \w+)?")
 
@@ -101,7 +101,7 @@ class Theorems(unittest.TestCase):
         libraries = libraries_of()
         self.assertEqual(
             [name for name in libraries if THEOREMS in below(libraries, name)],
-            ["bhs_main", "bhs_contested"],
+            ["bhs_main", "bhs_theorems_contests"],
         )
 
 

@@ -35,19 +35,19 @@ DISPLAYED = [
     Theorem("equal_pasts", "bhs_model", "Laws", "EqualPasts"),
     Theorem(
         "rehearsals::equal_pasts_are_answered_alike",
-        "bhs_theorems",
+        "bhs_theorems_isolation",
         "Calls",
         "EqualPastsAreAnsweredAlike",
     ),
     Theorem(
         "contests::equal_pasts_are_sent_equal_bytes",
-        "bhs_theorems",
+        "bhs_theorems_isolation",
         "ContestMet",
         "EqualPastsAreSentEqualBytes",
     ),
     Theorem(
         "every_arrival_in_contests",
-        "bhs_theorems",
+        "bhs_theorems_isolation",
         "ContestTime",
         "EveryArrivalInContests",
     ),

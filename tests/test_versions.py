@@ -11,9 +11,7 @@ VERSION = (TOP / "VERSION").read_text().strip()
 
 class Versions(unittest.TestCase):
     def test_the_program_has_it(self) -> None:
-        source = (
-            TOP / "crates" / "bhs_command_line" / "src" / "declared.rt"
-        ).read_text()
+        source = (TOP / "crates" / "bhs_cli_words" / "src" / "declared.rt").read_text()
         self.assertEqual(
             re.findall(r'const VERSION: &str = "(.*)";', source), [VERSION]
         )

@@ -6,7 +6,7 @@ stream in words 14 and 15, 8 rounds.
 
     python3 -m arena_lab.rules.chacha8
 
-prints the words that the tests of bhs_deal expect.
+prints the words that the tests of bhs_deliveries expect.
 """
 import functools
 import struct

@@ -1,7 +1,7 @@
 // The expected words were computed apart from this code, by `arena_lab/rules/chacha8.py`, after the definition of
 // ChaCha: eight rounds, words 12 and 13 the number of the block, words 14 and 15 the stream. Of a seed of
 // zeros on stream 0 they begin 3e00ef2f 895f40d6 7f5bb8e8, which was remembered and not looked up.
-use bhs_deal::{Dealer, pick};
+use bhs_deliveries::{Dealer, pick};
 use std::process::Abort;
 
 mod links;

@@ -2,8 +2,8 @@
 
 use super::cells::cell;
 use super::triangle::{network, setup};
-use bhs_deal::{Dealer, Held};
-use bhs_lock::{Cell, Dispute, Hall, Open, Parts, Pass};
+use bhs_deliveries::{Dealer, Held};
+use bhs_shared_match::{Cell, Dispute, Hall, Open, Parts, Pass};
 use bhs_match::Match;
 use bhs_model::{Command, Reply, Text, Why};
 use bhs_net::{Link, Net};

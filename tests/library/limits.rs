@@ -1,10 +1,10 @@
 //! Streams that fail, turns that run out, and the names of faults.
 
 use super::streams::{Narrow, Pieces};
-use bhs_orders::{Fault, built_in, report};
-use bhs_orders_rehearse::rehearse;
-use bhs_orders_serve::Machine;
-use bhs_program::run;
+use bhs_cli::{Fault, built_in, report};
+use bhs_cli_rehearse::rehearse;
+use bhs_cli_serve::Machine;
+use bhs_cli_run::run;
 use std::alloc::Global;
 use std::net::{Net, TcpListener, TcpStream};
 use std::process::Abort;

@@ -3,8 +3,8 @@
 mod under;
 
 use super::cells::cell;
-use bhs_deal::{Dealer, Drawn};
-use bhs_lock::{Cell, Dispute, Gate, Open, Pass, settle};
+use bhs_deliveries::{Dealer, Drawn};
+use bhs_shared_match::{Cell, Dispute, Gate, Open, Pass, settle};
 use bhs_model::{Command, Reply, Text, Why};
 use std::alloc::Global;
 use std::process::Abort;

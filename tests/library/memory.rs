@@ -10,7 +10,7 @@ mod playing;
 mod wanting;
 
 use super::triangle::setup;
-use bhs_deal::Held;
+use bhs_deliveries::Held;
 use bhs_files::read_network;
 use bhs_match::Match;
 use bhs_model::{Command, Text};

@@ -1,4 +1,4 @@
-use bhs_host::{Progress, Steady};
+use bhs_contest::{Progress, Steady};
 use bhs_server::{Pace, PaceStep};
 use std::test::Fail;
 use std::time::{Duration, Instant};

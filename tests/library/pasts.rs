@@ -2,7 +2,7 @@
 //! node is refused as it should be, or each agent was answered the same in it.
 
 use super::played::twin_played;
-use bhs_deal::Dealer;
+use bhs_deliveries::Dealer;
 use bhs_match::{Match, Sealed};
 use bhs_model::{Command, DarkLinks, Event, Holes, Mark, Reply, Setup, Text};
 use bhs_net::{Link, Net};

@@ -1,6 +1,6 @@
 //! Rehearsals, call by call: what a script cannot say.
 
-use bhs_orders::built_in;
+use bhs_cli::built_in;
 use bhs_rehearsal::{Out, Rehearsal, RehearsalFault};
 use std::alloc::Global;
 use std::test::Fail;

@@ -3,7 +3,7 @@
 use bhs_model::{Command, Reply, Text};
 use bhs_protocols_charts::memories::{NetworkFacts, Told};
 use bhs_schedules::Step;
-use bhs_searcher::{AgentNews, ChartAgent, Protocol, ProtocolAgent, Searcher, SearcherFault};
+use bhs_client::{AgentNews, ChartAgent, Protocol, ProtocolAgent, Searcher, SearcherFault};
 use std::alloc::{AllocError, Global};
 use std::process::Abort;
 use std::test::Fail;

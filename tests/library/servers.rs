@@ -5,7 +5,7 @@ mod contests;
 mod gates;
 mod logs;
 
-use bhs_lock::{Cell, Gate, Open};
+use bhs_shared_match::{Cell, Gate, Open};
 use bhs_server::{Blind, Contest, Lack, Limits, Outside, Served, Strays, Watch, run_server};
 use bhs_session::Ended;
 use clients::{

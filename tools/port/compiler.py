@@ -38,8 +38,8 @@ HOT = {
     "bhs_explore",
     "bhs_wasm",
     "bhs_wasm_team",
-    "bhs_orders_explore",
-    "bhs_program",
+    "bhs_cli_explore",
+    "bhs_cli_run",
 }
 
 

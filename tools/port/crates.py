@@ -28,9 +28,9 @@ LIBRARIES: Dict[str, List[str]] = {
     "indexmap": [],
 }
 OWN = ("memchr", "serde_json", "indexmap")
-PROGRAM = "bhs_program"
+PROGRAM = "bhs_cli_run"
 # of what these have, the port needs nothing: they serve contests, or say what is proved
-WITHOUT = {"bhs_lock", "bhs_server", "bhs_host", "bhs_orders_serve"}
+WITHOUT = {"bhs_shared_match", "bhs_server", "bhs_contest", "bhs_cli_serve"}
 
 
 def crate_rows() -> Dict[str, List[str]]:

@@ -57,7 +57,7 @@ LEFT_OUT: Dict[str, Tuple[str, Tuple[str, ...]]] = {
         "what a contest on sockets writes down",
         ("notes.rt", "showing.rt"),
     ),
-    "bhs_program": ("Rust's std gives the words of the command line", ("words.rt",)),
+    "bhs_cli_run": ("Rust's std gives the words of the command line", ("words.rt",)),
 }
 RULES: Dict[str, Tuple[Rule, ...]] = {
     "dec2flt": (
@@ -154,13 +154,13 @@ RULES: Dict[str, Tuple[Rule, ...]] = {
         Rule("lib.rt", r"mod (notes|showing);\n", "", SOCKETS),
         Rule("lib.rt", r"pub use (notes|showing)::[^;]*;\n", "", SOCKETS),
     ),
-    "bhs_program": (
-        Rule("lib.rt", r"mod words;\n", "", LEFT_OUT["bhs_program"][0]),
-        Rule("lib.rt", r"pub use words::words_of;\n", "", LEFT_OUT["bhs_program"][0]),
+    "bhs_cli_run": (
+        Rule("lib.rt", r"mod words;\n", "", LEFT_OUT["bhs_cli_run"][0]),
+        Rule("lib.rt", r"pub use words::words_of;\n", "", LEFT_OUT["bhs_cli_run"][0]),
         Rule(
             "orders.rt",
-            r"use bhs_orders_serve::\{[^}]*\};\n",
-            "use bhs_orders_results::OutputKind;\nuse rattle::fs::Files;\nuse rattle::thread::Threads;\n",
+            r"use bhs_cli_serve::\{[^}]*\};\n",
+            "use bhs_cli_results::OutputKind;\nuse rattle::fs::Files;\nuse rattle::thread::Threads;\n",
             SOCKETS,
         ),
         Rule("orders.rt", r"use rattle::net::[^;]*;\n", "", SOCKETS),

@@ -20,23 +20,23 @@ from typing import Dict, Iterable, Iterator, List, NamedTuple, Set, Tuple
 
 CRATES = pathlib.Path(__file__).resolve().parents[2] / "crates"
 HEADLINES = {
-    "a session of a contest: `contests::equal_pasts_are_sent_equal_bytes` of `bhs_theorems`": (
-        "bhs_theorems",
+    "a session of a contest: `contests::equal_pasts_are_sent_equal_bytes` of `bhs_theorems_isolation`": (
+        "bhs_theorems_isolation",
         "ContestMet",
         "EqualPastsAreSentEqualBytes",
     ),
-    "calls of rehearsals: `rehearsals::equal_pasts_are_answered_alike` of `bhs_theorems`": (
-        "bhs_theorems",
+    "calls of rehearsals: `rehearsals::equal_pasts_are_answered_alike` of `bhs_theorems_isolation`": (
+        "bhs_theorems_isolation",
         "Calls",
         "EqualPastsAreAnsweredAlike",
     ),
-    "scripts of rehearsals: `rehearsals::equal_pasts_are_sent_equal_bytes` of `bhs_theorems`": (
-        "bhs_theorems",
+    "scripts of rehearsals: `rehearsals::equal_pasts_are_sent_equal_bytes` of `bhs_theorems_isolation`": (
+        "bhs_theorems_isolation",
         "ScriptHeadline",
         "EqualPastsAreSentEqualBytes",
     ),
-    "turns of contests: `contests::every_arrival_in_contests` of `bhs_theorems`": (
-        "bhs_theorems",
+    "turns of contests: `contests::every_arrival_in_contests` of `bhs_theorems_isolation`": (
+        "bhs_theorems_isolation",
         "ContestTime",
         "EqualWaitsInContests",
     ),

@@ -1,6 +1,6 @@
 //! Why a benchmark stops.
 
-use bhs_deal::HeldFault;
+use bhs_deliveries::HeldFault;
 use bhs_net::{Memory, NetFault};
 use bhs_stream::WriteFault;
 use bhs_world::SetupFault;

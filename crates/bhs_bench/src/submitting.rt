@@ -4,11 +4,11 @@ ghost use Rattle.std.specs.Prelude.{◌≡◌, [], IfOk};
 
 use crate::faults::BenchFault;
 use crate::torus::{PORTS, QUOTA, setup, torus};
-use bhs_deal::Held;
-use bhs_lock::{Cell, Hall, Open, Pass, settle};
+use bhs_deliveries::Held;
 use bhs_match::Match;
 use bhs_model::{Command, Text};
 use bhs_net::Memory;
+use bhs_shared_match::{Cell, Hall, Open, Pass, settle};
 use bhs_time::ScheduleKind;
 use std::alloc::Global;
 use std::sync::Wait;

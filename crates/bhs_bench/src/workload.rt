@@ -5,7 +5,7 @@ ghost use Rattle.std.specs.Prelude.{◌≡◌, OnOk};
 use crate::deeds::{BenchStep, deed_of};
 use crate::faults::BenchFault;
 use crate::torus::{PORTS, setup, torus};
-use bhs_deal::{Dealer, Held, draw};
+use bhs_deliveries::{Dealer, Held, draw};
 use bhs_match::Match;
 use bhs_model::{Command, Event, Text};
 use bhs_net::{Memory, Net};

@@ -3,11 +3,11 @@
 #![tactic(auto)]
 
 ghost use Rattle.std.specs.Prelude.{IfOk};
-ghost use Rattle.bhs_program.specs.Program.{IsStatus};
+ghost use Rattle.bhs_cli_run.specs.Program.{IsStatus};
 
-use bhs_orders::{Fault, report};
-use bhs_orders_serve::Machine;
-use bhs_program::{run, words_of};
+use bhs_cli::{Fault, report};
+use bhs_cli_run::{run, words_of};
+use bhs_cli_serve::Machine;
 use std::alloc::Global;
 use std::io;
 use std::io::{BufWriter, Input, Print, Write};

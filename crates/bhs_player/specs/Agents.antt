@@ -4,9 +4,9 @@ use Rattle.bhs_schedules.specs.Strategies.{Strategy}
 use Rattle.bhs_wasm.specs.Contents.{contents_of}
 use Rattle.bhs_wasm_read.specs.Modules.{module_in}
 use Rattle.bhs_wasm_team.specs.declared.agents.TheConstants.{FUEL}
-use Rattle.bhs_searcher.specs.Charters.{strategy_of_charter}
-use Rattle.bhs_searcher.specs.Modules.{strategy_of_module}
-use Rattle.bhs_searcher.specs.Protocols.{strategy_of_agent}
+use Rattle.bhs_client.specs.Charters.{strategy_of_charter}
+use Rattle.bhs_client.specs.Modules.{strategy_of_module}
+use Rattle.bhs_client.specs.Protocols.{strategy_of_agent}
 use Rattle.bhs_player.specs.declared.agents.PlayedAgent.{PlayedAgent}
 use Rattle.bhs_player.specs.declared.agents.PlayedAgent.TheVariants as played
 use Rattle.bhs_player.specs.declared.words.AgentChoice.{AgentChoice}

@@ -3,13 +3,13 @@ use Rattle.std.specs.Prelude.{ℕ, ◌==◌, List, [], ◌∷◌, Option, Some, 
 use Rattle.std.specs.Prelude.{if◌then◌else◌, unwrap_or}
 use Rattle.std.specs.Str.{bytes_eq}
 use Rattle.bhs_net.specs.declared.faults.TheConstants.{MIN_NODES, MAX_NODES}
-use Rattle.bhs_command_line.specs.Arguments.{number_within}
-use Rattle.bhs_command_line.specs.Exploring.{module_in}
+use Rattle.bhs_cli_words.specs.Arguments.{number_within}
+use Rattle.bhs_cli_words.specs.Exploring.{module_in}
 use Rattle.bhs_protocols_charts.specs.declared.memories.NetworkFacts.{NetworkFacts}
 use Rattle.bhs_protocols_charts.specs.declared.memories.Told.{Told}
 use Rattle.bhs_protocols_charts.specs.declared.memories.Told.TheVariants.{Links, Parity}
-use Rattle.bhs_searcher.specs.declared.protocol_agent.Protocol.{Protocol}
-use Rattle.bhs_searcher.specs.declared.protocol_agent.Protocol.TheVariants.{Halves, Shuttle}
+use Rattle.bhs_client.specs.declared.protocol_agent.Protocol.{Protocol}
+use Rattle.bhs_client.specs.declared.protocol_agent.Protocol.TheVariants.{Halves, Shuttle}
 use Rattle.bhs_player.specs.declared.words.AgentChoice.{AgentChoice}
 use Rattle.bhs_player.specs.declared.words.AgentChoice.TheVariants as runs
 use Rattle.bhs_player.specs.declared.words.Entrant.{Entrant}

@@ -9,7 +9,7 @@ pub mod wire;
 pub mod words;
 
 use agents::{PlayedAgent, agent_of, failure_of};
-use bhs_searcher::{PlayEnd, PlayFault};
+use bhs_client::{PlayEnd, PlayFault};
 use playing::played;
 use std::fmt::Display;
 use std::net::TcpStream;

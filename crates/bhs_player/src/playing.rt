@@ -1,13 +1,13 @@
 //! Playing an agent over a connection.
 
 ghost use Rattle.std.specs.Prelude.{IfErr, IfOk};
-ghost use Rattle.bhs_searcher.specs.Talks.{Breaks, Ends};
+ghost use Rattle.bhs_client.specs.Talks.{Breaks, Ends};
 ghost use Rattle.bhs_player.specs.Agents.{strategy_played};
 ghost use Rattle.bhs_player.specs.Wires.{IsCut, IsHeard, IsSaid, IsUnheard};
 
 use crate::agents::PlayedAgent;
 use crate::wire::Wire;
-use bhs_searcher::{PlayEnd, PlayFault, PlayLimits, play};
+use bhs_client::{PlayEnd, PlayFault, PlayLimits, play};
 use bhs_stream::{Input, Output};
 
 // The most observations of an agent: many more than there are in any match of a file.

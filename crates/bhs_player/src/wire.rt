@@ -5,7 +5,7 @@ ghost use Rattle.std.specs.List.{list_any};
 ghost use Rattle.bhs_wire.specs.Lines.{is_line_feed};
 ghost use Rattle.bhs_player.specs.Wires.{IsCut, IsHeard, IsSaid, IsUnheard, ended};
 
-use bhs_searcher::{Lost, ServerConnection};
+use bhs_client::{Lost, ServerConnection};
 use bhs_stream::{BUFFER, Input, Output, finish, send};
 use bhs_wire::split_line;
 use std::thread;

@@ -1,13 +1,13 @@
 //! The words that the program is run with.
 
 ghost use Rattle.std.specs.Prelude.{◌≡◌, IfOk, map, option_map, string_bytes};
-ghost use Rattle.bhs_command_line.specs.Arguments.{number_within};
+ghost use Rattle.bhs_cli_words.specs.Arguments.{number_within};
 ghost use Rattle.bhs_player.specs.Entrants as entrants;
 
-use bhs_command_line::{AgentModule, module_in, number_within};
+use bhs_cli_words::{AgentModule, module_in, number_within};
+use bhs_client::Protocol;
 use bhs_net::{MAX_NODES, MIN_NODES};
 use bhs_protocols_charts::memories::{NetworkFacts, Told};
-use bhs_searcher::Protocol;
 use std::alloc::{AllocError, Global};
 
 /// The default of `arena explore --spurious-wakeups`.

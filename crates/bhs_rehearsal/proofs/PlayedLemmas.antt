@@ -20,12 +20,12 @@ use Rattle.bhs_match.specs.declared.answers.Answer.{Answer}
 use Rattle.bhs_match.specs.Matches as matches
 use Rattle.bhs_match.specs.Matches.{Play}
 use Rattle.bhs_match.specs.Games.{IsPlayed}
-use Rattle.bhs_deal.specs.Links.{held_in}
-use Rattle.bhs_deal.specs.declared.draws.Drawn.{Drawn as DrawnOfCode}
-use Rattle.bhs_deal.specs.declared.draws.Drawn.TheVariants.{Delivered}
-use Rattle.bhs_deal.specs.Drawing.{IsPlayedIf, event_of, delivery_of}
-use Rattle.bhs_deal.specs.Drawing as drawing
-use Rattle.bhs_deal.proofs.DrawLemmas.{draws_are_those}
+use Rattle.bhs_deliveries.specs.Links.{held_in}
+use Rattle.bhs_deliveries.specs.declared.draws.Drawn.{Drawn as DrawnOfCode}
+use Rattle.bhs_deliveries.specs.declared.draws.Drawn.TheVariants.{Delivered}
+use Rattle.bhs_deliveries.specs.Drawing.{IsPlayedIf, event_of, delivery_of}
+use Rattle.bhs_deliveries.specs.Drawing as drawing
+use Rattle.bhs_deliveries.proofs.DrawLemmas.{draws_are_those}
 use Rattle.bhs_rehearsal.specs.Games.{Game, played, reply_to, drawn, delivered}
 use Rattle.bhs_rehearsal.specs.Takings.{DrawResult, after_draw, mark_at, told_to}
 

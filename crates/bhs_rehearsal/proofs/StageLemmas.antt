@@ -15,8 +15,8 @@ use Rattle.std.proofs.Math.Seq.{map-set_same}
 use Rattle.bhs_model.specs.declared.events.Event.{Event}
 use Rattle.bhs_model.specs.declared.events.Event.TheVariants.{Tell, Deliver, Close}
 use Rattle.bhs_model.specs.declared.replies.Reply.{Reply}
-use Rattle.bhs_lineup.specs.KeyTable.{Seat}
-use Rattle.bhs_lineup.specs.declared.lineups.Ready.{Ready}
+use Rattle.bhs_setups.specs.KeyTable.{Seat}
+use Rattle.bhs_setups.specs.declared.lineups.Ready.{Ready}
 use Rattle.bhs_rehearsal.specs.declared.choices.Choice.{Choice}
 use Rattle.bhs_rehearsal.specs.Choices.{chosen}
 use Rattle.bhs_rehearsal.specs.Games.{Game}

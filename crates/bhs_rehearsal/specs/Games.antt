@@ -9,8 +9,8 @@ use Rattle.bhs_model.specs.Runs.{State, run, reply, is_bound}
 use Rattle.bhs_model.specs.Kept.{keeps, lost}
 use Rattle.bhs_model.specs.Draws.{draw}
 use Rattle.bhs_model.specs.Setups.{world_of}
-use Rattle.bhs_deal.specs.Links.{held_in}
-use Rattle.bhs_deal.specs.Drawing.{delivery_of}
+use Rattle.bhs_deliveries.specs.Links.{held_in}
+use Rattle.bhs_deliveries.specs.Drawing.{delivery_of}
 
 -- a network, how the match on it is set up, the links that no draw lets an agent arrive over, and the events that
 -- were kept

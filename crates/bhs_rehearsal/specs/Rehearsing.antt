@@ -5,9 +5,9 @@ use Rattle.std.specs.declared.alloc.Global.{Global}
 use Rattle.std.specs.declared.result.Result.{Result}
 use Rattle.bhs_model.specs.Marks.{events_of}
 use Rattle.bhs_wire.specs.Lines.{seen}
-use Rattle.bhs_lineup.specs.KeyTable.{Seat}
-use Rattle.bhs_lineup.specs.declared.lineups.Ready.{Ready}
-use Rattle.bhs_lineup.specs.declared.lineups.Lineup.{Lineup}
+use Rattle.bhs_setups.specs.KeyTable.{Seat}
+use Rattle.bhs_setups.specs.declared.lineups.Ready.{Ready}
+use Rattle.bhs_setups.specs.declared.lineups.Lineup.{Lineup}
 use Rattle.bhs_rehearsal.specs.Games.{Game}
 use Rattle.bhs_rehearsal.specs.Connections.{Item, Says, Ends, Connection}
 use Rattle.bhs_rehearsal.specs.Stages.{Stage, Instruction, Feeds, EndsInput, Draws, Delivers, Closes, begun}

@@ -10,7 +10,7 @@ use Rattle.bhs_wire.specs.declared.commands.First.{First}
 use Rattle.bhs_wire.specs.declared.denials.Denial.{Denial}
 use Rattle.bhs_wire.specs.declared.denials.Denial.TheVariants as denials
 use Rattle.bhs_wire.specs.Lines.{said_by, found_in, left_by}
-use Rattle.bhs_lineup.specs.KeyTable.{Seat, seat_at}
+use Rattle.bhs_setups.specs.KeyTable.{Seat, seat_at}
 use Rattle.bhs_session.specs.Texts.{denial_text}
 use Rattle.bhs_session.specs.Port.{Enters, Tells, News, Answers}
 use Rattle.bhs_session.specs.Phase.{Phase, Fresh, Awaits}

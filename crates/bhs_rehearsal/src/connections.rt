@@ -9,8 +9,8 @@ ghost use Rattle.bhs_rehearsal.specs.Rehearsing.{game_of, team_of, seen_item};
 
 use crate::items::Item;
 use crate::takings::take_items;
-use bhs_lineup::Ready;
 use bhs_net::Memory;
+use bhs_setups::Ready;
 use bhs_wire::{LineKind, LineReader, Lines, Raw, kind_of, whole_line};
 use std::alloc::Global;
 use std::borrow::CowSlice;

@@ -7,9 +7,9 @@ ghost use Rattle.bhs_rehearsal.specs.Takings.{seen_entry};
 
 use crate::connections::Connection;
 use crate::items::Item;
-use bhs_lineup::Keys;
 use bhs_net::Memory;
 use bhs_session::key_in;
+use bhs_setups::Keys;
 use bhs_wire::{Denial, First, LineReader};
 
 // What the first item of a connection that was not let in comes to.

@@ -20,12 +20,12 @@ use crate::connections::Connection;
 use crate::outs::Out;
 use crate::rehearsals::Rehearsal;
 use crate::takings::play_event;
-use bhs_deal::{Drawn, deliver, draw};
-use bhs_lineup::Ready;
+use bhs_deliveries::{Drawn, deliver, draw};
 use bhs_match::Match;
 use bhs_model::{Event, Kept};
 use bhs_net::Memory;
 use bhs_session::push_reply;
+use bhs_setups::Ready;
 use bhs_wire::LentReply;
 use std::alloc::Global;
 

@@ -9,10 +9,10 @@ ghost use Rattle.bhs_rehearsal.specs.Rehearsing.{game_of, team_of, seen_item};
 ghost use Rattle.bhs_rehearsal.specs.Takings.{behind, goes_on, left_if};
 
 use crate::items::Item;
-use bhs_lineup::Ready;
 use bhs_model::{Command, Event, Mark};
 use bhs_net::Memory;
 use bhs_session::{command_in, ending_of, push_reply};
+use bhs_setups::Ready;
 use bhs_wire::{LentReply, LineReader};
 use std::alloc::Global;
 use std::collections::VecDeque;

@@ -2,8 +2,8 @@
 use Rattle.std.proofs.Common.{◌≡◌, ◌∙◌, ℕ, List, [], ◌∷◌, ◌++◌}
 use Rattle.std.proofs.Common.{refl, sym, ap, subst, append_assoc, append-nil}
 use Rattle.bhs_model.specs.declared.commands.Command.{Command}
-use Rattle.bhs_lock.specs.declared.model.Receipt.{Receipt}
-use Rattle.bhs_lock.specs.Passes.{kept_command}
+use Rattle.bhs_shared_match.specs.declared.model.Receipt.{Receipt}
+use Rattle.bhs_shared_match.specs.Passes.{kept_command}
 use Rattle.bhs_session.specs.Phase.{Phase}
 use Rattle.bhs_server.specs.Exchanges.{Exchange, Took, Refused, Came, receipts_after, reply_in, text_if, text_from}
 use Rattle.bhs_server.specs.Exchanges.{commands_in, receipts_in, kept_in, arrivals_in, phase_after}

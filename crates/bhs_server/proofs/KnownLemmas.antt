@@ -13,10 +13,10 @@ use Rattle.bhs_model.specs.declared.replies.Reply.TheVariants as replies
 use Rattle.bhs_model.specs.declared.replies.Why.{Why}
 use Rattle.bhs_wire.specs.Lines.{Line}
 use Rattle.bhs_stream.specs.Streams.{WriteAnswer}
-use Rattle.bhs_lock.specs.declared.model.Receipt.{Receipt}
-use Rattle.bhs_lock.specs.Passes.{Passed, tally_in}
-use Rattle.bhs_lock.specs.Recording.{is_unheard, refusal_by, IsSubmitted}
-use Rattle.bhs_lock.specs.Cells.{Given, GainsArrival, IsNews}
+use Rattle.bhs_shared_match.specs.declared.model.Receipt.{Receipt}
+use Rattle.bhs_shared_match.specs.Passes.{Passed, tally_in}
+use Rattle.bhs_shared_match.specs.Recording.{is_unheard, refusal_by, IsSubmitted}
+use Rattle.bhs_shared_match.specs.Cells.{Given, GainsArrival, IsNews}
 use Rattle.bhs_session.specs.declared.endings.Ended.{Ended as Ending}
 use Rattle.bhs_session.specs.declared.endings.Ended.TheVariants as endings
 use Rattle.bhs_session.specs.Phase.{Phase, Fresh, Ready, Awaits, Owes, Leaves, Finished, answered_by, stopped}

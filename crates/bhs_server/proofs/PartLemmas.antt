@@ -6,9 +6,9 @@ use Rattle.std.proofs.lemmas.Bool.{cond-true, cond-false, eq-eqb}
 use Rattle.std.proofs.lemmas.Bool.Decides.{eqb_tells}
 use Rattle.std.proofs.lemmas.List.{append-nil, length_push}
 use Rattle.rand_chacha.specs.ChaCha.{ChaCha}
-use Rattle.bhs_lock.specs.Cells.{Given}
-use Rattle.bhs_lock.specs.Passes.{Passed}
-use Rattle.bhs_lock.specs.declared.settling.Settlement.{Settlement}
+use Rattle.bhs_shared_match.specs.Cells.{Given}
+use Rattle.bhs_shared_match.specs.Passes.{Passed}
+use Rattle.bhs_shared_match.specs.declared.settling.Settlement.{Settlement}
 use Rattle.bhs_server.specs.declared.sessions.Session.{Session}
 use Rattle.bhs_server.specs.declared.settling.Refused.{Refused}
 use Rattle.bhs_server.specs.Settling.{AreSettledBy, HasFared, HaveFared, IsSettledBy, at_start, others_than, passes_in}

@@ -6,11 +6,11 @@ use Rattle.rand_chacha.specs.ChaCha.{ChaCha}
 use Rattle.bhs_time.specs.declared.kinds.ScheduleKind.{ScheduleKind}
 use Rattle.bhs_time.specs.declared.kinds.ScheduleKind.TheVariants.{Adaptive, Oblivious}
 use Rattle.bhs_match.specs.Matches.{Play}
-use Rattle.bhs_lock.specs.Cells.{Given}
-use Rattle.bhs_lock.specs.declared.settling.Settlement.{Settlement}
+use Rattle.bhs_shared_match.specs.Cells.{Given}
+use Rattle.bhs_shared_match.specs.declared.settling.Settlement.{Settlement}
 use Rattle.bhs_server.specs.declared.settling.Refused.{Refused}
 use Rattle.bhs_server.specs.declared.settling.Refused.TheVariants.{Unsettled, Untimely}
-use Rattle.bhs_deal.specs.declared.timeliness.Untimely.{Untimely as Why}
+use Rattle.bhs_deliveries.specs.declared.timeliness.Untimely.{Untimely as Why}
 use Rattle.bhs_server.specs.Settling.{HaveFared, HasFared, IsTimely, IsAstray, at_start}
 
 abbrev Fared : Type 0

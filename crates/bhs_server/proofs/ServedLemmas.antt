@@ -12,12 +12,12 @@ use Rattle.bhs_wire.specs.declared.denials.Denial.{Denial}
 use Rattle.bhs_wire.specs.declared.denials.Denial.TheVariants as denials
 use Rattle.bhs_wire.specs.Lines.{Line, said_by}
 use Rattle.bhs_stream.specs.Streams.{Chunk, Bytes, End, Fails, WriteAnswer}
-use Rattle.bhs_lineup.specs.KeyTable.{Seat}
-use Rattle.bhs_lock.specs.declared.model.Receipt.{Receipt}
-use Rattle.bhs_lock.specs.Passes.{Passed}
-use Rattle.bhs_lock.specs.Recording.{IsSubmitted}
-use Rattle.bhs_lock.specs.Cells.{Given}
-use Rattle.bhs_lock.specs.Unclaimed.{IsFresh}
+use Rattle.bhs_setups.specs.KeyTable.{Seat}
+use Rattle.bhs_shared_match.specs.declared.model.Receipt.{Receipt}
+use Rattle.bhs_shared_match.specs.Passes.{Passed}
+use Rattle.bhs_shared_match.specs.Recording.{IsSubmitted}
+use Rattle.bhs_shared_match.specs.Cells.{Given}
+use Rattle.bhs_shared_match.specs.Unclaimed.{IsFresh}
 use Rattle.bhs_session.specs.declared.endings.Ended.{Ended as Ending}
 use Rattle.bhs_session.specs.declared.endings.Ended.TheVariants as endings
 use Rattle.bhs_session.specs.declared.port.Entered.TheVariants as entered

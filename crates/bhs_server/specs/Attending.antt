@@ -2,7 +2,7 @@
 use Rattle.std.specs.Prelude.{ℕ, ◌≡◌, Option, Some, None, true, List, []}
 use Rattle.bhs_model.specs.declared.commands.Command.{Command}
 use Rattle.bhs_session.specs.declared.endings.Ended.{Ended}
-use Rattle.bhs_lock.specs.Passes.{Passed}
+use Rattle.bhs_shared_match.specs.Passes.{Passed}
 use Rattle.bhs_server.specs.declared.ports.SessionAgent.{SessionAgent}
 use Rattle.bhs_server.specs.Written.{IsWrittenBy, is_between}
 

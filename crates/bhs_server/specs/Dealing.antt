@@ -2,9 +2,9 @@
 use Rattle.std.specs.Prelude.{ℕ, zero, suc, ◌-◌, ◌^◌, ◌≡◌, ◌⊎◌, Bool, true}
 use Rattle.rand_chacha.specs.ChaCha.{ChaCha}
 use Rattle.bhs_match.specs.Decided.{AreAllDone}
-use Rattle.bhs_deal.specs.Dealer.{moved_on}
-use Rattle.bhs_lock.specs.Cells.{Given}
-use Rattle.bhs_lock.specs.Deciding.{WasSeen}
+use Rattle.bhs_deliveries.specs.Dealer.{moved_on}
+use Rattle.bhs_shared_match.specs.Cells.{Given}
+use Rattle.bhs_shared_match.specs.Deciding.{WasSeen}
 
 -- the dealer after this number of words
 abbrev pub moved_by : (words : ℕ) → ChaCha → ChaCha

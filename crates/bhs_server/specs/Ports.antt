@@ -7,11 +7,11 @@ use Rattle.bhs_model.specs.declared.replies.Reply.TheVariants.{Over, No}
 use Rattle.bhs_model.specs.declared.replies.Why.TheVariants.{Agent}
 use Rattle.bhs_session.specs.declared.port.Entered.TheVariants.{Key, Taken, In}
 use Rattle.bhs_session.specs.Port.{PortRequest, Enters, Tells, News, PortAnswer, LetIn, Answers, NoMemory}
-use Rattle.bhs_lineup.specs.KeyTable.{Seat, seat_at}
-use Rattle.bhs_lock.specs.Passes.{Passed}
-use Rattle.bhs_lock.specs.Unclaimed.{IsFresh}
-use Rattle.bhs_lock.specs.Recording.{IsSubmitted}
-use Rattle.bhs_lock.specs.Cells.{Given, IsNews}
+use Rattle.bhs_setups.specs.KeyTable.{Seat, seat_at}
+use Rattle.bhs_shared_match.specs.Passes.{Passed}
+use Rattle.bhs_shared_match.specs.Unclaimed.{IsFresh}
+use Rattle.bhs_shared_match.specs.Recording.{IsSubmitted}
+use Rattle.bhs_shared_match.specs.Cells.{Given, IsNews}
 use Rattle.bhs_server.specs.declared.ports.SessionAgent.{SessionAgent}
 
 -- The keys, the matches as they were given, and the session's agent, once there is one.

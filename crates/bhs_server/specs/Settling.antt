@@ -7,14 +7,14 @@ use Rattle.bhs_time.specs.declared.kinds.ScheduleKind.{ScheduleKind}
 use Rattle.bhs_time.specs.declared.kinds.ScheduleKind.TheVariants.{Oblivious}
 use Rattle.bhs_time.specs.TimedLogs.{IsTimedLog}
 use Rattle.bhs_match.specs.Matches.{Play, world_in}
-use Rattle.bhs_deal.specs.Links.{held_in}
-use Rattle.bhs_deal.specs.Scheduling.{whole_schedule, stamps_in}
-use Rattle.bhs_deal.specs.Timeliness.{IsUntimelyAt}
-use Rattle.bhs_deal.specs.declared.timeliness.Untimely.{Untimely as Why}
-use Rattle.bhs_lock.specs.Passes.{Passed}
-use Rattle.bhs_lock.specs.Cells.{Given}
-use Rattle.bhs_lock.specs.Disputes.{AreInAccord, HasRefused}
-use Rattle.bhs_lock.specs.declared.settling.Settlement.{Settlement}
+use Rattle.bhs_deliveries.specs.Links.{held_in}
+use Rattle.bhs_deliveries.specs.Scheduling.{whole_schedule, stamps_in}
+use Rattle.bhs_deliveries.specs.Timeliness.{IsUntimelyAt}
+use Rattle.bhs_deliveries.specs.declared.timeliness.Untimely.{Untimely as Why}
+use Rattle.bhs_shared_match.specs.Passes.{Passed}
+use Rattle.bhs_shared_match.specs.Cells.{Given}
+use Rattle.bhs_shared_match.specs.Disputes.{AreInAccord, HasRefused}
+use Rattle.bhs_shared_match.specs.declared.settling.Settlement.{Settlement}
 use Rattle.bhs_session.specs.declared.endings.Ended.{Ended}
 use Rattle.bhs_server.specs.declared.sessions.Session.{Session}
 use Rattle.bhs_server.specs.declared.settling.Refused.{Refused}

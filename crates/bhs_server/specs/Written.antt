@@ -4,12 +4,12 @@ use Rattle.std.specs.Prelude.{option_to_list}
 use Rattle.bhs_model.specs.declared.commands.Command.{Command}
 use Rattle.bhs_model.specs.declared.commands.Command.TheVariants.{Leave}
 use Rattle.bhs_model.specs.declared.replies.Reply.TheVariants.{Over}
-use Rattle.bhs_lock.specs.declared.model.Receipt.{Receipt}
-use Rattle.bhs_lock.specs.Passes.{Passed}
-use Rattle.bhs_lock.specs.Cells.{Given}
+use Rattle.bhs_shared_match.specs.declared.model.Receipt.{Receipt}
+use Rattle.bhs_shared_match.specs.Passes.{Passed}
+use Rattle.bhs_shared_match.specs.Cells.{Given}
 use Rattle.bhs_session.specs.declared.endings.Ended.{Ended}
 use Rattle.bhs_session.specs.declared.endings.Ended.TheVariants as endings
-use Rattle.bhs_lineup.specs.KeyTable.{Seat}
+use Rattle.bhs_setups.specs.KeyTable.{Seat}
 use Rattle.bhs_wire.specs.Lines.{Line, lines}
 use Rattle.bhs_stream.specs.Streams.{Chunk, WriteAnswer}
 use Rattle.bhs_session.specs.Texts.{text_of, command_of}

@@ -4,8 +4,8 @@ ghost use Rattle.std.specs.Prelude.{ℕ, ◌≡◌, ◌<◌, ◌-◌, ◌^◌, I
 ghost use Rattle.bhs_server.specs.Dealing.{moved_by, MayClose};
 
 use crate::pacing::{Pace, PaceStep};
-use bhs_deal::Dealer;
-use bhs_lock::Cell;
+use bhs_deliveries::Dealer;
+use bhs_shared_match::Cell;
 use std::sync::Wait;
 use std::time::{Clock, Duration, Instant};
 use std::{io, thread};

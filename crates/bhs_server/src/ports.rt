@@ -4,11 +4,11 @@ ghost use Rattle.std.specs.Prelude.{◌≡◌, None};
 ghost use Rattle.bhs_server.specs.Ports.{agreed};
 
 use crate::connections::SessionHooks;
-use bhs_lineup::Keys;
-use bhs_lock::{Cell, Gate, Pass};
 use bhs_model::{Command, Reply, Why};
 use bhs_net::Memory;
 use bhs_session::{Entered, Port};
+use bhs_setups::Keys;
+use bhs_shared_match::{Cell, Gate, Pass};
 use bhs_wire::Raw;
 use std::marker::Model;
 use std::sync::Wait;

@@ -5,10 +5,10 @@ ghost use Rattle.bhs_server.specs.Settling.{HasFared, HaveFared, IsAstray, IsTim
 ghost use Rattle.bhs_server.specs.Settling.{AreSettledBy, IsSettledBy, others_than, passes_in, sessions_on};
 
 use crate::sessions::Session;
-use bhs_deal::{Dealer, Schedule, Untimely, first_untimely};
-use bhs_lock::{Cell, Pass, Settlement, settle};
+use bhs_deliveries::{Dealer, Schedule, Untimely, first_untimely};
 use bhs_net::Memory;
 use bhs_session::Ended;
+use bhs_shared_match::{Cell, Pass, Settlement, settle};
 use bhs_time::ScheduleKind;
 use std::alloc::Global;
 
@@ -16,7 +16,7 @@ use std::alloc::Global;
 #[derive(Debug, Drop)]
 pub enum Refused {
     /// The match disagrees with the passes of its sessions.
-    Unsettled(bhs_lock::Unsettled),
+    Unsettled(bhs_shared_match::Unsettled),
     /// It settles, and with its turn the event at this place of the log belongs to no timed execution.
     Untimely {
         settlement: Settlement,

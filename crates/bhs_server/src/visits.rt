@@ -4,9 +4,9 @@ ghost use Rattle.bhs_server.specs.Written.{IsAttended};
 
 use crate::connections::SessionHooks;
 use crate::ports::{CellPort, SessionAgent};
-use bhs_lineup::Keys;
-use bhs_lock::{Cell, Gate};
 use bhs_session::{Ended, serve};
+use bhs_setups::Keys;
+use bhs_shared_match::{Cell, Gate};
 use bhs_stream::{Input, Output};
 use std::alloc::Global;
 use std::sync::Wait;

@@ -2,8 +2,8 @@
 
 use crate::strays::Strays;
 use crate::unserved::Unserved;
-use bhs_lock::Cell;
 use bhs_session::Ended;
+use bhs_shared_match::Cell;
 use bhs_wire::Denial;
 use std::net::SocketAddr;
 

@@ -1,5 +1,5 @@
 use super::super::triangle::network;
-use bhs_deal::{Held, HeldFault};
+use bhs_deliveries::{Held, HeldFault};
 use std::test::Fail;
 
 #[test]

@@ -1,5 +1,5 @@
 use super::super::triangle::{network, setup};
-use bhs_deal::{Dealer, Drawn, Held, Waits, deliver, draw, draw_oblivious};
+use bhs_deliveries::{Dealer, Drawn, Held, Waits, deliver, draw, draw_oblivious};
 use bhs_match::Match;
 use bhs_model::{Command, Event};
 use bhs_time::Delays;

@@ -1,5 +1,5 @@
 use super::super::triangle::{network, setup};
-use bhs_deal::{Dealer, Held, Schedule, Untimely, first_untimely};
+use bhs_deliveries::{Dealer, Held, Schedule, Untimely, first_untimely};
 use bhs_match::{Match, Sealed};
 use bhs_model::{Command, Event};
 use bhs_time::Delays;

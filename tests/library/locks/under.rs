@@ -1,7 +1,7 @@
 //! The gate is called under the lock: while one command is held there, no other of its match comes so far.
 
 use super::{cell, claimed, enters, wait_for};
-use bhs_lock::Gate;
+use bhs_shared_match::Gate;
 use std::sync::atomic::{AtomicBool, Ordering};
 use std::test::Fail;
 use std::thread;

@@ -2,11 +2,11 @@
 //! has all that it had. What a call takes over is made anew for the second one.
 
 use super::{TRIANGLE, mark, triangle, write};
-use bhs_assembly::assemble;
-use bhs_deal::Held;
+use bhs_tournament::assemble;
+use bhs_deliveries::Held;
 use bhs_files::{FileFault, read_network, read_tournament};
-use bhs_lineup::Lineup;
-use bhs_lock::{Answer, Cell, Open, Pass};
+use bhs_setups::Lineup;
+use bhs_shared_match::{Answer, Cell, Open, Pass};
 use bhs_match::{Match, Sealed};
 use bhs_model::{Command, Reply, Text};
 use bhs_net::{Memory, Net};

@@ -2,9 +2,9 @@
 //! shows, or that it was written; such a command is told again. Each other one is answered at once.
 
 use super::{TRIANGLE, mark, write};
-use bhs_deal::Held;
+use bhs_deliveries::Held;
 use bhs_files::read_network;
-use bhs_lock::{Answer, Cell, Hall, Open};
+use bhs_shared_match::{Answer, Cell, Hall, Open};
 use bhs_match::Match;
 use bhs_model::{Command, Reply, Text, Why};
 use bhs_net::Memory;

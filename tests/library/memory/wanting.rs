@@ -1,7 +1,7 @@
 //! A rehearsal answers what it answers with ample memory, or it wants memory, and then for good.
 
 use super::mark;
-use bhs_orders::built_in;
+use bhs_cli::built_in;
 use bhs_rehearsal::{Out, Rehearsal, RehearsalFault};
 use std::alloc::Global;
 use std::process::Abort;

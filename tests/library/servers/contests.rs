@@ -1,6 +1,6 @@
 use super::super::cells::cell;
-use bhs_deal::Dealer;
-use bhs_lineup::Keys;
+use bhs_deliveries::Dealer;
+use bhs_setups::Keys;
 use bhs_server::{Contest, Pace, PaceStep};
 use std::alloc::Global;
 use std::sync::atomic::{AtomicBool, AtomicU32, Ordering};

@@ -1,5 +1,5 @@
 use super::contests::Patience;
-use bhs_lock::Gate;
+use bhs_shared_match::Gate;
 use std::sync::atomic::{AtomicBool, Ordering};
 use std::thread;
 use std::time::{Clock, Duration};

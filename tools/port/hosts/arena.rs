@@ -22,7 +22,7 @@ fn main() {
         }
     }
     let mut writer = BufWriter::with_capacity(32 * 1024, Out);
-    let status = bhs_program::run(Global, &System, &words, &mut In, &mut writer, &mut std::io::stderr());
+    let status = bhs_cli_run::run(Global, &System, &words, &mut In, &mut writer, &mut std::io::stderr());
     drop(writer);
     exit(status.into());
 }

@@ -116,7 +116,7 @@ pub extern "C" fn arena() -> i32 {
         .map(|word| rattle::collections::String::from_std(Global, word.to_string()))
         .collect();
     let mut writer = BufWriter::with_capacity(32 * 1024, Stream(1));
-    let status = bhs_program::run(Global, &page().kept, &words, &mut In, &mut writer, &mut Stream(2));
+    let status = bhs_cli_run::run(Global, &page().kept, &words, &mut In, &mut writer, &mut Stream(2));
     drop(writer);
     status.into()
 }

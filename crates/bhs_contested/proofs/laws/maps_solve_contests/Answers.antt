@@ -1,5 +1,0 @@
-use Rattle.bhs_contested.proofs.InstanceLemmas.{maps_solve_contests}
-use Rattle.bhs_contested.proofs.laws.maps_solve_contests.Goals as goal
-
-pub returns : goal.returns
-returns c = maps_solve_contests

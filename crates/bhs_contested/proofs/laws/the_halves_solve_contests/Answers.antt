@@ -1,5 +1,0 @@
-use Rattle.bhs_contested.proofs.InstanceLemmas.{halves_solve_contests}
-use Rattle.bhs_contested.proofs.laws.the_halves_solve_contests.Goals as goal
-
-pub returns : goal.returns
-returns c = halves_solve_contests

@@ -1,9 +1,0 @@
-use Rattle.std.proofs.Common.{refl}
-use Rattle.bhs_contested.proofs.ExampleLemmas.{law_speaks}
-use Rattle.bhs_contested.proofs.laws.worked_contest.Goals as goal
-
-pub returns-clause-law : goal.returns-clause-law
-returns-clause-law c = law_speaks
-
-pub returns-clause-verdict : goal.returns-clause-verdict
-returns-clause-verdict c = refl

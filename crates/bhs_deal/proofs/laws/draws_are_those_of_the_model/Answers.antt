@@ -1,5 +1,0 @@
-use Rattle.bhs_deal.proofs.DrawLemmas.{draws_are_those}
-use Rattle.bhs_deal.proofs.laws.draws_are_those_of_the_model.Goals as goal
-
-pub returns : goal.returns
-returns c = draws_are_those

@@ -1,5 +1,0 @@
-use Rattle.bhs_deal.proofs.Words.{next_words-dealer_at}
-use Rattle.bhs_deal.proofs.laws.gives_its_stream_in_order.Goals as goal
-
-pub returns : goal.returns
-returns c = next_words-dealer_at

@@ -1,6 +1,0 @@
-use Rattle.std.proofs.Common.{ℕ, ◌≡◌, ◌<◌, None}
-use Rattle.bhs_deal.specs.Timeliness.{due_of}
-use Rattle.bhs_deal.proofs.timeliness.nobody_waits.Given as goal
-
-abbrev pub invariant-loop-due : goal.invariant-loop-due
-invariant-loop-due l = (agent : ℕ) → agent < l.due-index → due_of l.dues agent ≡ None

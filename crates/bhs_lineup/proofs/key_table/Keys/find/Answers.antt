@@ -1,8 +1,0 @@
-use Rattle.std.proofs.Common.{ap, ◌∙◌}
-use Rattle.bhs_lineup.specs.KeyTable.{seat_at}
-use Rattle.bhs_lineup.proofs.KeyTableLemmas.{finds}
-use Rattle.bhs_lineup.proofs.key_table.Keys.find.Goals as goal
-
-pub returns : goal.returns
-returns c = c.copied.ensures ∙ c.get.ensures.value ∙ finds c.args.key.now c.self.inside.seats.entries
-    ∙ ap (seat_at c.args.key.now) c.self.view_is

@@ -1,6 +1,0 @@
-use Rattle.std.proofs.Common.{map, take}
-use Rattle.bhs_lock.specs.Settling.{IsLeast, arrived_by}
-use Rattle.bhs_lock.proofs.differences.first_stray.Given as goal
-
-abbrev pub invariant-loop-pass : goal.invariant-loop-pass
-invariant-loop-pass l = IsLeast (map (arrived_by l.play) (take l.pass-index l.passes)) l.best

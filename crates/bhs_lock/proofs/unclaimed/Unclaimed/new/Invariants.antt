@@ -1,6 +1,0 @@
-use Rattle.std.proofs.Common.{◌≡◌, length}
-use Rattle.bhs_lock.specs.Unclaimed.{AreFresh}
-use Rattle.bhs_lock.proofs.unclaimed.Unclaimed.new.Given as goal
-
-abbrev pub invariant-loop-agent : goal.invariant-loop-agent
-invariant-loop-agent l = (length l.left.items ≡ l.agent) × AreFresh l.left.items

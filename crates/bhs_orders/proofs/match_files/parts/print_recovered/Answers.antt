@@ -1,6 +1,0 @@
-use Rattle.std.proofs.Common.{refl}
-use Rattle.bhs_orders.specs.Showing.{stops}
-use Rattle.bhs_orders.proofs.match_files.parts.print_recovered.Goals as goal
-
-pub returns-in-Err : goal.returns-in-Err
-returns-in-Err g c = stops c.in-Err.fault c.report_with_cause.ensures refl

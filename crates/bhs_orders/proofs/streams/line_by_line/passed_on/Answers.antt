@@ -1,5 +1,0 @@
-use Rattle.bhs_orders.specs.Showing.{cut_off}
-use Rattle.bhs_orders.proofs.streams.line_by_line.passed_on.Goals as goal
-
-pub returns-in-Err : goal.returns-in-Err
-returns-in-Err g c = λ start text ok err. cut_off c.in-Err.fault c.report.ensures (rw c.in-Err.is at err)

@@ -1,6 +1,0 @@
-use Rattle.std.proofs.Common.{◌≡◌, ◌++◌, drop, string_bytes}
-use Rattle.bhs_orders_serve.specs.LogLines.{numbers}
-use Rattle.bhs_orders_serve.proofs.log_lines.numbers.Given as goal
-
-abbrev pub invariant-loop-one : goal.invariant-loop-one
-invariant-loop-one l = string_bytes l.text ++ numbers (drop l.one-index l.all) ≡ numbers l.all

@@ -1,5 +1,0 @@
-use Rattle.bhs_searcher.proofs.ReplyLemmas.{reply_on-line}
-use Rattle.bhs_searcher.proofs.laws.replies_are_read.Goals as goal
-
-pub returns : goal.returns
-returns c = reply_on-line

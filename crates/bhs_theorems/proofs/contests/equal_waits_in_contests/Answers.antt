@@ -1,5 +1,0 @@
-use Rattle.bhs_theorems.proofs.ContestTimeLemmas.{waits_in_contests_lemma}
-use Rattle.bhs_theorems.proofs.contests.equal_waits_in_contests.Goals as goal
-
-pub returns : goal.returns
-returns c = waits_in_contests_lemma

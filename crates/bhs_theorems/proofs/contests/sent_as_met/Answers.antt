@@ -1,5 +1,0 @@
-use Rattle.bhs_theorems.proofs.ContestMetLemmas.{sent_as_met_lemma}
-use Rattle.bhs_theorems.proofs.contests.sent_as_met.Goals as goal
-
-pub returns : goal.returns
-returns c = sent_as_met_lemma

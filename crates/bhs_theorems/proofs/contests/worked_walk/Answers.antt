@@ -1,5 +1,0 @@
-use Rattle.bhs_theorems.proofs.TimeExampleLemmas.{spoken_lemma}
-use Rattle.bhs_theorems.proofs.contests.worked_walk.Goals as goal
-
-pub returns : goal.returns
-returns c = spoken_lemma

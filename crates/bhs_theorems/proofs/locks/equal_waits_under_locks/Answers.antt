@@ -1,5 +1,0 @@
-use Rattle.bhs_theorems.proofs.HallTimeLemmas.{waits_lemma}
-use Rattle.bhs_theorems.proofs.locks.equal_waits_under_locks.Goals as goal
-
-pub returns : goal.returns
-returns c = waits_lemma

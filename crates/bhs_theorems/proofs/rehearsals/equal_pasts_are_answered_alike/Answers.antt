@@ -1,5 +1,0 @@
-use Rattle.bhs_theorems.proofs.CallLemmas.{called_lemma}
-use Rattle.bhs_theorems.proofs.rehearsals.equal_pasts_are_answered_alike.Goals as goal
-
-pub returns : goal.returns
-returns c = called_lemma

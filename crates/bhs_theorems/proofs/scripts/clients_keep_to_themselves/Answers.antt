@@ -1,5 +1,0 @@
-use Rattle.bhs_theorems.proofs.ApartLemmas.{clients_lemma}
-use Rattle.bhs_theorems.proofs.scripts.clients_keep_to_themselves.Goals as goal
-
-pub returns : goal.returns
-returns c = clients_lemma

@@ -1,5 +1,0 @@
-use Rattle.bhs_theorems.proofs.FeedLemmas.{cuts_lemma}
-use Rattle.bhs_theorems.proofs.scripts.cuts_do_alike.Goals as goal
-
-pub returns : goal.returns
-returns c = cuts_lemma

@@ -1,5 +1,0 @@
-use Rattle.bhs_theorems.proofs.ScriptIsolationLemmas.{apart_lemma, unheard_lemma}
-use Rattle.bhs_theorems.proofs.scripts.matches_are_apart.Goals as goal
-
-pub returns : goal.returns
-returns c = record { worlds = apart_lemma; scripts = unheard_lemma }

@@ -1,5 +1,0 @@
-use Rattle.bhs_theorems.proofs.OfMatchLemmas.{matches_lemma}
-use Rattle.bhs_theorems.proofs.scripts.matches_keep_to_themselves.Goals as goal
-
-pub returns : goal.returns
-returns c = matches_lemma

@@ -1,6 +1,0 @@
-use Rattle.bhs_theorems.proofs.SettledLemmas.{rest_lemma}
-use Rattle.bhs_theorems.proofs.SettlingLemmas.{all_taken_lemma, settle_lemma, scripts_lemma}
-use Rattle.bhs_theorems.proofs.scripts.stages_settle.Goals as goal
-
-pub returns : goal.returns
-returns c = record { step = settle_lemma; script = scripts_lemma; rest = rest_lemma; all_taken = all_taken_lemma }
