@@ -76,7 +76,7 @@ class Clauses(unittest.TestCase):
             [
                 "the other cases",
                 "the case `Exceeds`",
-                "`Host` of `bhs_orders_explore`, which is a `Team` (`IsExchange`)",
+                "`Host` of `bhs_cli_explore`, which is a `Team` (`IsExchange`)",
             ],
         )
 
@@ -115,7 +115,11 @@ class Site(InTemporary):
             capture_output=True,
             text=True,
         )
-        self.assertEqual((result.returncode, result.stderr), (0, ""))
+        # the first build compiles the page's program, and shows how far it is
+        errors = [
+            line for line in result.stderr.splitlines() if "compiling" not in line
+        ]
+        self.assertEqual((result.returncode, errors), (0, []))
         return out
 
     @unittest.skipUnless(has_mkdocs(), "Debian's mkdocs-material is not installed")

@@ -34,9 +34,9 @@ from tests.integration.course.attacked_course import (
     Course,
     first_match,
 )
-from tests.integration.play.test_programs import running
 from tests.support.courses import HEAD, HONEST, team
 from tests.support.output import run_call
+from tests.support.processes import remaining
 
 
 class Stopping(Course):
@@ -293,7 +293,7 @@ sys.exit(f"has left one {sys.argv[2]}")
             with self.subTest(isolation):
                 output, _, key = self.last_words(isolation, code)[0].rpartition(" ")
                 self.assertEqual(output, "has left one")
-                self.assertEqual(running(key), [])
+                self.assertEqual(remaining(key), [])
                 self.assertFalse(os.path.exists("/tmp/left-by-a-program"))
         self.assertIn("stay when a match has ended", Isolation.NONE.value)
 

@@ -21,10 +21,10 @@ from arena_lab.sandbox import sandboxes
 from arena_lab.sandbox.sandboxes import Sandbox, Isolation, ProgramFiles, SandboxOptions
 from arena_lab.support import fields
 from arena_lab.sweep import tables
-from tests.integration.play.test_programs import running
 from tests.support.courses import HEAD, HONEST, rows_of_teams, team
 from tests.support.matches import AGENTS, InFolder, program
 from tests.support.output import run_call
+from tests.support.processes import remaining
 
 EXAMPLE = TOP / "examples" / "course" / "course.toml"
 # from which the league table of the page of the examples comes
@@ -211,7 +211,7 @@ class Grading(InFolder):
         self.assertEqual(
             rows_of_teams(self.folder / "out")["silent"][0]["fault"], SILENT
         )
-        self.assertEqual(running(self.folder.name), [])
+        self.assertEqual(remaining(self.folder.name), [])
         self.assertIn(
             "depends on the machine",
             (self.folder / "out" / "team-silent.html").read_text(),

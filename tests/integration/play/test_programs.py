@@ -13,9 +13,9 @@ from arena_lab.play.matches import PlayedMatch
 from arena_lab.play.schedules import schedule_of
 from arena_lab.play.teams import OUTSIDE, AgentWords
 from arena_lab.rules.networks import ring
-from arena_lab.sandbox.processes import process_numbers, command_words
 from tests.support.matches import AGENTS, RING, fixture, play_fixture, program, under
 from tests.support.output import InTemporary
+from tests.support.processes import remaining
 
 PYTHON = AgentWords(
     OUTSIDE,
@@ -37,14 +37,6 @@ FAULTS = {
 WAITED_FOR = ("silent", "endless", "blank")
 SHORT = 1
 LONG = 30
-
-
-def running(words: str) -> List[str]:
-    """The processes whose command lines have these words."""
-    results = [
-        f"{process} {' '.join(command_words(process))}" for process in process_numbers()
-    ]
-    return [line for line in results if words in line]
 
 
 class Programs(InTemporary):
@@ -101,7 +93,7 @@ class Programs(InTemporary):
                 result = self.of([RING, rude], 1, SHORT if how in WAITED_FOR else LONG)
                 self.assertEqual(result.faults, [fault])
                 self.assertTrue(result.has_failed())
-                self.assertEqual(running(str(RUDE)), [])
+                self.assertEqual(remaining(str(RUDE)), [])
 
     def test_what_the_silent_started_is_ended(self) -> None:
         rude = AgentWords(
@@ -109,7 +101,7 @@ class Programs(InTemporary):
             f"{sys.executable} {RUDE} silent:{self.folder.name} {{host}} {{port}} {{key}}",
         )
         self.of([rude, rude], 1, SHORT)
-        self.assertEqual(running(self.folder.name), [])
+        self.assertEqual(remaining(self.folder.name), [])
 
     def test_a_command_that_cannot_be_started_is_told(self) -> None:
         for words in ("no-such-program {port}", "cat {nothing}"):

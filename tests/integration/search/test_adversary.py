@@ -146,7 +146,7 @@ class WrongTeams(InFolder):
 
 
 class CommandLine(InFolder):
-    def run(self, *words: str) -> Tuple[int, str]:
+    def play_adversary(self, *words: str) -> Tuple[int, str]:
         status, output, errors = run_call(
             main,
             [
@@ -161,7 +161,7 @@ class CommandLine(InFolder):
         return status, output + errors
 
     def test_it_says_what_each_phase_forces_and_keeps_the_schedule(self) -> None:
-        status, output = self.run(
+        status, output = self.play_adversary(
             "--network", "ring:8", "--agent", "examples/agents/ring.py {nodes}"
         )
         self.assertEqual(status, 0)
@@ -173,7 +173,7 @@ class CommandLine(InFolder):
         self.assertTrue((self.folder / "find" / "schedule.txt").exists())
 
     def test_a_team_that_fails_is_refuted(self) -> None:
-        status, output = self.run(
+        status, output = self.play_adversary(
             "--network",
             "ring:8",
             "--agent",
@@ -190,7 +190,7 @@ class CommandLine(InFolder):
             ["--dark", "0,0"],
         ):
             with self.subTest(words=words):
-                status, output = self.run(*words, "--agent", agent)
+                status, output = self.play_adversary(*words, "--agent", agent)
                 self.assertEqual((status, "two agents on a ring" in output), (2, True))
 
     def test_two_rings_are_no_ring(self) -> None:
