@@ -2,6 +2,7 @@
 of what a server says, and how it ends. They are skipped where the agents' program is
 not built."""
 import resource
+import socket
 import subprocess
 import time
 import unittest
@@ -24,6 +25,15 @@ GONE = '{"ok":"gone"}'
 NOTED = '{"ok":"noted"}'
 OVER = '{"ok":"over"}'
 ARRIVED = '{"board":"ab","from":1,"ok":"here","ports":2}'
+# what the program says of the words by which a server turns a client away
+REJECTIONS = {
+    "full": "the server has no room for another client now",
+    "late": "the first line came too late, or the server needed the room",
+    "memory": "the server has no memory for another client now",
+    "key": "no agent has this key. Compare it with the tournament's file",
+    "taken": "an agent has entered with this key before, and a key serves once",
+    "enter": "the agent's first command is another than Enter",
+}
 # functions that are imported, by their places
 IMPORTS = (
     "enter",
@@ -317,6 +327,46 @@ def fail_agents(stage: Stage) -> None:
             agent(call("accuse", 1) + DROP + body),
             Talk([NOTED], ['{"do":"accuse","port":1}'], text, BROKEN),
         )
+
+
+@case("an agent says why a server turns it away")
+def play_rejections(stage: Stage) -> None:
+    body = call("enter") + DROP + call("look") + DROP
+    for word, why in REJECTIONS.items():
+        line = f'{{"no":"{word}"}}'
+        plays(stage, agent(body), Talk([line], [ENTER], f"{word}: {why}", BROKEN))
+    # inside a match the same words are no replies
+    line = "a line of the server is no reply"
+    plays(
+        stage,
+        agent(body),
+        Talk([HERE, '{"no":"nothing"}'], [ENTER, LOOK], line, BROKEN),
+    )
+
+
+@case("an agent comes again whom a server turns away for the moment")
+def play_again(stage: Stage) -> None:
+    require_player()
+    (stage.folder / "agent.wasm").write_bytes(agent(call("enter") + DROP))
+    with socket.create_server(("127.0.0.1", 0)) as listener:
+        listener.settimeout(60)
+        words = [str(PLAYER), "127.0.0.1", str(listener.getsockname()[1]), "k"]
+        with subprocess.Popen(
+            [*words, "--module", str(stage.folder / "agent.wasm")],
+            stderr=subprocess.PIPE,
+        ) as child:
+            for answer in ("full", "late", "memory", "taken"):
+                connection, _ = listener.accept()
+                with connection, connection.makefile("rb") as reader:
+                    require(reader.readline() == ENTER.encode() + b"\n", answer)
+                    connection.sendall(f'{{"no":"{answer}"}}\n'.encode())
+            errors = child.communicate(timeout=60)[1].decode()
+    first_line = (
+        f"bhs_player: full: {REJECTIONS['full']}; it tries again, up to 60 times\n"
+    )
+    last_line = f"bhs_player: taken: {REJECTIONS['taken']}\n"
+    wants("the errors", errors, first_line + last_line)
+    wants("the status", child.returncode, BROKEN)
 
 
 @case("an agent is not played whose file is no module, or whose words are not fit")

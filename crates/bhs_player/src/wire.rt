@@ -5,6 +5,7 @@ ghost use Rattle.std.specs.List.{list_any};
 ghost use Rattle.bhs_wire.specs.Lines.{is_line_feed};
 ghost use Rattle.bhs_player.specs.Wires.{IsCut, IsHeard, IsSaid, IsUnheard, ended};
 
+use crate::rejections::{Rejection, rejection_of};
 use bhs_client::{Lost, ServerConnection};
 use bhs_stream::{BUFFER, Input, Output, finish, send};
 use bhs_wire::split_line;
@@ -27,6 +28,8 @@ pub struct Wire<'r, R, W> {
     pub reader: R,
     pub held: Vec<u8>,
     pub writer: W,
+    /// Why the server has turned the agent away, if the last line says so.
+    pub rejection: Option<Rejection>,
 }
 
 impl<R: Input + Drop, W: Output + Drop> Wire<'_, R, W> {
@@ -73,6 +76,7 @@ impl<R: Input + Drop, W: Output + Drop> ServerConnection for Wire<'_, R, W> {
         let mut buffer = [0u8; BUFFER];
         for _ in 0..MOST_READS {
             if let Some(line) = self.held_line()? {
+                self.rejection = rejection_of(line.as_str());
                 return Ok(line);
             }
             let Ok(count) = self.reader.read_some(&mut buffer) else {
