@@ -8,7 +8,7 @@ import unittest
 from typing import Dict, Iterator, Set, Tuple
 
 from tests.support.output import InTemporary, write
-from tools.prove import contracts
+from tools.prove import contracts, edits
 from tools.prove.clauses import (
     CRATES,
     always_true,
@@ -234,6 +234,10 @@ class ContractsTest(InTemporary):
         )
 
     def test_edits_that_a_form_refuses_are_there(self) -> None:
+        def edit_names(crate: str) -> Set[str]:
+            sources = edits.edits_of_gate(crate) + edits.more_edits(crate)
+            return {source.name for source in sources}
+
         names = tomllib.loads(contracts.TESTED_FILE.read_text(encoding="utf-8"))[
             "refused_by_form"
         ]
@@ -242,7 +246,7 @@ class ContractsTest(InTemporary):
                 (crate, name)
                 for crate, names in names.items()
                 for name in names
-                if not list((CRATES / crate).glob(f"*/{name}.edit"))
+                if name not in edit_names(crate)
             ],
             [],
         )

@@ -109,9 +109,18 @@ class Reading(InTemporary):
         write(self.folder / "src" / "lib.rt", CODE)
 
     def read_edit(self, *lines: str) -> edits.Edit:
-        path = self.folder / "one.edit"
-        path.write_text("\n".join(["file: src/lib.rt", *lines]) + "\n")
-        return edits.read_edit(path, self.folder)
+        text = "\n".join(["file: src/lib.rt", *lines]) + "\n"
+        return edits.read_edit(edits.EditText("one", text), self.folder)
+
+    def test_the_edits_of_one_file_have_names(self) -> None:
+        write(
+            self.folder / "low" / "more-edits.txt", "== one\nold: a\n\n== two\nnew: b\n"
+        )
+        self.enterContext(unittest.mock.patch.object(edits, "CRATES", self.folder))
+        self.assertEqual(
+            edits.more_edits("low"), [("one", "old: a\n\n"), ("two", "new: b\n")]
+        )
+        self.assertEqual(edits.more_edits("none"), [])
 
     def test_pairs_change_the_text_one_after_the_other(self) -> None:
         edit = self.read_edit(
@@ -155,9 +164,12 @@ class Kept(unittest.TestCase):
 
     def test_each_fits_its_text(self) -> None:
         for name in prover.libraries_of():
-            for path in edits.edits_of(name, ["must-fail", "more-edits"]):
-                with self.subTest(edit=f"{name}/{path.stem}"):
-                    edit = edits.read_edit(path, prover.CRATES / name)
+            sources = edits.edits_of_gate(name) + edits.more_edits(name)
+            names = [source.name for source in sources]
+            self.assertEqual(len(names), len(set(names)))
+            for source in sources:
+                with self.subTest(edit=f"{name}/{source.name}"):
+                    edit = edits.read_edit(source, prover.CRATES / name)
                     self.assertTrue(all(old != new for _, old, new in edit.changes))
                     # that a proof does not fit another definition shows nothing
                     self.assertEqual(
@@ -167,7 +179,7 @@ class Kept(unittest.TestCase):
     def test_the_gate_tries_one_to_ten_of_a_crate_with_code(self) -> None:
         for name in prover.libraries_of():
             with self.subTest(crate=name):
-                count = len(edits.edits_of(name, ["must-fail"]))
+                count = len(edits.edits_of_gate(name))
                 self.assertIn(count, range(int(has_bodies(name)), 11))
 
 
@@ -189,7 +201,7 @@ class Answers(unittest.TestCase):
             )
         )
         answers, output, _ = run_call(
-            list, edits.try_edits({"low": []}, "low", [pathlib.Path("one.edit")])
+            list, edits.try_edits({"low": []}, "low", [edits.EditText("one", "")])
         )
         self.assertEqual(answers, ["refused: " in output])
         return output.strip()

@@ -40,9 +40,8 @@ def clone_commit(commit: str, folder: pathlib.Path) -> pathlib.Path:
         ["git", "clone", "-q", "--no-checkout", str(TOP), str(clone)], check=True
     )
     subprocess.run(["git", "checkout", "-q", commit], cwd=clone, check=True)
-    for name in ("must-fail", "more-edits"):
-        for edits in (clone / "crates").glob(f"*/{name}"):
-            shutil.rmtree(edits)
+    for edits in (clone / "crates").glob("*/must-fail"):
+        shutil.rmtree(edits)
     return clone
 
 

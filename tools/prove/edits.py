@@ -3,9 +3,9 @@
     python3 -m tools.prove.edits [--all] [CRATE..]
 
 The gate tries crates/NAME/must-fail/*.edit. With --all the edits of more functions in
-crates/NAME/more-edits/ are tried too: run it for each crate that you change. An edit has
-lines `file: PATH`, and then pairs of lines `old: TEXT` and `new: TEXT`, where TEXT stands
-once in that file.
+crates/NAME/more-edits.txt are tried too, each after a line `== NAME`: run it for each
+crate that you change. An edit has lines `file: PATH`, and then pairs of lines `old: TEXT`
+and `new: TEXT`, where TEXT stands once in that file.
 
 The edited function is checked against its contract and the contracts of what it calls;
 a line `only: PATH` names another function to check. Edits of different functions are
@@ -51,6 +51,13 @@ NO_FUNCTION = re.compile(r"\S+: error: `\w+` has no function .*")
 
 class EditError(Exception):
     """The edit can't be tried."""
+
+
+class EditText(NamedTuple):
+    """The name of an edit, and its lines."""
+
+    name: str
+    text: str
 
 
 class Edit(NamedTuple):
@@ -140,14 +147,14 @@ def function_at(folder: pathlib.Path, path: str, offset: int) -> Optional[str]:
     return None
 
 
-def read_edit(path: pathlib.Path, folder: pathlib.Path) -> Edit:
-    """Parses an edit file of a crate. Raises EditError if the edit cannot be
+def read_edit(source: EditText, folder: pathlib.Path) -> Edit:
+    """Parses an edit of the crate in a folder. Raises EditError if the edit cannot be
     applied."""
     file = ""
     old = ""
     only = None
     changes = []
-    for line in path.read_text().split("\n"):
+    for line in source.text.split("\n"):
         word, _, text = line.partition(": ")
         if word == "file":
             file = text.strip()
@@ -161,7 +168,7 @@ def read_edit(path: pathlib.Path, folder: pathlib.Path) -> Edit:
             changes.append((file, old, text))
     if not changes:
         raise EditError("it has no pair of lines `old: TEXT` and `new: TEXT`")
-    edit = Edit(path.stem, changes, only)
+    edit = Edit(source.name, changes, only)
     edit.change(folder, {})
     file, old, _ = changes[0]
     text = (folder / file).read_text()
@@ -322,16 +329,16 @@ def answers_of(
 
 
 def try_edits(
-    libraries: Libraries, name: str, paths: Sequence[pathlib.Path]
+    libraries: Libraries, name: str, sources: Sequence[EditText]
 ) -> Iterator[bool]:
     """Tries the edits of a crate, each check over what earlier ones kept, and prints a
     line for each edit."""
     edits = []
-    for path in paths:
+    for source in sources:
         try:
-            edits.append(read_edit(path, CRATES / name))
+            edits.append(read_edit(source, CRATES / name))
         except (EditError, OSError) as fault:
-            print(f"edit {name}/{path.stem}: BAD EDIT: {fault}", flush=True)
+            print(f"edit {name}/{source.name}: BAD EDIT: {fault}", flush=True)
             yield False
     with tempfile.TemporaryDirectory(prefix="edits-") as folder:
         for edit, message, text in answers_of(
@@ -341,10 +348,17 @@ def try_edits(
             yield message is not None
 
 
-def edits_of(name: str, folders: Sequence[str]) -> List[pathlib.Path]:
-    return sorted(
-        path for folder in folders for path in (CRATES / name / folder).glob("*.edit")
-    )
+def edits_of_gate(name: str) -> List[EditText]:
+    """Returns the edits of a crate that the gate tries."""
+    paths = sorted((CRATES / name / "must-fail").glob("*.edit"))
+    return [EditText(path.stem, path.read_text()) for path in paths]
+
+
+def more_edits(name: str) -> List[EditText]:
+    """Returns the other edits of a crate."""
+    path = CRATES / name / "more-edits.txt"
+    sections = re.split(r"(?m)^== ", path.read_text())[1:] if path.exists() else []
+    return [EditText(*section.split("\n", 1)) for section in sections]
 
 
 def main(words: List[str]) -> int:
@@ -357,8 +371,10 @@ def main(words: List[str]) -> int:
     if strange:
         print(f"edits: no crate {strange[0]} stands in crates.txt", file=sys.stderr)
         return 2
-    folders = ["must-fail", "more-edits"] if "--all" in words else ["must-fail"]
-    edits = {name: edits_of(name, folders) for name in names or libraries}
+    edits = {
+        name: edits_of_gate(name) + (more_edits(name) if "--all" in words else [])
+        for name in names or libraries
+    }
     for name in libraries:
         is_needed = any(
             name in below(libraries, other_name)
