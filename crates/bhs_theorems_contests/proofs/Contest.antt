@@ -143,7 +143,7 @@ all_written one is (inl (inl bye)) = subst (λ (ended : Ended). MayLack ended is
 all_written one is (inl (inr noted)) = subst (λ (ended : Ended). MayLack ended is.unwritten) noted is.is_unwritten
 all_written one is (inr over) = subst (λ (ended : Ended). MayLack ended is.unwritten) over.0 is.is_unwritten
 
--- ---- what is to be played of an agent
+-- ---- the past and the steps that an agent has to play
 
 -- a plain past consists of plain meetings
 plain_view : (quota limit : ℕ) (view past : View) → IsMet view past → IsPlainPast quota limit past

@@ -45,7 +45,7 @@ untouched_deliver world state agent other apart =
     (delivered world state agent (state.position agent)) state
     (untouched_delivered world state agent other (state.position agent) apart) (untouched other state)
 
--- ---- those who are no agents of the match
+-- ---- numbers beyond the agents of the match
 
 abbrev AreOut : World → State → Type 0
 AreOut world state = (agent : ℕ) → nat_lt agent world.agents ≡ false → state.position agent ≡ Before

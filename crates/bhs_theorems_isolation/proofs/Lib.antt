@@ -41,3 +41,4 @@ pub mod TwinLogLemmas
 pub mod WorkedScripts
 pub mod OwnAppealLemmas
 pub mod TimeExampleLemmas
+pub mod ServedSessionsLemmas

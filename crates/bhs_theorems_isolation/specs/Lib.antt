@@ -14,3 +14,4 @@ pub mod SentAsMet
 pub mod Timely
 pub mod OwnAppeals
 pub mod TimeExample
+pub mod ServedSessions

@@ -8,6 +8,7 @@ ghost use Rattle.bhs_theorems_isolation.specs.ContestExample.{TheSameWasFed};
 ghost use Rattle.bhs_theorems_isolation.specs.ContestExample.{TheHeadlineSpeaksOfWhoIsOnALink};
 ghost use Rattle.bhs_theorems_isolation.specs.ContestMet.{AttendedTookPart, EqualPastsAreSentEqualBytes, SentAsMet};
 ghost use Rattle.bhs_theorems_isolation.specs.ContestTime.{EqualWaitsInContests, EveryArrivalInContests};
+ghost use Rattle.bhs_theorems_isolation.specs.ServedSessions.{ServedSessionsTookPart};
 ghost use Rattle.bhs_theorems_isolation.specs.TimeExample.{TheTheoremOfTimeSpeaksOfThem};
 
 use bhs_stream::{Input, Output};
@@ -15,6 +16,12 @@ use bhs_stream::{Input, Output};
 /// A session that `attend` served took part in its match, once the match's cell settled with the session's pass.
 pub fn attended_sessions_took_part<I: Input, O: Output>()
     ensures { AttendedTookPart I.gives O.takes }
+{}
+
+/// Each session that a server keeps took part in its match, if the match settled: the contract of `run_server` gives
+/// the sessions, and each carries the proof that `attend` served it. Its pass has the quota of its match.
+pub fn served_sessions_took_part()
+    ensures { ServedSessionsTookPart }
 {}
 
 /// A session whose pass settled with its match wrote the bytes of what its agent met in the log, and behind them at
