@@ -28,7 +28,8 @@ under which schedules.
     schedulers    as --scheduler takes them (["fair"])
     seeds         how many seeds each scheduler gets (1)
     quota, board  commands of an agent, and bytes of a whiteboard (1000, 4096)
-    bound         moves that the plots show beside: "2 n log2 n", "n log2 n" or "n^2"; may be absent
+    bound         moves that the plots show beside: "2 n log2 n", "n log2 n", "n^2", or what is proved of two agents
+                  that divide a network, "6 (n - 2) R + 2 (n - 1)", R the rounded up log2 (n - 1); may be absent
 
 Each [[team]] has a `name`, `agents`, a number or "degree" for one more than the
 network's greatest degree (2), and either `agent` or `command`, the words that --agent
@@ -84,6 +85,9 @@ BOUNDS: Dict[str, Callable[[float], float]] = {
     "2 n log2 n": lambda nodes: 2 * nodes * math.log2(nodes),
     "n log2 n": lambda nodes: nodes * math.log2(nodes),
     "n^2": lambda nodes: nodes**2,
+    "6 (n - 2) R + 2 (n - 1)": lambda nodes: (
+        6 * (nodes - 2) * math.ceil(math.log2(nodes - 1)) + 2 * (nodes - 1)
+    ),
 }
 HOLES_ARE = f'"{BY_SEED}", "{DRAWN}", "{ALL}", how many to draw, or a list of nodes and of lists of nodes'
 
