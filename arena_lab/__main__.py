@@ -55,7 +55,8 @@ COMMANDS = {
         "make two agents on a ring move as much as every team must", PLAYS + PAGES
     ),
     "invariant": Command(
-        "try a candidate invariant on every picture of small networks", PLAYS + PAGES
+        "try a candidate invariant on every configuration of small networks",
+        PLAYS + PAGES,
     ),
     "replay": Command("play a schedule again, and compare every byte", PLAYS + PAGES),
     "serve": Command(

@@ -1,34 +1,33 @@
-"""Tries a candidate invariant of a protocol on every picture that schedules of small networks reach.
+"""Tries a candidate invariant of a protocol on every configuration that schedules of small networks reach.
 
     ./arena-lab invariant examples/invariants/shuttle.py --network ring:3..5 \\
         --agent "examples/agents/shuttle.py {nodes} 0" --agent "examples/agents/shuttle.py {nodes} 1"
 
-A proof that a team solves every network of a kind needs an invariant: a test that all pictures of a match meet, with a
-number that falls with each turn (docs/PROVING.md). Before you prove one, write it in Python and try it: a wrong one
-fails in seconds, and the command shows where. A candidate is a file with
+A proof that a team solves every network of a kind needs an invariant: a test that all configurations of a match meet,
+with a number that falls with each turn (docs/PROVING.md). Before you prove one, write it in Python and try it: a wrong
+one fails in seconds, and the command shows where. A candidate is a file with
 
-    holds(world, picture) -> bool      the test
-    left(world, picture) -> int        how many turns are left at most; it is to fall with each turn (may be missing)
-    bounds(world) -> Bounds            the most moves, agents lost, commands of an agent and turns (may be missing)
+    holds(world, configuration) -> bool   the test
+    left(world, configuration) -> int     how many turns are left at most; it is to fall with each turn (may be missing)
+    bounds(world) -> Bounds               the most moves, agents lost, commands of an agent and turns (may be missing)
 
-A picture has `position`, `history`, `woken`, `used` and `accused` of each agent, `shown` of each node's whiteboard, the
-set `reached`, and `moves`. A world has `nodes`, `degree(node)`, `far(node, port)`, `home`, `holes`, `dark`,
-`doomed(node, port)`, `agents`, `quota` and `board`. A position is Before(), At(node, came), Bound(node, port) or
-After(); these and Bounds are imported from arena_lab.search.configurations. A history has the replies of an agent, the
-newest
-first, and None where it woke; `held_after` there folds what an agent holds out of it.
+A configuration has `position`, `history`, `woken`, `used` and `accused` of each agent, `shown` of each node's
+whiteboard, the set `reached`, and `moves`. A world has `nodes`, `degree(node)`, `far(node, port)`, `home`, `holes`,
+`dark`, `doomed(node, port)`, `agents`, `quota` and `board`. A position is Before(), At(node, came), Bound(node, port)
+or After(); these and Bounds are imported from arena_lab.search.configurations. A history has the replies of an agent,
+the newest first, and None where it woke; `held_after` there folds what an agent holds out of it.
 
 If you name neither a black hole nor a dark link, each node but the home base is the black hole in turn. All orders of
-turns are tried, the shortest schedules first, up to the first picture at which the candidate is wrong: the test does
-not hold, or `left` does not fall or begins above the bound on turns, a bound is passed, an agent has failed, or nothing
-more can happen and the match is not solved with few agents lost. The command prints the schedule that leads there, what
-the picture shows, and writes it to a folder: `./arena-lab replay` plays it again, and its script.txt is one for `arena
-rehearse`. The exit status is 1 then.
+turns are tried, the shortest schedules first, up to the first configuration at which the candidate is wrong: the test
+does not hold, or `left` does not fall or begins above the bound on turns, a bound is passed, an agent has failed, or
+nothing more can happen and the match is not solved with few agents lost. The command prints the schedule that leads
+there, what the configuration shows, and writes it to a folder: `./arena-lab replay` plays it again, and its script.txt
+is one for `arena rehearse`. The exit status is 1 then.
 
-What it does not show: only pictures that some schedule reaches are tried, on these networks, with agents that do what
-these programs do, by the Python model, of which nothing is proved. An invariant has to be kept by each turn from every
-picture in which it holds, also from those that no schedule reaches, so a candidate that holds everywhere here may still
-be too weak to be proved.
+What it does not show: only configurations that some schedule reaches are tried, on these networks, with agents that do
+what these programs do, by the Python model, of which nothing is proved. An invariant has to be kept by each turn from
+every configuration in which it holds, also from those that no schedule reaches, so a candidate that holds everywhere
+here may still be too weak to be proved.
 """
 import argparse
 import pathlib
@@ -44,7 +43,7 @@ from arena_lab.search.invariants import Breach, Candidate, WalkedMatch, walk_mat
 from arena_lab.search.configurations import After, At, Before, Configuration
 from arena_lab.support.progress import bar
 
-REACHED_ALONE = "pictures that no schedule reaches were not tried"
+REACHED_ALONE = "configurations that no schedule reaches were not tried"
 
 
 def add_arguments(parser: argparse.ArgumentParser) -> None:
@@ -59,14 +58,14 @@ def add_arguments(parser: argparse.ArgumentParser) -> None:
         metavar="N",
         type=at_least_one,
         default=MAX_STATES,
-        help=f"the most pictures of a match to try ({MAX_STATES})",
+        help=f"the most configurations of a match to try ({MAX_STATES})",
     )
     parser.add_argument(
         "--keep",
         metavar="FOLDER",
         type=pathlib.Path,
         default=kept_matches.FOLDER,
-        help="write the schedule to the first picture at which the candidate is wrong there "
+        help="write the schedule to the first configuration at which the candidate is wrong there "
         f"({kept_matches.FOLDER})",
     )
 
@@ -85,20 +84,21 @@ def run(args: argparse.Namespace) -> int:
                 return 1
             if not match.is_whole:
                 print(
-                    "stopped before all pictures were tried; the candidate held at those that were"
+                    "stopped before all configurations were tried; the candidate held at those that were"
                 )
                 return 130
             count = count + match.walk.states()
             matches = matches + 1
     print(
-        f"the candidate holds at all {count} pictures of {count_text(matches, 'match', 'matches')}; {REACHED_ALONE}"
+        f"the candidate holds at all {count} configurations of "
+        f"{count_text(matches, 'match', 'matches')}; {REACHED_ALONE}"
     )
     return 0
 
 
 def try_matches(game: Game, candidate: Candidate, states: int) -> Iterator[WalkedMatch]:
     """Walks the matches of a game one after the other, and prints a line for each."""
-    with bar(None, "picture") as progress:
+    with bar(None, "configuration") as progress:
         for fixture in game.fixtures():
             match = walk_match(
                 fixture, game.agents, candidate, progress, states, game.limit
@@ -122,8 +122,8 @@ def line_of(game: Game, match: WalkedMatch) -> str:
         ) + walk.breach.why
     elif not match.is_whole:
         text = "stopped"
-    pictures = count_text(walk.states(), "picture", "pictures")
-    return f"{game.name} home {setup.home} holes {setup.holes}: {pictures}, {text}, {match.seconds:.1f} s"
+    configurations = count_text(walk.states(), "configuration", "configurations")
+    return f"{game.name} home {setup.home} holes {setup.holes}: {configurations}, {text}, {match.seconds:.1f} s"
 
 
 def count_text(count: int, singular: str, extra: str) -> str:
@@ -133,7 +133,7 @@ def count_text(count: int, singular: str, extra: str) -> str:
 def report_breach(
     game: Game, match: WalkedMatch, breach: Breach, keep: pathlib.Path
 ) -> None:
-    """Prints the schedule to a picture at which a candidate is wrong, and the picture;
+    """Prints the schedule to a configuration at which a candidate is wrong, and the configuration;
     keeps the schedule."""
     for choice in breach.choices:
         print(f"{choice.do} {choice.agent}")
@@ -142,9 +142,9 @@ def report_breach(
 
 
 def configuration_text(breach: Breach) -> List[str]:
-    """A picture in words: a line for each agent, for each whiteboard that shows
+    """A configuration in words: a line for each agent, for each whiteboard that shows
     something, and for the rest."""
-    configuration = breach.picture
+    configuration = breach.configuration
     lines = [
         f"agent {agent} {place_in_words(configuration, agent)}, {position}"
         for agent, position in enumerate(breach.next)

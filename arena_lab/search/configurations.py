@@ -1,6 +1,6 @@
-"""Pictures of a match: what agents and the referee can tell of it, as
+"""Configurations of a match: what agents and the referee can tell of it, as
 crates/bhs_protocols/specs/Configurations.antt has them. A candidate invariant is a test
-of pictures, and its file imports what it needs from here.
+of configurations, and its file imports what it needs from here.
 
 Positions, histories, what is used, accusations and wakings stand by the number of the
 agent, whiteboards by the number of the node.
@@ -123,13 +123,13 @@ def held_after(
 
 
 class Configurations:
-    """The pictures of a match by its states."""
+    """The configurations of a match by its states."""
 
     def __init__(self) -> None:
         self._histories: Dict[Past, History] = {}
 
     def of(self, state: HistoryState) -> Configuration:
-        """The picture of a state."""
+        """The configuration of a state."""
         pasts = state.pasts
         # the link that each agent has accused, by its node and port
         accusations = tuple(

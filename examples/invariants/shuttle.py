@@ -64,10 +64,10 @@ def after(memory: Memory, item: Item) -> Memory:
     return memory
 
 
-def memories(picture: Configuration) -> Tuple[Memory, Memory]:
+def memories(configuration: Configuration) -> Tuple[Memory, Memory]:
     """What both agents hold."""
     first, second = (
-        held_after(Memory(side), after, picture.history[side]) for side in (0, 1)
+        held_after(Memory(side), after, configuration.history[side]) for side in (0, 1)
     )
     return first, second
 
@@ -92,14 +92,14 @@ def distance(world: World, side: int) -> int:
     )
 
 
-def is_placed(world: World, picture: Configuration, memory: Memory) -> bool:
+def is_placed(world: World, configuration: Configuration, memory: Memory) -> bool:
     """Returns whether position and accusation of an agent fit its phase."""
     side = memory.side
     mine = memory.mine
     phase = memory.phase
     steps = memory.steps
-    position = picture.position[side]
-    accusation = picture.accused[side]
+    position = configuration.position[side]
+    accusation = configuration.accused[side]
     node, ahead = end_of(world, side, steps)
     if phase == ENDS:
         is_last = (
@@ -128,16 +128,16 @@ def comes_home(memory: Memory) -> bool:
     return memory.phase in (COMES_BACK, RETURNS, WRITES)
 
 
-def is_fit(world: World, picture: Configuration, memory: Memory) -> bool:
+def is_fit(world: World, configuration: Configuration, memory: Memory) -> bool:
     """What holds of one agent."""
     reach = memory.mine + comes_home(memory)
     is_known = all(
-        end_of(world, memory.side, steps)[0] in picture.reached
+        end_of(world, memory.side, steps)[0] in configuration.reached
         for steps in range(1, reach + 1)
     )
     limit = memory.mine + (memory.phase in (COMES_BACK, RETURNS))
     return (
-        is_placed(world, picture, memory)
+        is_placed(world, configuration, memory)
         and reach < distance(world, memory.side)
         and is_known
         and memory.steps <= limit
@@ -164,16 +164,16 @@ def moves_made(memory: Memory) -> int:
     return memory.mine * (memory.mine + 1) + trip(memory)
 
 
-def holds(world: World, picture: Configuration) -> bool:
-    first, second = memories(picture)
+def holds(world: World, configuration: Configuration) -> bool:
+    first, second = memories(configuration)
     return (
-        is_fit(world, picture, first)
-        and is_fit(world, picture, second)
+        is_fit(world, configuration, first)
+        and is_fit(world, configuration, second)
         and first.theirs <= second.mine
         and second.theirs <= first.mine
         and (first.theirs == second.mine or second.theirs == first.mine)
-        and picture.shown[world.home] == text_of(first.mine, second.mine)
-        and picture.moves == moves_made(first) + moves_made(second)
+        and configuration.shown[world.home] == text_of(first.mine, second.mine)
+        and configuration.moves == moves_made(first) + moves_made(second)
     )
 
 
@@ -206,7 +206,7 @@ def bounds(world: World) -> Bounds:
     )
 
 
-def left(world: World, picture: Configuration) -> int:
+def left(world: World, configuration: Configuration) -> int:
     limit = bounds(world).turns
     assert limit is not None
-    return limit - sum(map(progress, memories(picture)))
+    return limit - sum(map(progress, memories(configuration)))

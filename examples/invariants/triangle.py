@@ -32,17 +32,17 @@ def agent_position(world: World, side: int, turns: int) -> Position:
     ][turns]
 
 
-def is_fit(world: World, picture: Configuration, side: int) -> bool:
+def is_fit(world: World, configuration: Configuration, side: int) -> bool:
     """What holds of one agent."""
-    turns = len(picture.history[side])
+    turns = len(configuration.history[side])
     is_lost = world.doomed(world.home, side)
     return (
         turns <= (2 if is_lost else TURNS)
-        and picture.position[side] == agent_position(world, side, turns)
-        and picture.used[side] == commands(turns)
-        and picture.accused[side]
+        and configuration.position[side] == agent_position(world, side, turns)
+        and configuration.used[side] == commands(turns)
+        and configuration.accused[side]
         == ((world.home, 1 - side) if turns == TURNS else None)
-        and (turns < 3 or world.far(world.home, side)[0] in picture.reached)
+        and (turns < 3 or world.far(world.home, side)[0] in configuration.reached)
     )
 
 
@@ -57,14 +57,16 @@ def moves(turns: int) -> int:
     return [0, 0, 1, 1, 2, 2, 2][turns]
 
 
-def holds(world: World, picture: Configuration) -> bool:
+def holds(world: World, configuration: Configuration) -> bool:
     return all(
-        is_fit(world, picture, side) for side in (0, 1)
-    ) and picture.moves == sum(moves(len(picture.history[side])) for side in (0, 1))
+        is_fit(world, configuration, side) for side in (0, 1)
+    ) and configuration.moves == sum(
+        moves(len(configuration.history[side])) for side in (0, 1)
+    )
 
 
-def left(world: World, picture: Configuration) -> int:
-    return 8 - sum(map(len, picture.history))
+def left(world: World, configuration: Configuration) -> int:
+    return 8 - sum(map(len, configuration.history))
 
 
 def bounds(world: World) -> Bounds:

@@ -164,21 +164,22 @@ module _ (world : World) (n right left wakeups : ℕ) (ways : Ways) (search : Is
     safe : IsSafe s phase reached
 
   abbrev phase_in : Configuration → (s : ℕ) → Phase
-  phase_in picture s = phase_after (picture.history s)
+  phase_in configuration s = phase_after (configuration.history s)
 
   abbrev IsFitIn : Configuration → (s : ℕ) → Type 0
-  IsFitIn picture s =
-      IsFit s (phase_in picture s) (picture.position s) (picture.used s) (picture.accused s) picture.reached
+  IsFitIn configuration s =
+      IsFit s (phase_in configuration s) (configuration.position s) (configuration.used s) (configuration.accused s)
+      configuration.reached
 
   -- The invariant of both agents. It is symmetric, so one lemma per phase serves both.
-  record Inv (s o : ℕ) (picture : Configuration) : Type 0 where
-    own : IsFitIn picture s
-    other : IsFitIn picture o
-    moves : picture.moves ≡ moved (phase_in picture s) + moved (phase_in picture o)
-    none : (k : ℕ) → 2 ≤ k → picture.used k ≡ 0
+  record Inv (s o : ℕ) (configuration : Configuration) : Type 0 where
+    own : IsFitIn configuration s
+    other : IsFitIn configuration o
+    moves : configuration.moves ≡ moved (phase_in configuration s) + moved (phase_in configuration o)
+    none : (k : ℕ) → 2 ≤ k → configuration.used k ≡ 0
 
-  seen_from_other : (s o : ℕ) (picture : Configuration) → Inv s o picture → Inv o s picture
-  seen_from_other s o picture inv =
+  seen_from_other : (s o : ℕ) (configuration : Configuration) → Inv s o configuration → Inv o s configuration
+  seen_from_other s o configuration inv =
       record { own = inv.other; other = inv.own; moves = omega (arith, inv.moves); none = inv.none }
 
   -- ---- turns
@@ -203,8 +204,8 @@ module _ (world : World) (n right left wakeups : ℕ) (ways : Ways) (search : Is
     abbrev new : Configuration
     new = turn_in trial old s
 
-    -- The invariant after a turn, of what the turn makes of the picture. Left to show are what it takes, whom the agent
-    -- has accused, what is safe, and that what was reached still is.
+    -- The invariant after a turn. It is left to show the turn's costs, the agent's accusation, the safe nodes, and that
+    -- reached nodes stay reached.
     onward : (now later : Phase) (news : Observation) (costs steps : ℕ) (accused : Option (ℕ × ℕ)) (reached : ℕ → Bool)
         → phase ≡ now → next_phase now news ≡ later
         → Becomes old new s (place s later) news costs steps accused old.shown reached
@@ -377,21 +378,21 @@ module _ (world : World) (n right left wakeups : ℕ) (ways : Ways) (search : Is
   -- ---- all together
 
   -- both have not ended, since the black hole is next to the home base on one side, and both are not lost
-  at_rest : (picture : Configuration) → Inv 0 1 picture → IsResting trial picture
-      → (outcome_in world picture ≡ Solved) × (doomed_in world picture ≤ 1)
-  at_rest picture inv still =
-      let inv_too : Inv 1 0 picture = seen_from_other 0 1 picture inv in
+  at_rest : (configuration : Configuration) → Inv 0 1 configuration → IsResting trial configuration
+      → (outcome_in world configuration ≡ Solved) × (doomed_in world configuration ≤ 1)
+  at_rest configuration inv still =
+      let inv_too : Inv 1 0 configuration = seen_from_other 0 1 configuration inv in
       let sum : distance 0 + distance 1 ≡ 3 = sum_is 0 1 zero_one in
-      elim (resting 0 1 picture zero_one inv (phase_in picture 0) refl (still 0)) [
-        | inl h ↦ elim (resting 1 0 picture one_zero inv_too (phase_in picture 1) refl (still 1)) [
+      elim (resting 0 1 configuration zero_one inv (phase_in configuration 0) refl (still 0)) [
+        | inl h ↦ elim (resting 1 0 configuration one_zero inv_too (phase_in configuration 1) refl (still 1)) [
           | inl it ↦
               let one : distance 0 ≡ 2 = (inv.own.safe (ap was_there h)).0 in
               let two : distance 1 ≡ 2 = (inv.other.safe (ap was_there it)).0 in
               absurd (omega (arith, sum, one, two))
-          | inr it ↦ solved_if 0 1 picture zero_one inv h it.0 it.1
+          | inr it ↦ solved_if 0 1 configuration zero_one inv h it.0 it.1
         ]
-        | inr h ↦ elim (resting 1 0 picture one_zero inv_too (phase_in picture 1) refl (still 1)) [
-          | inl it ↦ solved_if 1 0 picture one_zero inv_too it h.0 h.1
+        | inr h ↦ elim (resting 1 0 configuration one_zero inv_too (phase_in configuration 1) refl (still 1)) [
+          | inl it ↦ solved_if 1 0 configuration one_zero inv_too it h.0 h.1
           | inr it ↦ absurd (omega (arith, sum, h.1, it.1))
         ]
       ]
@@ -419,16 +420,17 @@ module _ (world : World) (n right left wakeups : ℕ) (ways : Ways) (search : Is
   few s Accuses some far = let two = far refl in (omega (arith, two), omega (arith, two), omega arith)
   few s Ends some far = let two = far refl in (omega (arith, two), omega (arith, two), omega arith)
 
-  few_of_both : (picture : Configuration) → Inv 0 1 picture → Few 0 (phase_in picture 0) × Few 1 (phase_in picture 1)
-  few_of_both picture inv = (
-    few 0 (phase_in picture 0) (positive 0 (omega arith)) (λ there. (inv.own.safe there).0),
-    few 1 (phase_in picture 1) (positive 1 (omega arith)) (λ there. (inv.other.safe there).0),
+  few_of_both : (configuration : Configuration) → Inv 0 1 configuration
+      → Few 0 (phase_in configuration 0) × Few 1 (phase_in configuration 1)
+  few_of_both configuration inv = (
+    few 0 (phase_in configuration 0) (positive 0 (omega arith)) (λ there. (inv.own.safe there).0),
+    few 1 (phase_in configuration 1) (positive 1 (omega arith)) (λ there. (inv.other.safe there).0),
   )
 
   -- The invariant, together with the remaining turns of the bound.
-  record Holds (picture : Configuration) (turns : ℕ) : Type 0 where
-    inv : Inv 0 1 picture
-    total : turned (phase_in picture 0) + turned (phase_in picture 1) + turns ≡ 8
+  record Holds (configuration : Configuration) (turns : ℕ) : Type 0 where
+    inv : Inv 0 1 configuration
+    total : turned (phase_in configuration 0) + turned (phase_in configuration 1) + turns ≡ 8
 
   first_fit : (s : ℕ) → IsFitIn blank s
   first_fit s = record {
@@ -440,10 +442,11 @@ module _ (world : World) (n right left wakeups : ℕ) (ways : Ways) (search : Is
   }
 
   -- after one turn more, one less is left
-  holds_on : (picture : Configuration) (turns : ℕ) → Inv 0 1 picture
-      → turned (phase_in picture 0) + turned (phase_in picture 1) + turns ≡ 9 → GoesOn Holds turns picture
-  holds_on picture turns inv total =
-      let both_few = few_of_both picture inv in
+  holds_on : (configuration : Configuration) (turns : ℕ) → Inv 0 1 configuration
+      → turned (phase_in configuration 0) + turned (phase_in configuration 1) + turns ≡ 9
+      → GoesOn Holds turns configuration
+  holds_on configuration turns inv total =
+      let both_few = few_of_both configuration inv in
       let sum : distance 0 + distance 1 ≡ 3 = sum_is 0 1 zero_one in
       record {
         rest = turns - 1;
@@ -451,27 +454,28 @@ module _ (world : World) (n right left wakeups : ℕ) (ways : Ways) (search : Is
         holds = record { inv = inv; total = omega (arith, total, both_few.0.0, both_few.1.0, sum) };
       }
 
-  goes_on : (picture : Configuration) (turns agent : ℕ) → agent < 2 → can_move_in trial picture agent ≡ true
-      → Holds picture turns → GoesOn Holds turns (turn_in trial picture agent)
-  goes_on picture turns zero below moves it =
-      let on : Onward 0 1 picture (turn_in trial picture 0) =
-      any_turn 0 1 picture zero_one it.inv (phase_in picture 0) refl moves in
-      holds_on (turn_in trial picture 0) turns on.inv (omega (arith, it.total, on.more, ap turned on.same))
-  goes_on picture turns (suc zero) below moves it =
-      let on : Onward 1 0 picture (turn_in trial picture 1) =
-      any_turn 1 0 picture one_zero (seen_from_other 0 1 picture it.inv) (phase_in picture 1) refl moves in
-      holds_on (turn_in trial picture 1) turns (seen_from_other 1 0 (turn_in trial picture 1) on.inv)
+  goes_on : (configuration : Configuration) (turns agent : ℕ) → agent < 2 → can_move_in trial configuration agent ≡ true
+      → Holds configuration turns → GoesOn Holds turns (turn_in trial configuration agent)
+  goes_on configuration turns zero below moves it =
+      let on : Onward 0 1 configuration (turn_in trial configuration 0) =
+      any_turn 0 1 configuration zero_one it.inv (phase_in configuration 0) refl moves in
+      holds_on (turn_in trial configuration 0) turns on.inv (omega (arith, it.total, on.more, ap turned on.same))
+  goes_on configuration turns (suc zero) below moves it =
+      let on : Onward 1 0 configuration (turn_in trial configuration 1) =
+      any_turn 1 0 configuration one_zero (seen_from_other 0 1 configuration it.inv) (phase_in configuration 1) refl
+      moves in
+      holds_on (turn_in trial configuration 1) turns (seen_from_other 1 0 (turn_in trial configuration 1) on.inv)
       (omega (arith, it.total, on.more, ap turned on.same))
-  goes_on picture turns (suc (suc k)) below moves it = absurd (omega (arith, below))
+  goes_on configuration turns (suc (suc k)) below moves it = absurd (omega (arith, below))
 
-  commands_within : (picture : Configuration) (agent : ℕ) → Inv 0 1 picture → picture.used agent ≤ 3
-  commands_within picture zero inv = omega (arith, inv.own.spends, (few_of_both picture inv).0.2)
-  commands_within picture (suc zero) inv = omega (arith, inv.other.spends, (few_of_both picture inv).1.2)
-  commands_within picture (suc (suc k)) inv = omega (arith, inv.none (suc (suc k)) (omega arith))
+  commands_within : (configuration : Configuration) (agent : ℕ) → Inv 0 1 configuration → configuration.used agent ≤ 3
+  commands_within configuration zero inv = omega (arith, inv.own.spends, (few_of_both configuration inv).0.2)
+  commands_within configuration (suc zero) inv = omega (arith, inv.other.spends, (few_of_both configuration inv).1.2)
+  commands_within configuration (suc (suc k)) inv = omega (arith, inv.none (suc (suc k)) (omega arith))
 
-  moves_within : (picture : Configuration) → Inv 0 1 picture → picture.moves ≤ 3
-  moves_within picture inv =
-      let both_few = few_of_both picture inv in
+  moves_within : (configuration : Configuration) → Inv 0 1 configuration → configuration.moves ≤ 3
+  moves_within configuration inv =
+      let both_few = few_of_both configuration inv in
       omega (arith, inv.moves, both_few.0.1, both_few.1.1, sum_is 0 1 zero_one)
 
   invariant : IsInvariant trial triangle_bounds Holds
@@ -481,18 +485,18 @@ module _ (world : World) (n right left wakeups : ℕ) (ways : Ways) (search : Is
       inv = record { own = first_fit 0; other = first_fit 1; moves = refl; none = λ k beyond. refl };
       total = refl;
     };
-    goes_on = λ picture turns agent within moves it.
-        goes_on picture turns agent (subst (λ (k : ℕ). agent < k) search.agents within) moves it;
-    moves = λ picture turns it. moves_within picture it.inv;
-    commands = λ picture turns agent it. commands_within picture agent it.inv;
-    fine = λ picture turns agent within it. (never agent (phase_in picture agent)).0;
-    settles = λ picture turns still it.
-        let good = at_rest picture it.inv still in
+    goes_on = λ configuration turns agent within moves it.
+        goes_on configuration turns agent (subst (λ (k : ℕ). agent < k) search.agents within) moves it;
+    moves = λ configuration turns it. moves_within configuration it.inv;
+    commands = λ configuration turns agent it. commands_within configuration agent it.inv;
+    fine = λ configuration turns agent within it. (never agent (phase_in configuration agent)).0;
+    settles = λ configuration turns still it.
+        let good = at_rest configuration it.inv still in
         record {
           outcome = good.0;
           few = good.1;
-          over = λ agent node port within at. (never agent (next_phase (phase_in picture agent) (Heard Over))).0;
-          awake = λ agent within at. (never agent (phase_in picture agent)).1;
+          over = λ agent node port within at. (never agent (next_phase (phase_in configuration agent) (Heard Over))).0;
+          awake = λ agent within at. (never agent (phase_in configuration agent)).1;
         };
   }
 

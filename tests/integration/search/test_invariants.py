@@ -1,5 +1,5 @@
-"""Candidate invariants on all pictures of small rings: right ones hold, and of wrong
-ones the first picture is told, to which the schedule leads that is kept."""
+"""Candidate invariants on all configurations of small rings: right ones hold, and of wrong
+ones the first configuration is told, to which the schedule leads that is kept."""
 import contextlib
 import pathlib
 import random
@@ -57,7 +57,7 @@ SEEDS = 20
 
 class Mistake(NamedTuple):
     """A text of the shuttle's invariant, a wrong one for it, and what is told on the
-    ring of three nodes: of the first picture at which it is wrong, after how many
+    ring of three nodes: of the first configuration at which it is wrong, after how many
     turns, and why."""
 
     old: str
@@ -119,13 +119,13 @@ def view_of(match: Match) -> Tuple[Any, ...]:
     )
 
 
-def shown_by(picture: Configuration) -> Tuple[Any, ...]:
+def shown_by(configuration: Configuration) -> Tuple[Any, ...]:
     return (
-        picture.position,
-        picture.used,
-        picture.shown,
-        picture.reached,
-        picture.moves,
+        configuration.position,
+        configuration.used,
+        configuration.shown,
+        configuration.reached,
+        configuration.moves,
     )
 
 
@@ -153,7 +153,7 @@ def sight(
 def after_turn(
     world: World, old: Configuration, agent: int, command: Optional[Object]
 ) -> Configuration:
-    """What the turn of an agent that moves makes of a picture, as `turn_in` of
+    """What the turn of an agent that moves makes of a configuration, as `turn_in` of
     crates/bhs_protocols/specs/Configurations.antt
     says it: it says this command, or arrives, or wakes."""
     position = old.position[agent]
@@ -223,7 +223,7 @@ def after_command(
 def after_reply(
     world: World, old: Configuration, new: Configuration, agent: int, reply: Object
 ) -> Configuration:
-    """A picture in which an agent has heard a reply. Who faces another sight than
+    """A configuration in which an agent has heard a reply. Who faces another sight than
     before has not woken since."""
     woken = tuple(
         times
@@ -243,11 +243,11 @@ class Noting:
     def __init__(self) -> None:
         self.found: Set[Tuple[Any, ...]] = set()
 
-    def holds(self, world: World, picture: Configuration) -> bool:
-        self.found.add(shown_by(picture))
+    def holds(self, world: World, configuration: Configuration) -> bool:
+        self.found.add(shown_by(configuration))
         return True
 
-    def left(self, world: World, picture: Configuration) -> None:
+    def left(self, world: World, configuration: Configuration) -> None:
         """Provides no variant, so that only invariance is checked."""
 
     def bounds(self, world: World) -> Bounds:
@@ -255,7 +255,7 @@ class Noting:
 
 
 class Following(Walk):
-    """A search that compares what each turn makes of a picture with what the
+    """A search that compares what each turn makes of a configuration with what the
     definitions make of it."""
 
     def __init__(self, *args: Any) -> None:
@@ -265,12 +265,14 @@ class Following(Walk):
 
     def _after(self, state: HistoryState, agent: int) -> HistoryState:
         after = super()._after(state, agent)
-        picture = self._pictures.of(state)
+        configuration = self._configurations.of(state)
         past = state.pasts[agent]
         command = None if past.line is None else command_of(text_of(past.line))
         self.met.add(command["do"] if command else past.state)
-        if self._pictures.of(after) != after_turn(self._world, picture, agent, command):
-            self.differ.append((picture, agent))
+        if self._configurations.of(after) != after_turn(
+            self._world, configuration, agent, command
+        ):
+            self.differ.append((configuration, agent))
         return after
 
 
@@ -326,7 +328,7 @@ class Invariants(InFolder):
             self.output,
         )
         self.assertIn(
-            "pictures of 9 matches; pictures that no schedule reaches were not tried",
+            "configurations of 9 matches; configurations that no schedule reaches were not tried",
             self.output,
         )
 
@@ -347,13 +349,15 @@ class Invariants(InFolder):
 
     def test_each_order_of_turns_on_the_triangle_is_tried(self) -> None:
         """The agent that is lost has two turns, and the other six: any two numbers of
-        turns make a picture."""
+        turns make a configuration."""
         self.assertEqual(
             self.command(INVARIANTS / "triangle.py", TRIANGLE, "--network", "ring:3"),
             0,
             self.output,
         )
-        self.assertEqual(self.output.count(": 21 pictures, holds, most moves 3, "), 2)
+        self.assertEqual(
+            self.output.count(": 21 configurations, holds, most moves 3, "), 2
+        )
 
     def test_of_a_wrong_candidate_the_first_picture_is_told(self) -> None:
         for name, mistake in MISTAKES.items():
@@ -398,9 +402,9 @@ class Invariants(InFolder):
                 assert breach is not None
                 choices = list(breach.choices)
                 match = under(schedulers.recorded_scheduler(choices), fixture, SHUTTLE)
-                self.assertEqual(view_of(match.match), shown_by(breach.picture))
+                self.assertEqual(view_of(match.match), shown_by(breach.configuration))
                 accused_value = {
-                    link_end for link_end in breach.picture.accused if link_end
+                    link_end for link_end in breach.configuration.accused if link_end
                 }
                 self.assertEqual(set(match.match.accused), accused_value)
 
@@ -431,7 +435,7 @@ class Invariants(InFolder):
     def test_a_match_that_is_not_solved_is_told_whatever_the_candidate(self) -> None:
         path = self.folder / "always.py"
         path.write_text(
-            "def holds(world, picture):\n    return True\n", encoding="utf-8"
+            "def holds(world, configuration):\n    return True\n", encoding="utf-8"
         )
         reads_once = [
             AgentWords(
@@ -450,7 +454,7 @@ class Invariants(InFolder):
         (self.folder / "faulty.py").write_text(FAULTY, encoding="utf-8")
         path = self.folder / "always.py"
         path.write_text(
-            "def holds(world, picture):\n    return True\n", encoding="utf-8"
+            "def holds(world, configuration):\n    return True\n", encoding="utf-8"
         )
         for words, message in FAILURES.items():
             with self.subTest(words):
@@ -468,7 +472,7 @@ class Invariants(InFolder):
         path.write_text(text.replace("turns=8", "turns=7"), encoding="utf-8")
         self.assertEqual(self.command(path, TRIANGLE, "--network", "ring:3"), 1)
         self.assertIn(
-            "1 picture, at the start: left is 8 at the start, and bounds says at most 7 turns",
+            "1 configuration, at the start: left is 8 at the start, and bounds says at most 7 turns",
             self.output,
         )
 
@@ -511,6 +515,6 @@ class Invariants(InFolder):
             130,
         )
         self.assertIn(
-            "stopped before all pictures were tried; the candidate held at those that were",
+            "stopped before all configurations were tried; the candidate held at those that were",
             self.output,
         )

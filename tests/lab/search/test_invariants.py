@@ -23,16 +23,16 @@ BLANK = Configuration(
 )
 # source of a candidate -> error when it is loaded
 FILES = {
-    "def hold(world, picture): return True": "it has no function holds",
-    "def holds(world): return True": "holds takes other values: write `def holds(world, picture): ..`",
-    "def holds(world, picture): return True\n\n\ndef bounds(): pass": "bounds takes other values",
-    "def holds(world, picture) return True": "line 1: ",
+    "def hold(world, configuration): return True": "it has no function holds",
+    "def holds(world): return True": "holds takes other values: write `def holds(world, configuration): ..`",
+    "def holds(world, configuration): return True\n\n\ndef bounds(): pass": "bounds takes other values",
+    "def holds(world, configuration) return True": "line 1: ",
     "import nowhere": "it raises ModuleNotFoundError: No module named 'nowhere'",
 }
 # source of a candidate -> error at a configuration
 SAYS = {
-    "def holds(world, picture): pass": "holds gives None, and neither True nor False",
-    "def holds(world, picture):\n    return picture.moves / 0 == 1": "holds raises ZeroDivisionError in line 2: ",
+    "def holds(world, configuration): pass": "holds gives None, and neither True nor False",
+    "def holds(world, state):\n    return state.moves / 0 == 1": "holds raises ZeroDivisionError in line 2: ",
 }
 
 
@@ -58,14 +58,14 @@ class Files(InTemporary):
                 str(error.exception).startswith(message), str(error.exception)
             )
         negative = self.candidate(
-            "def holds(world, picture): return True\ndef left(world, picture): return -1"
+            "def holds(world, configuration): return True\ndef left(world, configuration): return -1"
         )
         with self.assertRaises(CandidateWrongError):
             negative.left(WORLD, BLANK)
 
     def test_a_file_may_leave_out_all_but_the_test(self) -> None:
         candidate = self.candidate(
-            "def holds(world, picture): return picture.moves == 0"
+            "def holds(world, configuration): return configuration.moves == 0"
         )
         self.assertTrue(candidate.holds(WORLD, BLANK))
         self.assertFalse(candidate.holds(WORLD, BLANK._replace(moves=1)))
@@ -76,7 +76,7 @@ class Files(InTemporary):
         (self.folder / "beside.py").write_text("MOST = 7", encoding="utf-8")
         candidate = self.candidate(
             "from arena_lab.search.configurations import Bounds\nfrom beside import MOST\n"
-            "def holds(world, picture): return True\n"
+            "def holds(world, configuration): return True\n"
             "def bounds(world): return Bounds(moves=MOST)\n"
         )
         self.assertEqual(candidate.bounds(WORLD).moves, 7)
