@@ -22,8 +22,7 @@ from typing import List, Tuple
 
 from arena_lab.commands.words import add_program
 from arena_lab.rules.engines import program_at
-from arena_lab.rules.model import spell
-from arena_lab.rules.printed import READERS, reading
+from arena_lab.rules.printed import READERS, line_of, reading
 from arena_lab.support.built import without_warning
 
 # the program's status for a command line that it refuses
@@ -56,7 +55,7 @@ def run(args: argparse.Namespace) -> int:
     order = [args.order, *args.words]
     status, output, errors = run_program([program_at(args.program), *order])
     if status != REFUSED_STATUS:
-        print(spell(reading(order, output, errors, status)))
+        print(line_of(reading(order, output, errors, status)))
     return status
 
 

@@ -30,10 +30,10 @@ ADVICE = {
     "main": "name the function `run`; nobody calls `main`",
     "segment": "give the memory as many pages as the data takes",
     "size": "make it smaller",
+    "index": "export a function of its own as `run`; else it was changed, or cut off: build it again",
     **dict.fromkeys(
         (
             "type",
-            "index",
             "block",
             "alignment",
             "end",

@@ -7,7 +7,7 @@ import json
 import re
 from typing import Any, Callable, Dict, List, NamedTuple, Sequence, Tuple
 
-from arena_lab.rules.model import Object, Verdict, rank
+from arena_lab.rules.model import Object, Verdict, rank, spell
 from arena_lab.rules.refusals import split_line
 from arena_lab.support.faults import ArenaError
 
@@ -16,6 +16,8 @@ OUTCOME = r"solved|guess \d+|unfinished|silent|wrong"
 TEAM = re.compile(rf" *(\d+) (\S+) +({OUTCOME}) +(\d+) +(\d+)")
 VERDICT = re.compile(rf"({OUTCOME}) moves (\d+) lost (\d+)")
 MATCH = re.compile(r"match (\d+) (\S+) nodes (\d+) links (\d+) agents (\d+)")
+# characters that JSON may have as they are, and at which readers of lines end a line
+LINE_ENDS = str.maketrans({"\x85": r"\u0085", "\u2028": r"\u2028", "\u2029": r"\u2029"})
 
 
 class PrintedTextError(ArenaError):
@@ -164,3 +166,9 @@ def reading(words: Sequence[str], text: str, errors: str, status: int) -> Object
         "faults": faults,
         "notes": notes,
     }
+
+
+def line_of(result: Object) -> str:
+    """Returns the JSON of what `reading` gives as one line, also for readers that take
+    Unicode's line separators for the end of a line."""
+    return spell(result).translate(LINE_ENDS)

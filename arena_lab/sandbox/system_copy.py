@@ -8,6 +8,7 @@ of those on which these depend, and of the `packages` that are named besides. Th
 folders that are named as `tools` are copied too, if there is room.
 """
 import contextlib
+import fcntl
 import functools
 import os
 import pathlib
@@ -23,7 +24,7 @@ from arena_lab.sandbox.isolation import PATH, SETTINGS, TOOLS
 # where file systems in memory are, and how many bytes of them a copy may take
 PLACES = ("/dev/shm", os.environ.get("XDG_RUNTIME_DIR", "/dev/shm"))
 MAX_BYTES = 1 << 30
-PREFIX = "lab-root-"
+PREFIX = "lab-system-"
 # what each program may need: its sandbox is begun by Python and tar, and scripts by a
 # shell
 ALWAYS = (
@@ -78,9 +79,7 @@ def copy_system(
     inside = all_in(map(os.path.realpath, tools))
     extra_bytes = sum(os.lstat(path).st_size for path in inside if is_plain(path))
     room = size + extra_bytes if size + extra_bytes <= MAX_BYTES else size
-    with tempfile.TemporaryDirectory(
-        prefix=f"{PREFIX}{os.getpid()}-", dir=place_for(room)
-    ) as folder:
+    with locked_folder(place_for(room)) as folder:
         os.chmod(folder, 0o755)
         names = "\0".join(path.lstrip("/") for path in paths).encode(
             errors="surrogateescape"
@@ -131,14 +130,47 @@ def place_for(size: int) -> str:
     )
 
 
+def lock_folder(folder: str, operation: int) -> int:
+    """Locks a folder for this process; returns the descriptor that holds the lock.
+    Raises OSError if there is no such folder, or if another process holds the lock and
+    the operation does not wait."""
+    descriptor = os.open(folder, os.O_RDONLY | os.O_DIRECTORY | os.O_NOFOLLOW)
+    try:
+        fcntl.flock(descriptor, operation)
+        # another lab may have removed the folder before the lock was taken
+        if not os.path.samestat(os.stat(folder), os.fstat(descriptor)):
+            raise FileNotFoundError(folder)
+    except OSError:
+        os.close(descriptor)
+        raise
+    return descriptor
+
+
+@contextlib.contextmanager
+def locked_folder(parent: str) -> Iterator[str]:
+    """A new folder for a copy, which is locked as long as the copy is in use. The kernel
+    drops the lock with the process, whose number says nothing to a lab in another
+    namespace that shares the file system."""
+    with contextlib.ExitStack() as stack:
+        while True:
+            folder = tempfile.TemporaryDirectory(prefix=PREFIX, dir=parent)
+            try:
+                stack.callback(os.close, lock_folder(folder.name, fcntl.LOCK_EX))
+                break
+            except FileNotFoundError:
+                folder.cleanup()
+        yield stack.enter_context(folder)
+
+
 def remove_left() -> None:
-    """Removes copies of commands that were killed."""
+    """Removes copies of commands that were killed: nobody holds the lock of these."""
     for path in {
         path for folder in PLACES for path in pathlib.Path(folder).glob(f"{PREFIX}*")
     }:
-        process = path.name[len(PREFIX) :].partition("-")[0]
-        if not os.path.exists(f"/proc/{process}"):
+        with contextlib.suppress(OSError):
+            descriptor = lock_folder(str(path), fcntl.LOCK_EX | fcntl.LOCK_NB)
             shutil.rmtree(path, ignore_errors=True)
+            os.close(descriptor)
 
 
 def owners(commands: Iterable[str], tools: Sequence[str] = ()) -> List[str]:

@@ -132,6 +132,7 @@ class Runs(InFolder):
         self.assertEqual(status, alone.status)
         error_text = alone.stderr.decode()
         self.assertIn(re.sub("^arena: .*\n", "", error_text), errors)
+        self.assertEqual(output.splitlines(), [output.removesuffix("\n")])
         report: Dict[str, Any] = json.loads(output)
         Validator(SCHEMA).validate(report)
         text = alone.stdout.decode()
@@ -179,6 +180,7 @@ class Runs(InFolder):
             ("a: b is ignored", "a: b is ignored"),
             ("a: the schedule is x", "a: the schedule is x"),
             ("a\u2028b\n", "a\u2028b\\n"),
+            ("a\u2029b", "a\u2029b"),
             ("\x1b: y", r"\u{1b}: y"),
             ("a\u202eb: c", r"a\u{202e}b: c"),
             ("a\x7f\x9f\u061c: c", r"a\u{7f}\u{9f}\u{61c}: c"),
