@@ -21,7 +21,7 @@ WAKEUPS = 2**32 - 1
 ADVICE = {
     "head": "give the file that the linker writes, in place of its text or of an object file",
     "float": "compute with integers",
-    "opcode": "compile for WebAssembly's first version, with `-mcpu=mvp`",
+    "opcode": "compile for WebAssembly's first version, with `-mcpu=mvp -mbulk-memory`",
     "import": "declare the functions as `arena.h` does, and link without a system's library",
     "import type": "declare it as `arena.h` does: all numbers are 32-bit integers, and each command has a result",
     "start": "begin in `run`",

@@ -1,6 +1,7 @@
 """Cases of `arena explore --module`: a search that solves, agents that fail, and each
 instruction on integers as node's own WebAssembly has it."""
 import hashlib
+import re
 import shutil
 import subprocess
 import sys
@@ -45,7 +46,8 @@ from tests.support.wasm_encoding import (
 )
 
 FAILING = 1
-RING = TOP / "examples" / "agents" / "wasm" / "ring.wasm"
+WASM = TOP / "examples" / "agents" / "wasm"
+RING = WASM / "ring.wasm"
 DATA = bytes(range(7, 256, 5))
 CALL = b"\x10"
 DROP = b"\x1a"
@@ -198,39 +200,30 @@ def too_many_states(stage: Stage) -> None:
     expect(run, b"", message, REFUSED_TEXT)
 
 
-@case("the sample module is what clang makes of its source, as far as searches tell")
-def compile_sample(stage: Stage) -> None:
+@case("sample modules are what clang makes of their sources, as far as searches tell")
+def compile_samples(stage: Stage) -> None:
     if shutil.which("clang") is None or shutil.which("wasm-ld") is None:
         raise unittest.SkipTest("clang or lld is not installed")
+    flags = re.search("^CFLAGS = (.*)$", (WASM / "Makefile").read_text(), re.M)
     agent = stage.folder / "agent.wasm"
-    subprocess.run(
-        [
-            "clang",
-            "--target=wasm32",
-            "-O1",
-            "-nostdlib",
-            "-Wl,--no-entry,--stack-first,-z,stack-size=1024",
-            "-o",
-            agent,
-            RING.with_suffix(".c"),
-        ],
-        check=True,
-    )
     writes(
         stage,
         tri=TRIANGLE,
         cup=CUP.replace("quota = 10", "quota = 100").replace("board = 8", "board = 48"),
     )
-    results = [
-        stage.run(
-            ["explore", "cup.toml", "0", "--module", f"{file}:3"], b""
-        ).stdout.splitlines()[0]
-        for file in (agent, RING)
-    ]
-    if results[0] != results[1] or not results[0].startswith(
-        b'{"found":"solves","moves":4,'
-    ):
-        raise FailedCheckError(f"found {results}")
+    for name, arguments, moves in (("ring", "3", 4), ("chart", "3,0", 7)):
+        source = WASM / f"{name}.c"
+        subprocess.run(["clang", *flags[1].split(), "-o", agent, source], check=True)
+        results = [
+            stage.run(
+                ["explore", "cup.toml", "0", "--module", f"{file}:{arguments}"], b""
+            ).stdout.splitlines()[0]
+            for file in (agent, source.with_suffix(".wasm"))
+        ]
+        if results[0] != results[1] or not results[0].startswith(
+            b'{"found":"solves","moves":%d,' % moves
+        ):
+            raise FailedCheckError(f"found {results}")
 
 
 @case("a module that ends at once is silent")

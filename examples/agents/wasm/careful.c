@@ -14,12 +14,6 @@ static int safe[BOTH]; /* the same of both sides, as it stood at the home base *
 /* what a whiteboard shows and what is written there; cleared once they are used, so that they tell no states apart */
 static char shown[BOARD], put[BOARD];
 
-static void clear(char *text)
-{
-    for (int i = 0; i < BOARD; i++)
-        text[i] = 0;
-}
-
 static char *put_number(char *to, int number)
 {
     if (number >= 10)
@@ -49,8 +43,8 @@ static int write_board(int length)
     *end++ = ' ';
     end = put_number(end, safe[1]);
     int reply = arena_write(shown, length, put, (int)(end - put));
-    clear(shown);
-    clear(put);
+    arena_clear(shown, BOARD);
+    arena_clear(put, BOARD);
     return reply;
 }
 
@@ -62,7 +56,7 @@ static int choose_side(void)
     side = reply != ARENA_WRITTEN;
     if (side)
         read_board();
-    clear(shown);
+    arena_clear(shown, BOARD);
     return reply == ARENA_WRITTEN || reply == ARENA_CHANGED;
 }
 

@@ -44,16 +44,10 @@ static int number_at(const char *at)
     return 64 * (at[0] - ' ') + (at[1] - ' ');
 }
 
-static void clear(void *from, int size)
-{
-    for (volatile char *at = from; size > 0; size--)
-        *at++ = 0;
-}
-
 static void forget(void)
 {
-    clear(chart, sizeof chart);
-    clear(shown, sizeof shown);
+    arena_clear(chart, sizeof chart);
+    arena_clear(shown, sizeof shown);
     rows = 0;
 }
 
@@ -69,7 +63,7 @@ static struct row *add(int father, int port, int degree)
 /* Takes the chart that the home base shows; if it shows none, the home base alone is known. */
 static void read_chart(int length, int ports)
 {
-    clear(chart, sizeof chart);
+    arena_clear(chart, sizeof chart);
     rows = 0;
     if (length == 0)
         add(0, 0, ports);
@@ -93,9 +87,9 @@ static int write_chart(int length)
     int reply = arena_write(shown, length, put, (int)(end - put));
     if (reply < 0 && reply != ARENA_SPENT)
         __builtin_trap();
-    for (int at = 0; reply == ARENA_WRITTEN && at < TEXT; at++)
-        shown[at] = put[at];
-    clear(put, sizeof put);
+    if (reply == ARENA_WRITTEN)
+        arena_copy(shown, put, TEXT);
+    arena_clear(put, sizeof put);
     return reply;
 }
 
@@ -194,8 +188,8 @@ static int explore(int place)
     while (count > 0)
         if (arena_depart(behind[--count]) != ARENA_HERE)
             return 0;
-    clear(ahead, sizeof ahead);
-    clear(behind, sizeof behind);
+    arena_clear(ahead, sizeof ahead);
+    arena_clear(behind, sizeof behind);
     int reply;
     do
         reply = note(place, father, port, degree);
