@@ -6,22 +6,26 @@
     ./arena-lab json [--program PATH] explore TOURNAMENT MATCH --module FILE[:N,..] ..
 
 The words behind the command are those of `arena`: `arena judge --help` has them. The
-line has the exit status, the result, or null if there is none, the faults, and notes;
-docs/results.schema.json is its JSON schema. What the program writes to standard error
-is written there, too. The exit status is the program's; a command line that it refuses
-has no JSON.
+line has the exit status, the result, or null if there is none, the faults, and notes.
+Its `origin` says which program found it (version, commit, proved or not), by which
+words and defaults, and has the SHA-256 of the program and of each file that was read:
+whoever has these gets the same line. docs/results.schema.json is its JSON schema. What
+the program writes to standard error is written there, too. The exit status is the
+program's; a command line that it refuses has no JSON.
 
 What the proved program prints is proved. The JSON is the lab's reading of that text,
 and not proved: the reading is spelled again, and must give the text.
 """
 import argparse
+import pathlib
 import subprocess
 import sys
 import tempfile
 from typing import List, Tuple
 
 from arena_lab.commands.words import add_program
-from arena_lab.rules.engines import program_at
+from arena_lab.rules.engines import program_at, program_output
+from arena_lab.rules.origins import digests_of, files_of, origin_of
 from arena_lab.rules.printed import READERS, line_of, reading
 from arena_lab.support.built import without_warning
 
@@ -53,9 +57,13 @@ def run(args: argparse.Namespace) -> int:
             "leave out --all-holes: `arena explore --all-holes` prints lines of JSON itself, of several matches"
         )
     order = [args.order, *args.words]
-    status, output, errors = run_program([program_at(args.program), *order])
+    program = program_at(args.program)
+    files = digests_of(files_of(args.words))
+    status, output, errors = run_program([program, *order])
     if status != REFUSED_STATUS:
-        print(line_of(reading(order, output, errors, status)))
+        help_text = program_output(program, args.order, "-h")
+        origin = origin_of(pathlib.Path(program), order, files, help_text)
+        print(line_of({**reading(order, output, errors, status), "origin": origin}))
     return status
 
 

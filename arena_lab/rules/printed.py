@@ -156,8 +156,8 @@ def faults_in(errors: str, words: Sequence[str]) -> Tuple[List[Object], List[str
 
 
 def reading(words: Sequence[str], text: str, errors: str, status: int) -> Object:
-    """Returns the results of a command of the program as one object;
-    docs/results.schema.json has its schema."""
+    """Returns the results of a command of the program as one object; with its origin
+    (origins.py) it has the schema docs/results.schema.json."""
     faults, notes = faults_in(errors, words)
     return {
         "command": words[0],

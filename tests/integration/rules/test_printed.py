@@ -13,7 +13,8 @@ from jsonschema.validators import validator_for
 
 from arena_lab.__main__ import main
 from arena_lab.rules import printed
-from arena_lab.rules.engines import TOP
+from arena_lab.rules.engines import TOP, name_of
+from arena_lab.support import built
 from tests.support.matches import InFolder, program
 from tests.support.output import run_call
 from tests.support.program_rows import Stage, Step, rows_of
@@ -24,6 +25,18 @@ SCHEMA: Dict[str, Any] = json.loads(
     (TOP / "docs" / "results.schema.json").read_text(encoding="utf-8")
 )
 Validator = validator_for(SCHEMA)
+# the origin of a line whose program has no record, and whose words name no file
+ORIGIN = {
+    "program": {
+        **dict.fromkeys(("version", "commit", "tree", "toolchain")),
+        "name": built.UNKNOWN,
+        "proved": False,
+        "sha256": "0" * 64,
+    },
+    "words": ["judge"],
+    "defaults": {},
+    "files": [],
+}
 EXAMPLES = TOP / "examples"
 # lines of `explore` to its host, which stand before the result
 ASKED = re.compile(r'\{"(begin|ask|visited)":.*\n')
@@ -66,7 +79,7 @@ class Rows(unittest.TestCase):
         for text, step, reading in self.readings():
             count += 1
             results.setdefault(reading["command"], set()).add(step.status)
-            Validator(SCHEMA).validate(reading)
+            Validator(SCHEMA).validate({**reading, "origin": ORIGIN})
             self.assertEqual(reading["status"], step.status)
             names = {"#", "team", "outcome", "moves", "lost", "match", "nodes", "links"}
             names |= {"agents", *re.findall(r'"(\w+)":', text)}
@@ -135,6 +148,12 @@ class Runs(InFolder):
         self.assertEqual(output.splitlines(), [output.removesuffix("\n")])
         report: Dict[str, Any] = json.loads(output)
         Validator(SCHEMA).validate(report)
+        origin = report["origin"]
+        self.assertEqual(
+            (origin["program"]["sha256"], origin["program"]["name"]),
+            (built.digest_of(pathlib.Path(program())), name_of(program())),
+        )
+        self.assertEqual(origin["words"], [*map(str, words)])
         text = alone.stdout.decode()
         self.assertEqual(report["result"], printed.result_in(str(words[0]), text))
         return report
@@ -161,6 +180,14 @@ class Runs(InFolder):
             result = self.compare("explore", "examples/first.toml", 0, *arguments)
             self.assertEqual(
                 (result["status"], result["result"]["found"]["found"]), (1, "fails")
+            )
+            files = [row["file"] for row in result["origin"]["files"]]
+            self.assertEqual(files[0], "examples/first.toml")
+            self.assertEqual(files[-1], str(leaver))
+            self.assertIn("examples/triangle.toml", files)
+            self.assertEqual(
+                result["origin"]["defaults"],
+                {"max-states": "10000000", "spurious-wakeups": "2"},
             )
 
     def test_what_is_left_out_of_a_table_is_a_fault(self) -> None:
