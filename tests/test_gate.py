@@ -156,7 +156,7 @@ class Gate(unittest.TestCase):
         with unittest.mock.patch.multiple(
             gate, CRATES=crates, libraries_of=lambda: libraries
         ), unittest.mock.patch.object(
-            gate.subprocess, "run", tries
+            parts.subprocess, "run", tries
         ), contextlib.redirect_stdout(
             io.StringIO()
         ) as output:
@@ -193,4 +193,59 @@ class Gate(unittest.TestCase):
     def test_other_words_run_nothing(self) -> None:
         status, output, _ = run_call(gate.main, ["anew"])
         self.assertEqual(status, 2)
-        self.assertIn("tools/gate [--anew | --played]", output)
+        self.assertIn("tools/gate [--anew | --played | --quick]", output)
+
+
+class Quick(unittest.TestCase):
+    def run_quickly(self, *failing: str) -> Tuple[int, List[str], List[List[str]]]:
+        """The exit status and the lines of `--quick`, where the commands with these
+        words fail, and the commands."""
+        commands = []
+
+        def runs(words, **_):
+            commands.append(words[words.index("-m") + 1 :])
+            status = int(bool({*words} & {*failing}))
+            return subprocess.CompletedProcess(
+                words, status, f"{1 - status} passed, {status} failed\n"
+            )
+
+        def plays(words, *_, **__):
+            result = runs(words)
+            return parts.CommandEnd(result.returncode, parts.counts_in(result.stdout))
+
+        with unittest.mock.patch.multiple(
+            parts, failures=[], skip_reasons=[]
+        ), unittest.mock.patch.object(
+            parts.subprocess, "run", runs
+        ), unittest.mock.patch.object(
+            gate.packages, "install", return_value=""
+        ), unittest.mock.patch.multiple(
+            gate.quick, run=plays, is_compiled=lambda: True
+        ):
+            status, output, _ = run_call(gate.main, ["--quick"])
+        return status, output.splitlines(), commands
+
+    def test_it_compiles_and_plays_and_says_what_is_left_out(self) -> None:
+        status, lines, commands = self.run_quickly()
+        self.assertEqual((status, lines[-1]), (0, f"{len(commands)} passed, 0 failed"))
+        self.assertRegex(lines[-2], "^left out, `.ci/run` has it: proofs, edits, instr")
+        for name in ("tools.prove.unproved", "tests.runners.library_tests"):
+            self.assertIn([name], commands)
+        self.assertIn(["tests.runners.program_tests", gate.quick.PROGRAM], commands)
+        self.assertEqual(
+            commands[-1], ["tests.runners.integration_tests", gate.quick.PROGRAM]
+        )
+
+    def test_what_fails_is_named_and_counted(self) -> None:
+        status, lines, commands = self.run_quickly("tests.runners.library_tests")
+        self.assertEqual(
+            (status, lines[-1]), (1, f"{len(commands) - 1} passed, 1 failed")
+        )
+        self.assertIn("-m tests.runners.library_tests: 0 passed, 1 failed", lines[-4:])
+
+    def test_the_command_of_the_gate_passes_words_on(self) -> None:
+        result = subprocess.run(
+            [TOP / ".ci" / "run", "--help"], capture_output=True, text=True
+        )
+        self.assertEqual(result.returncode, 0)
+        self.assertIn("--quick", result.stdout)

@@ -82,6 +82,29 @@ def run(
     return CommandEnd(child.returncode, counts_in(last_line), has_skipped)
 
 
+def run_and_show(words: Sequence[str], **variables: str) -> Counts:
+    """Runs a command of Python with what others leave of the processors, prints what it
+    said once it has ended, and gives its counts."""
+    result = subprocess.run(
+        ["nice", "-n", "19", PYTHON, *words],
+        cwd=TOP,
+        text=True,
+        errors="replace",
+        stdout=subprocess.PIPE,
+        stderr=subprocess.STDOUT,
+        env={**os.environ, **variables},
+    )
+    lines, _, last = result.stdout.rstrip("\n").rpartition("\n")
+    counts = counts_in(last)
+    all_lines = (lines if counts else result.stdout).splitlines()
+    shown_lines = [line for line in all_lines if not is_skipped(line)]
+    print("\n".join(shown_lines), flush=True)
+    for line in shown_lines:
+        note(line)
+    has_skipped = len(shown_lines) < len(all_lines)
+    return count_tests(CommandEnd(result.returncode, counts, has_skipped))
+
+
 def count_tests(result: CommandEnd) -> Counts:
     """What counts for a command: its own numbers, with one failed if it failed and does
     not say so, and if it counts none and skipped none: then it played nothing."""
@@ -99,13 +122,14 @@ def say(name: str, counts: Counts) -> None:
         failures.append(line)
 
 
-def conclude(counts: Iterable[Counts], lacking: str) -> int:
-    """Prints what was skipped, which packages are lacking, what failed, and the sum:
-    gives how many failed."""
+def conclude(counts: Iterable[Counts], lacking: str, left_out: str = "") -> int:
+    """Prints what was skipped, which packages are lacking, what failed, what was left
+    out, and the sum: gives how many failed."""
     for line in [
         *([f"{len(skip_reasons)} skipped:", *skip_reasons] if skip_reasons else []),
         *([lacking] if lacking else []),
         *(["failed:", *failures] if failures else []),
+        *([left_out] if left_out else []),
     ]:
         print(line)
     passes, failed_count = map(sum, zip(*counts))

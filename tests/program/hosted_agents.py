@@ -6,7 +6,8 @@ import threading
 from typing import Any, Callable, Dict, List, NamedTuple, Sequence, Tuple, Union
 
 from tests.program.program_cases import SEED, TRIANGLE, writes
-from tests.support.program_rows import PATIENCE, Stage
+from tests.support.program_rows import Stage
+from tests.support.servers import without_warning
 
 FAILING = 1
 WAKES = "wakes"
@@ -100,7 +101,7 @@ def explore(
         stderr=subprocess.PIPE,
     )
     assert child.stdin and child.stdout and child.stderr
-    patience = threading.Timer(PATIENCE, child.kill)
+    patience = threading.Timer(stage.patience, child.kill)
     patience.start()
     host = Host(agents, keeps)
     last = []
@@ -112,7 +113,7 @@ def explore(
                 child.stdin.flush()
             elif "visited" not in message:
                 last.append(message)
-        fault = child.stderr.read().decode().strip()
+        fault = without_warning(child.stderr.read()).decode().strip()
         child.wait()
     finally:
         patience.cancel()

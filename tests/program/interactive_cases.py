@@ -20,7 +20,6 @@ from tests.program.program_cases import (
 from tests.support.counts import require
 from tests.support.program_rows import (
     DONE,
-    PATIENCE,
     REFUSED_TEXT,
     Stage,
     FailedCheckError,
@@ -46,7 +45,7 @@ def lockstep(stage: Stage, lines: Sequence[str]) -> List[bytes]:
         stdin=subprocess.PIPE,
         stdout=subprocess.PIPE,
     )
-    patience = threading.Timer(PATIENCE, player.kill)
+    patience = threading.Timer(stage.patience, player.kill)
     patience.start()
     answers = []
     try:
@@ -57,7 +56,7 @@ def lockstep(stage: Stage, lines: Sequence[str]) -> List[bytes]:
             if player.poll() is not None:
                 raise FailedCheckError(f"no answer came to {line[:60]}")
         player.stdin.close()
-        if player.wait(PATIENCE) != DONE or player.stdout.read():
+        if player.wait(stage.patience) != DONE or player.stdout.read():
             raise FailedCheckError(
                 f"it ended with {player.returncode}, or printed behind the last answer"
             )
@@ -134,7 +133,7 @@ def refused_line(stage: Stage) -> None:
 def adversary(stage: Stage) -> None:
     result = subprocess.run(
         [sys.executable, TOP / "examples" / "last_departed.py", stage.program],
-        timeout=PATIENCE,
+        timeout=stage.patience,
         stdout=subprocess.PIPE,
         env={**os.environ, "PYTHONDONTWRITEBYTECODE": "1"},
     )

@@ -37,7 +37,7 @@ from typing import Dict, List, NamedTuple, Optional
 
 from arena_lab.rules.delays import Delays
 from tests.support.counts import FailedCheckError, report_counts, require
-from tests.support.servers import enter, serve
+from tests.support.servers import enter, serve, without_warning
 from tests.support.session_lines import DEPART, GONE, LOOK
 from tests.support.tournaments import TRIANGLE, match, write_cup
 
@@ -110,7 +110,7 @@ def finish(program: str, folder: pathlib.Path) -> List[bytes]:
         capture_output=True,
         timeout=PATIENCE,
     )
-    if result.returncode or result.stderr:
+    if result.returncode or without_warning(result.stderr):
         raise FailedCheckError(f"recover: {result.stderr!r}")
     names = [f"match{number}.jsonl" for number in range(len(TEAMS))]
     require(

@@ -1,11 +1,9 @@
 """Cases of the largest networks and quotas, and of the longest texts and names."""
 import os
-import sys
 
 from arena_lab.rules.limits import MAX_LINE, MAX_TEXT
 from tests.program.program_cases import (
     BAD,
-    CRAMPED,
     CUP,
     ENTER,
     HERE,
@@ -100,7 +98,7 @@ def large_match(stage: Stage) -> None:
         tri=TRIANGLE,
     )
     expect(stage.run(["check", "cup.toml"]), b"match 0 red nodes 3 links 3 agents 64\n")
-    front = [sys.executable, "-c", CRAMPED, str(400 << 20)]
+    front = stage.memory_limit(400 << 20)
     expect(
         stage.run(["check", "cup.toml"], front=front),
         b"",

@@ -4,13 +4,11 @@ import hashlib
 import re
 import shutil
 import subprocess
-import sys
 import unittest
 from typing import Dict, List, Sequence
 
 from arena_lab.rules.networks import complete, ring
 from tests.program.program_cases import (
-    CRAMPED,
     CUP,
     NO_MEMORY,
     TOP,
@@ -234,6 +232,7 @@ def ends(stage: Stage) -> None:
 
 @case("agents that fail are told of by cause and function")
 def fails(stage: Stage) -> None:
+    stage.skip_with_sanitizer("takes minutes to burn the fuel of an agent")
     for cause, agent, function in (
         ("trap", running(b"\x00"), 0),
         ("trap", running(b"\x00", "look"), 1),
@@ -259,6 +258,7 @@ def looks_outside(stage: Stage) -> None:
 
 @case("each 64 bytes that are filled or copied burn fuel as an instruction does")
 def burns(stage: Stage) -> None:
+    stage.skip_with_sanitizer("takes minutes to burn the fuel of an agent")
     whole = constant(I32, GROWTH * 65_536)
     grows = constant(I32, GROWTH) + GROW + DROP
     fills = constant(I32, 0) + constant(I32, 1) + whole + FILL
@@ -372,7 +372,7 @@ def grown(stage: Stage) -> None:
         + FILL
     )
     agent = running(enters + LOOP + grows + looks + AGAIN + END, "enter", "look")
-    front = [sys.executable, "-c", CRAMPED, str(200 << 20)]
+    front = stage.memory_limit(200 << 20)
     expect(
         run_module(stage, agent, front=front), b"", b"agent.wasm: memory\n", NO_MEMORY
     )
@@ -388,6 +388,7 @@ def large_table(stage: Stage) -> None:
 
 @case("each black hole of a ring of 48 nodes is tried")
 def many_holes(stage: Stage) -> None:
+    stage.skip_with_sanitizer("takes minutes to try these schedules")
     write_cup(stage.folder, [match("red", ring(48), [1], quota=2_000, board=48)])
     (stage.folder / "ring.wasm").write_bytes(RING.read_bytes())
     words = ["explore", "cup.toml", "0", "--all-holes", "--draws", "1"]

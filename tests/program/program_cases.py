@@ -100,12 +100,6 @@ def spends(stage: Stage, first: Sequence[Tuple[str, str]], looks: int) -> None:
     )
 
 
-# Runs a command that may map this many bytes.
-CRAMPED = """import os, resource, sys
-resource.setrlimit(resource.RLIMIT_AS, (int(sys.argv[1]),) * 2)
-os.execv(sys.argv[2], sys.argv[2:])"""
-
-
 @case("a quota is used up by ten looks")
 def quota_of_looks(stage: Stage) -> None:
     spends(stage, [], 10)

@@ -36,11 +36,13 @@ changed. Behind each fault but `text` a line of what helps is told, any that beg
 two spaces. Notes on a tournament, of ignored keys, the schedule and links, are passed
 over where a row wants none.
 """
+import functools
 import itertools
 import pathlib
 import re
 import shlex
 import subprocess
+import sys
 import tempfile
 import unittest
 from typing import (
@@ -55,11 +57,13 @@ from typing import (
     Union,
 )
 
-from arena_lab.support.built import PORT_LINE
+from arena_lab.support.built import UNPROVED_LINE, warning_of
 from tests.support.counts import FailedCheckError, require
-from tests.support.servers import Run, without_notes
+from tests.support.servers import Run, without_notes, without_warning
 
 PATIENCE = 60
+# how much more time a program with AddressSanitizer may take
+SLOWNESS = 10
 # longest part of an unexpected line to print
 SHOWN = 160
 HEADS = "$@=%/"
@@ -75,12 +79,27 @@ SOME_HELP = b"  ..\n"
 Word = Union[str, bytes]
 
 
+# runs a command that may map this many bytes
+CRAMPED = """import os, resource, sys
+resource.setrlimit(resource.RLIMIT_AS, (int(sys.argv[1]),) * 2)
+os.execv(sys.argv[2], sys.argv[2:])"""
+
+
+@functools.lru_cache(maxsize=None)
+def has_sanitizer(program: str) -> bool:
+    """Returns whether a program is one without a proof, which is compiled with
+    AddressSanitizer."""
+    return warning_of(pathlib.Path(program)) == UNPROVED_LINE
+
+
 class Stage:
     """A program in a folder of its own."""
 
     def __init__(self, program: str, folder: pathlib.Path) -> None:
         self.program = str(pathlib.Path(program).resolve())
         self.folder = folder
+        self.is_slow = has_sanitizer(self.program)
+        self.patience = PATIENCE * (SLOWNESS if self.is_slow else 1)
 
     def run(
         self,
@@ -98,18 +117,29 @@ class Stage:
                 [*front, self.program, *words],
                 cwd=self.folder,
                 input=script,
-                timeout=PATIENCE,
+                timeout=self.patience,
                 **{**plain, **streams},
             )
         except subprocess.TimeoutExpired:
-            raise FailedCheckError(f"it did not end in {PATIENCE} seconds") from None
-        # a program that rustc compiled says so at each start
-        errors = (result.stderr or b"").replace(f"{PORT_LINE}\n".encode(), b"", 1)
+            raise FailedCheckError(
+                f"it did not end in {self.patience} seconds"
+            ) from None
+        errors = without_warning(result.stderr or b"")
         return Run(
             result.returncode,
             result.stdout or b"",
             errors if wants_notes else without_notes(errors, words),
         )
+
+    def memory_limit(self, size: int) -> List[str]:
+        """Returns the words before a command by which it may map so many bytes."""
+        self.skip_with_sanitizer("maps more memory by itself")
+        return [sys.executable, "-c", CRAMPED, str(size)]
+
+    def skip_with_sanitizer(self, reason: str) -> None:
+        """Skips the case for a reason if the program has AddressSanitizer."""
+        if self.is_slow:
+            raise unittest.SkipTest(f"a program with AddressSanitizer {reason}")
 
 
 class Step(NamedTuple):

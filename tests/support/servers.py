@@ -10,7 +10,7 @@ import time
 from typing import Any, NamedTuple, Optional, Sequence, Tuple, Union
 
 from arena_lab.rules.refusals import split_line
-from arena_lab.support.built import TOP
+from arena_lab.support.built import PORT_LINE, TOP, UNPROVED_LINE
 from arena_lab.support.ports import free_port
 from arena_lab.support.waiting import is_ready
 from tests.support.counts import FailedCheckError, require
@@ -20,15 +20,23 @@ HOST = "127.0.0.1"
 START = 20.0
 PATIENCE = 20.0
 END = 60.0
+# warnings of programs without a proof, printed at each start
+WARNINGS = tuple(f"{line}\n".encode() for line in (UNPROVED_LINE, PORT_LINE))
+
+
+def without_warning(errors: bytes) -> bytes:
+    """Standard error of a program, without the line that says that the program is not
+    proved."""
+    return b"".join(line for line in errors.splitlines(True) if line not in WARNINGS)
 
 
 def without_notes(text: bytes, words: Sequence[Union[str, bytes]]) -> bytes:
-    """What a command of these words told but for notes on a tournament: ignored keys,
-    the schedule, links."""
+    """What a command of these words told but for notes on a tournament, ignored keys,
+    the schedule and links, and for the line that the program is not proved."""
     names = [os.fsdecode(word) for word in words]
     return b"".join(
         line
-        for line in text.splitlines(True)
+        for line in without_warning(text).splitlines(True)
         if not split_line(
             line.decode(errors="replace").removesuffix("\n"), names
         ).is_note
