@@ -9,7 +9,7 @@ by which they are ranked.
                                                   plans a contest in which teams hand in programs for these networks
     ./arena-lab hall worker COURSE.toml           plays and grades for a hall that another machine serves
     ./arena-lab hall backup COURSE.toml FILE      writes all that the hall has into an archive, while it is served
-    ./arena-lab hall restore COURSE.toml FILE     puts the present hall aside, and an archive's hall in its place
+    ./arena-lab hall restore COURSE.toml FILE     makes the hall of an archive, in the database that the file names
 
 A team logs in by the token of its key sheet, or sends it with each request as a script.
 To practise it asks for a match on a network of the course, gets a host, a port and
@@ -97,6 +97,11 @@ def add_arguments(parser: argparse.ArgumentParser) -> None:
         "walls between programs: they can then read what this user can, also the hall",
     )
     parser.add_argument(
+        "--aside",
+        action="store_true",
+        help="restore although there is a hall: it is moved to a folder beside it, with its rows",
+    )
+    parser.add_argument(
         "--seconds", metavar="N", type=float, help="end after this number of seconds"
     )
     group = parser.add_argument_group("contest")
@@ -159,9 +164,8 @@ def run(args: argparse.Namespace) -> int:
     if action == "worker":
         return work(args, hall, folder)
     if action == "restore":
-        return restore(
-            HallFolder(folder, course.resolve(), None), pathlib.Path(operands[1])
-        )
+        of = HallFolder(folder, course.resolve(), None)
+        return restore(of, pathlib.Path(operands[1]), args.aside)
     begin(place.at(folder))
     try:
         if action == "backup":
@@ -233,14 +237,11 @@ def check_editor(hall: Hall) -> None:
         )
 
 
-def restore(of: HallFolder, archive: pathlib.Path) -> int:
+def restore(of: HallFolder, archive: pathlib.Path, may_move: bool) -> int:
     """Restores a hall that nobody serves."""
     owner = (of.folder if of.folder.exists() else of.folder.parent).stat()
     with serving.alone(of) if of.folder.exists() else contextlib.nullcontext():
-        aside = backup.restore(of, archive)
-        entry.begin(str(of.folder))
-        backup.load(of, aside)
-        begin(of)
+        aside = backup.restore(of, archive, may_move)
     place.leave(of.folder, owner)
     text = f"; what was there before is in {aside}" if aside else ""
     return report(

@@ -77,9 +77,15 @@ class Commands(Halls):
         broken.write_bytes(archive.read_bytes()[:-2000])
         self.assertIn(
             "no hall can be restored",
-            self.output("restore", self.hall.course, broken, status=2),
+            self.output("restore", self.hall.course, broken, "--aside", status=2),
         )
-        output = self.output("restore", self.hall.course, archive)
+        now = (self.hall.folder / "hall.sqlite3").stat()
+        self.assertIn(
+            "there is a hall already. Say --aside",
+            self.output("restore", self.hall.course, archive, status=2),
+        )
+        self.assertEqual((self.hall.folder / "hall.sqlite3").stat(), now)
+        output = self.output("restore", self.hall.course, archive, "--aside")
         self.assertIn("what was there before is in", output)
         self.assertEqual(
             len(list(self.hall.folder.parent.glob("trial.hall.*/hall.sqlite3"))), 1

@@ -136,9 +136,10 @@ class Drafts(DraftFile):
         self.over(self.tries().json()["id"])
         archive = PLACE.folder.parent / "copy.tar.gz"
         self.addCleanup(archive.unlink)
-        with mock.patch.object(
-            backup, "dump_database", return_value=PLACE.folder / "hall.json"
-        ):
+        database = archive.with_name("empty.sqlite3")
+        database.touch()
+        self.addCleanup(database.unlink)
+        with mock.patch.object(backup, "dump_database", return_value=database):
             backup.write(PLACE, archive)
         with tarfile.open(archive) as tar:
             names = tar.getnames()

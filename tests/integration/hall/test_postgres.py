@@ -4,10 +4,12 @@ import os
 import pathlib
 import shutil
 import subprocess
+import sys
 import tempfile
 import unittest
 from typing import Any, Dict, Iterator, List
 
+from arena_lab.hall.place import HallFolder
 from arena_lab.support.ports import free_port
 from tests.support import halls
 from tests.support.halls import ServedHall, play
@@ -18,6 +20,25 @@ PROGRAMS = (
     if os.geteuid() == 0
     else []
 )
+
+BEGIN = "import sys; from arena_lab.hall import entry; entry.begin(sys.argv[1])\n"
+# writes a message of a team, prints what teams and messages are there, and stays
+# connected
+ADDS = f"""{BEGIN}
+from arena_lab.hall.teams.models import Message, Team
+Message.objects.create(team=Team.objects.get(name="amber"), text="odd")
+"""
+ROWS = f"""{BEGIN}
+from arena_lab.hall.teams.models import Message, Team
+print(*Team.objects.order_by("name").values_list("name", "digest"))
+print(*Message.objects.filter(team__name="amber").values_list("text", flat=True))
+"""
+HOLDS = f"""{BEGIN}
+from django.db import connection
+connection.ensure_connection()
+print(flush=True)
+sys.stdin.read()
+"""
 
 
 def has_all() -> bool:
@@ -65,9 +86,13 @@ class Postgres(halls.Playing):
         self.addCleanup(
             self.run_as, ["pg_ctl", "-D", str(data), "-m", "immediate", "stop"]
         )
-        self.run_as(
-            ["createdb", "-h", "127.0.0.1", "-p", str(self.port), "-U", "hall", "hall"]
-        )
+        self.create("hall")
+
+    def create(self, name: str) -> str:
+        """Makes an empty database; gives its line of a course's file."""
+        words = ["-h", "127.0.0.1", "-p", str(self.port), "-U", "hall", name]
+        self.run_as(["createdb", *words])
+        return f'database = "postgresql://hall@127.0.0.1:{self.port}/{name}"'
 
     def run_as(self, words: List[str]) -> None:
         program = [str(PROGRAMS[-1] / words[0]), *words[1:]]
@@ -113,6 +138,82 @@ class Postgres(halls.Playing):
         result = hall.wait(over, "the trial is over")
         self.assertTrue(result["found"]["right"], result)
 
+    def hall(self, name: str, database: str) -> HallFolder:
+        """The folder of a hall that nobody serves, which is not made."""
+        course = self.folder / f"{name}.toml"
+        course.write_text(
+            halls.COURSE.format(first=4100, last=4199, minutes=1, more=database)
+        )
+        return HallFolder(self.folder / f"{name}.hall", course, None)
+
+    def output(self, *words: object, status: int = 0) -> str:
+        """What a command of the lab says, or a script if the first word is -c."""
+        first = [] if words[0] == "-c" else ["-m", "arena_lab", "hall"]
+        result = subprocess.run(
+            [sys.executable, *first, *map(str, words)],
+            cwd=halls.TOP,
+            text=True,
+            stdin=subprocess.DEVNULL,
+            stdout=subprocess.PIPE,
+            stderr=subprocess.STDOUT,
+        )
+        self.assertEqual(result.returncode, status, result.stdout)
+        return result.stdout
+
+    def test_a_restore_goes_where_the_course_says_and_overwrites_nothing(self) -> None:
+        """A hall over SQLite is restored to SQLite and PostgreSQL, and so is one over
+        PostgreSQL."""
+        for source in ("", self.create("first")):
+            live = self.hall(f"live{len(source)}", source)
+            live.write()
+            self.output("keys", live.course)
+            archive = live.folder.with_suffix(".tar.gz")
+            self.output("-c", ADDS, live.folder)
+            self.output("backup", live.course, archive)
+            self.output("-c", ADDS, live.folder)
+            before = self.output("-c", ROWS, live.folder)
+            for target in ("", self.create(f"second{len(source)}")):
+                new = self.hall(f"new{len(source)}{len(target)}", target)
+                self.assertIn(
+                    "as it stood", self.output("restore", new.course, archive)
+                )
+                self.assertEqual(
+                    self.output("-c", ROWS, new.folder),
+                    before.replace("odd odd", "odd"),
+                )
+                # the next row has a number of its own
+                self.output("-c", ADDS, new.folder)
+                self.assertEqual(self.output("-c", ROWS, new.folder), before)
+                self.assertEqual(new.hall().database, new.to_serve().database)
+            self.assertEqual(self.output("-c", ROWS, live.folder), before)
+
+    def test_a_database_that_has_rows_or_is_used_is_refused(self) -> None:
+        live = self.hall(
+            "live", f'database = "postgresql://hall@127.0.0.1:{self.port}/hall"'
+        )
+        live.write()
+        self.output("keys", live.course)
+        archive = self.folder / "copy.tar.gz"
+        self.output("backup", live.course, archive)
+        before = self.output("-c", ROWS, live.folder)
+        second = self.hall(
+            "second", f'database = "postgresql://hall@127.0.0.1:{self.port}/hall"'
+        )
+        name = f"postgresql://hall@127.0.0.1:{self.port}/hall"
+        output = self.output("restore", second.course, archive, status=2)
+        self.assertIn(f"{name} has rows", output)
+        words = [sys.executable, "-c", HOLDS, str(live.folder)]
+        with subprocess.Popen(
+            words, stdin=subprocess.PIPE, stdout=subprocess.PIPE, cwd=halls.TOP
+        ) as child:
+            assert child.stdout is not None
+            child.stdout.readline()
+            output = self.output("restore", second.course, archive, "--aside", status=2)
+            child.communicate()
+        self.assertIn(f"{name} is in use", output)
+        self.assertFalse(second.folder.exists())
+        self.assertEqual(self.output("-c", ROWS, live.folder), before)
+
     def test_matches_go_on_whoever_is_killed(self) -> None:
         database = f'database = "postgresql://hall@127.0.0.1:{self.port}/hall"'
         extra = database + '\neditor = { languages = ["python"] }'
@@ -133,7 +234,7 @@ class Postgres(halls.Playing):
                 hall.begins(tokens[name], number)
             for second in rest:
                 second.kill()
-            self.machine(hall)
+            rest = [self.machine(hall)]
             for message in self.again(hall, numbers):
                 self.end_agents(play(message))
             for name, number in numbers.items():
@@ -144,25 +245,26 @@ class Postgres(halls.Playing):
                 halls.result_of(before),
             )
             archive = self.folder / "hall.tar.gz"
-            path = f"{PROGRAMS[-1]}:{os.environ['PATH']}"
             subprocess.run(
                 hall.words("backup", hall.course, archive),
                 check=True,
                 cwd=halls.TOP,
                 stdout=subprocess.DEVNULL,
-                env={**os.environ, "PATH": path},
             )
             number = hall.request_attempt(tokens["cedar"])
             hall.ask("POST", f"/api/matches/{number}/close", tokens["cedar"])
             hall.over(tokens["cedar"], number)
             hall.stop()
+            for child in rest:
+                child.terminate()
+                child.wait()
             subprocess.run(
-                hall.words("restore", hall.course, archive),
+                hall.words("restore", hall.course, archive, "--aside"),
                 check=True,
                 cwd=halls.TOP,
                 stdout=subprocess.DEVNULL,
-                env={**os.environ, "PATH": path},
             )
+            rest.append(self.machine(hall))
             hall.start()
             self.assertEqual(
                 hall.ask("GET", f"/api/matches/{number}", tokens["cedar"]).status, 404
@@ -172,7 +274,7 @@ class Postgres(halls.Playing):
                 halls.result_of(before),
             )
             self.assertEqual(
-                len(list(hall.folder.parent.glob("trial.hall.*/hall.sql"))), 1
+                len(list(hall.folder.parent.glob("trial.hall.*/hall.sqlite3"))), 1
             )
 
     def again(

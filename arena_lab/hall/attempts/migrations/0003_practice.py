@@ -6,14 +6,15 @@ from typing import Any
 from django.db import migrations, models
 
 
-def say(apps: Any, _: Any) -> None:
+def say(apps: Any, editor: Any) -> None:
     """Says once, in the log too, what became of matches that counted."""
-    count = (
-        apps.get_model("attempts", "Attempt").objects.exclude(kind="practice").count()
-    )
+    alias = editor.connection.alias
+    attempts = apps.get_model("attempts", "Attempt").objects.using(alias)
+    count = attempts.exclude(kind="practice").count()
     if count:
         text = f"{count} rated attempts and matches of contests are practice now: only hand-ins are ranked"
-        apps.get_model("teams", "Entry").objects.create(who="hall", what=text)
+        entries = apps.get_model("teams", "Entry").objects.using(alias)
+        entries.create(who="hall", what=text)
         print(f"hall: {text}", file=sys.stderr, flush=True)
 
 

@@ -9,9 +9,11 @@ import django.utils.timezone
 WHAT = [("freeze", "what the freeze hides"), ("secret", "what came of the secret draw")]
 
 
-def show_secret(apps: Any, _: Any) -> None:
+def show_secret(apps: Any, editor: Any) -> None:
     """An earlier unveiling has shown the marks of programs too."""
-    reveals = apps.get_model("standings", "Reveal").objects
+    reveals = apps.get_model("standings", "Reveal").objects.using(
+        editor.connection.alias
+    )
     for at in list(reveals.values_list("at", flat=True)):
         reveals.create(at=at, what="secret")
 
