@@ -87,7 +87,7 @@ class Demo:
                 str(course),
                 "--port",
                 str(port),
-                "--weak-walls",
+                "--allow-weak-sandbox",
                 *program,
             ],
             cwd=TOP,

@@ -23,6 +23,7 @@ python3-djangorestframework, python3-waitress and python3-whitenoise.
 import argparse
 import contextlib
 import datetime
+import functools
 import getpass
 import os
 import pathlib
@@ -47,6 +48,7 @@ from arena_lab.support.missing import check
 
 PACKAGES = ("django", "rest_framework", "waitress", "whitenoise")
 ACTIONS = ("new", "serve", "worker", "keys", "password", "contest", "backup", "restore")
+WEAK_SANDBOX = "--allow-weak-sandbox"
 SHEET = "keys.csv"
 LOCAL_TIME = "/etc/localtime"
 # how far off the deadline of a new course is
@@ -91,7 +93,7 @@ def add_arguments(parser: argparse.ArgumentParser) -> None:
         "and grade programs (2; 0 if other machines do)",
     )
     parser.add_argument(
-        "--weak-walls",
+        WEAK_SANDBOX,
         action="store_true",
         help="take hand-ins although this machine puts up no "
         "walls between programs: they can then read what this user can, also the hall",
@@ -157,6 +159,7 @@ def run(args: argparse.Namespace) -> int:
         return serve(
             args,
             HallFolder(folder, course.resolve(), program_at(args.program, args.needs)),
+            functools.partial(prepare, f"http://{args.address}:{args.port}/"),
         )
     if action == "restore":
         backup.take_course(pathlib.Path(operands[1]), course)
@@ -217,10 +220,10 @@ def check_walls(args: argparse.Namespace, hall: Hall) -> None:
     """Refuses to take programs of strangers where nothing keeps them from the hall."""
     takes = hall.hand_ins is not None or hall.editor is not None
     if takes and sandboxes.strongest() is not Isolation.ALL:
-        if not args.weak_walls:
+        if not args.allow_weak_sandbox:
             raise HallError(
                 f"{sandboxes.weakness()}: programs of teams could read the hall. Remove [hand_ins] and "
-                "[editor], or say --weak-walls if you trust all teams"
+                f"[editor], or say {WEAK_SANDBOX} if you trust all teams"
             )
         print(
             f"hall: {sandboxes.weakness()}; {sandboxes.strongest().value}",
@@ -249,7 +252,12 @@ def restore(of: HallFolder, archive: pathlib.Path, may_move: bool) -> int:
     )
 
 
-def serve(args: argparse.Namespace, of: HallFolder) -> int:
+def serve(
+    args: argparse.Namespace,
+    of: HallFolder,
+    prepare: Callable[[Hall, HallFolder], None],
+) -> int:
+    """Serves a hall after a function has prepared its database."""
     os.umask(0o077)
     hall = of.to_serve()
     check_walls(args, hall)
@@ -262,10 +270,6 @@ def serve(args: argparse.Namespace, of: HallFolder) -> int:
         begin(of)
         place.remove_left(of.folder)
         prepare(hall, of)
-        print(
-            f"hall http://{args.address}:{args.port}/ (the teacher's pages: /teacher/)",
-            flush=True,
-        )
         serving.serve(
             of,
             serving.Options([args.address, args.port], args.workers),
@@ -286,8 +290,9 @@ def work(args: argparse.Namespace, hall: Hall, folder: pathlib.Path) -> int:
     return 0
 
 
-def prepare(hall: Hall, of: HallFolder) -> None:
-    """Makes teams, tokens and the teacher's password, where they are not there yet."""
+def prepare(address: str, hall: Hall, of: HallFolder) -> None:
+    """Makes teams, tokens and the teacher's password, where they are not there yet, and
+    prints where the hall is."""
     from arena_lab.hall import keys
 
     keys.sync(hall)
@@ -299,6 +304,7 @@ def prepare(hall: Hall, of: HallFolder) -> None:
             f"hall: log in as teacher by the password in {of.folder / place.PASSWORD}; `hall password` sets another",
             flush=True,
         )
+    print(f"hall {address} (the teacher's pages: /teacher/)", flush=True)
 
 
 def draw_keys(args: argparse.Namespace, hall: Hall, folder: pathlib.Path) -> int:

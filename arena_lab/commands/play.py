@@ -13,8 +13,8 @@ With --riddle the network has a black hole, or else a node at which nobody arriv
 all links into it are slow for ever. In the end you are told which of the two it is. Can
 you find out before?
 
-With --page you play in a browser, on a page that this machine alone sees: click a port
-to depart through it. It needs Debian's package python3-aiohttp, and Ctrl-C ends it.
+With --page you play in a browser, on a page whose address, with a token, is printed:
+click a port to depart through it. It needs Debian's package python3-aiohttp, and Ctrl-C ends it.
 
 The Python model plays by the rules of a contest. At the end the whole match is shown;
 --keep FOLDER writes its replay and a page on which one can watch it.

@@ -2,7 +2,7 @@
 called so now."""
 import argparse
 import sys
-from typing import Any, List
+from typing import Any, Dict, List
 
 SPELLINGS = {
     "--by": "--scheduler",
@@ -11,6 +11,7 @@ SPELLINGS = {
     "--limit": "--timeout",
     "--naps": "--spurious-wakeups",
     "--states": "--max-states",
+    "--weak-walls": "--allow-weak-sandbox",
 }
 COMMANDS = {
     "pages": ["page"],
@@ -54,7 +55,7 @@ class OldSpelling(argparse.Action):
             f"{parser.prog}: {option_string} is called {SPELLINGS[str(option_string)]} now",
             file=sys.stderr,
         )
-        setattr(namespace, self.dest, values)
+        setattr(namespace, self.dest, self.const if self.nargs == 0 else values)
 
 
 def take_old_spellings(parser: argparse.ArgumentParser) -> None:
@@ -63,6 +64,9 @@ def take_old_spellings(parser: argparse.ArgumentParser) -> None:
     for old, new in SPELLINGS.items():
         if new in options and old not in options:
             option = options[new]
+            flag: Dict[str, Any] = (
+                {"nargs": 0, "const": option.const} if option.nargs == 0 else {}
+            )
             parser.add_argument(
                 old,
                 action=OldSpelling,
@@ -71,4 +75,5 @@ def take_old_spellings(parser: argparse.ArgumentParser) -> None:
                 choices=option.choices,
                 default=argparse.SUPPRESS,
                 help=argparse.SUPPRESS,
+                **flag,
             )

@@ -4,10 +4,11 @@
     ./arena-lab try --no-browser   says where it is
 
 The page has exercises and kits, plays what you write, and shows the match beside the
-lines that sent. There is no course: press "Begin as a guest", and what you write stays
-in the folder. It ends by Ctrl+C. It needs Debian's packages python3-django,
-python3-djangorestframework, python3-waitress, python3-whitenoise and libjs-codemirror;
-with bubblewrap and python3-seccomp your programs run in sandboxes.
+lines that sent. The address that it prints has a secret, by which it knows you: keep it
+to yourself, as whoever has it may run programs here. What you write stays in the
+folder. It ends by Ctrl+C. It needs Debian's packages python3-django,
+python3-djangorestframework, python3-waitress, python3-whitenoise and libjs-codemirror,
+and bubblewrap and python3-seccomp for the sandboxes in which programs run.
 """
 import argparse
 import os
@@ -19,12 +20,18 @@ import webbrowser
 from arena_lab.commands import hall
 from arena_lab.commands.words import add_program, at_least_one
 from arena_lab.hall import place
+from arena_lab.hall.course import Hall, HallError
 from arena_lab.hall.place import HallFolder
 from arena_lab.rules.engines import program_at
+from arena_lab.sandbox import sandboxes
 from arena_lab.support.missing import check
 
 ADDRESS = "127.0.0.1"
 COURSE = "try.toml"
+# the page that leads a browser to the address: command lines, which other users of the
+# machine see, do not have its secret
+OPENS = "open.html"
+LEADS = '<meta http-equiv="refresh" content="0; url={link}">\n'
 # seconds after which the page is opened, in which the hall begins
 OPEN_SECONDS = 4.0
 
@@ -51,26 +58,46 @@ def add_arguments(parser: argparse.ArgumentParser) -> None:
         "--no-browser", action="store_true", help="open nothing, and say where it is"
     )
     parser.add_argument(
+        hall.WEAK_SANDBOX,
+        action="store_true",
+        help="begin although this machine makes no sandbox: programs that are tried can "
+        "then read and change all your files",
+    )
+    parser.add_argument(
         "--seconds", metavar="N", type=float, help="end after this number of seconds"
     )
     add_program(parser)
 
 
+def check_sandbox(is_weak_allowed: bool) -> None:
+    """Refuses to try programs as the user, unless the user says so."""
+    if sandboxes.weakness() and not is_weak_allowed:
+        raise HallError(
+            f"{sandboxes.weakness()}. Or say {hall.WEAK_SANDBOX}: programs that are tried can then read and change "
+            "all your files, also one that somebody else gave you"
+        )
+
+
 def run(args: argparse.Namespace) -> int:
     check(*hall.PACKAGES)
+    check_sandbox(args.allow_weak_sandbox)
     folder = args.folder.resolve()
     folder.mkdir(mode=0o700, parents=True, exist_ok=True)
     course = folder / COURSE
     shutil.copy(pathlib.Path(place.__file__).parent / COURSE, course)
-    page = f"http://{ADDRESS}:{args.port}/write"
-    print(f"try {page} (Ctrl+C ends it; {folder} has what you write)", flush=True)
-    if not args.no_browser:
-        opens = threading.Timer(OPEN_SECONDS, webbrowser.open, [page])
-        opens.daemon = True
-        opens.start()
-    # programs are the reader's own, who may run them anyhow
-    args.weak_walls = True
     args.address = ADDRESS
     args.workers = 1
     of = HallFolder(folder / "hall", course, program_at(args.program, args.needs))
-    return hall.serve(args, of)
+
+    def prepare(_: Hall, of: HallFolder) -> None:
+        """Prints the address, and opens it."""
+        link = f"http://{ADDRESS}:{args.port}/mine/{of.secret(place.OWNER)}"
+        print(f"try {link} (Ctrl+C ends it; {folder} has what you write)", flush=True)
+        if not args.no_browser:
+            place.write_whole(of.folder / OPENS, LEADS.format(link=link))
+            page = (of.folder / OPENS).as_uri()
+            opens = threading.Timer(OPEN_SECONDS, webbrowser.open, [page])
+            opens.daemon = True
+            opens.start()
+
+    return hall.serve(args, of, prepare)

@@ -21,7 +21,8 @@ turn that the server wrote, which has them under the oblivious schedule; with --
 as `serve` has it, of how many. Without --open it says no turn, since an agent cannot
 see when others act; the operator asks the server for `status`.
 
-It serves this machine alone, unless --address names another address. It needs Debian's
+It serves this machine alone, unless --address names another address, and answers who
+has the token of the address that it prints. It needs Debian's
 package python3-aiohttp, and python3-networkx for the pages of matches.
 """
 import argparse

@@ -21,6 +21,8 @@ SECRET = "secret.txt"
 PASSWORD = "password.txt"
 # with this behind it a password is looked at however many were wrong
 LOGIN = "login.txt"
+# who says this is who writes on a machine of their own, by `arena-lab try`
+OWNER = "owner.txt"
 # the course's file as it was when the hall was started last
 COURSE_COPY = "course.toml"
 

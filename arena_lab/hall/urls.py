@@ -128,6 +128,7 @@ urlpatterns = [
     path("matches/<number:number>/<number:match>/page", attempts.page),
     path("write", drafts.page),
     path("write/guest", drafts.begin_as_guest),
+    re_path(r"^mine/(?P<secret>[0-9a-f]{64})$", drafts.begin_as_owner),
     path("write/trials/<number:number>/page", drafts.match_page),
     path("hand-ins", handins.list_hand_ins),
     path("hand-ins/take", handins.take),

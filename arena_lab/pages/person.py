@@ -12,6 +12,7 @@ from arena_lab.pages.web_pages import (
     Handlers,
     answering,
     headers,
+    new_token,
     run,
 )
 
@@ -123,11 +124,12 @@ class PersonHandlers(Handlers):
         return message
 
 
-def application(match: PersonMatch, title: str) -> Any:
+def application(match: PersonMatch, title: str, token: str) -> Any:
     """The web server's application, for pages of this machine alone."""
-    return answering(PersonHandlers(match, title), client_max_size=MAX_BYTES)
+    return answering(PersonHandlers(match, title), token, client_max_size=MAX_BYTES)
 
 
 def serve(match: PersonMatch, title: str, port: int) -> None:
     """Serves the page to this machine until it is interrupted."""
-    run(application(match, title), "127.0.0.1", port, "play at")
+    token = new_token()
+    run(application(match, title, token), ("127.0.0.1", port), "play at", token)

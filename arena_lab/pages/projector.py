@@ -18,6 +18,7 @@ from arena_lab.pages.web_pages import (
     Handlers,
     answering,
     headers,
+    new_token,
     run,
 )
 from arena_lab.rules.model import Match, judge
@@ -201,7 +202,10 @@ class ProjectorHandlers(Handlers):
 
 
 def application(
-    contest: ContestView, title: str, turns: Dict[str, int], names: Collection[str] = ()
+    handlers: ProjectorHandlers,
+    contest: ContestView,
+    token: str,
+    names: Collection[str] = (),
 ) -> Any:
     """The web server's application, which looks at the files while it serves. It
     answers for this machine and for hosts of these names."""
@@ -211,7 +215,7 @@ def application(
         yield
         task.cancel()
 
-    app = answering(ProjectorHandlers(contest, title, turns), names)
+    app = answering(handlers, token, names)
     app.cleanup_ctx.append(looking)
     return app
 
@@ -227,7 +231,10 @@ def show(
     are those by which it may be asked for, besides addresses and this machine's
     name."""
 
-    async def make_page() -> Any:
-        return application(contest, title, turns, names)
+    token = new_token()
 
-    run(make_page(), *address, "watch")
+    async def make_page() -> Any:
+        handlers = ProjectorHandlers(contest, title, turns)
+        return application(handlers, contest, token, names)
+
+    run(make_page(), address, "watch", token)

@@ -1,10 +1,13 @@
 """What the web servers of a contest and of a person who plays share: their answers, the
-files of their own page, and whom they answer."""
+files of their own page, and whom they answer: who has the secret of the address that
+was printed."""
 import contextlib
+import hashlib
 import ipaddress
 import re
+import secrets
 import socket
-from typing import Any, Collection, Dict, List, Mapping
+from typing import Any, Collection, Dict, List, Mapping, Tuple
 
 from arena_lab.pages.parts import fill_page, part
 from arena_lab.support.missing import require
@@ -19,6 +22,8 @@ WHOLE = (
     "base-uri 'none'; form-action 'none'"
 )
 JSON = "application/json"
+TOKEN = "token"
+NO_TOKEN = "open the whole address that the terminal shows: its token is missing here\n"
 
 
 class Handlers:
@@ -92,15 +97,41 @@ def refusal(headers: Mapping[str, str], names: Collection[str]) -> str:
     return ""
 
 
-def answering(handlers: Handlers, names: Collection[str] = (), **extra: Any) -> Any:
-    """The web server's application, which answers for this machine and for hosts of
-    these names."""
+def new_token() -> str:
+    """Draws the secret of a server's address."""
+    return secrets.token_urlsafe(18)
+
+
+def cookie_of(token: str) -> str:
+    """Names the cookie of a server: browsers send it to all ports of a host."""
+    return f"arena-{hashlib.sha256(token.encode()).hexdigest()[:12]}"
+
+
+def answering(
+    handlers: Handlers, token: str, names: Collection[str] = (), **extra: Any
+) -> Any:
+    """The web server's application, which answers who has the token, for this machine
+    and for hosts of these names. A browser that opens the page by the token keeps it in
+    a cookie, and its address shows it no more."""
     web = handlers.web
+    cookie = cookie_of(token)
+
+    def is_token(text: str) -> bool:
+        return secrets.compare_digest(text.encode(errors="replace"), token.encode())
 
     async def for_own_pages(request: Any, handler: Any) -> Any:
+        by_address = is_token(request.query.get(TOKEN, ""))
         reason = refusal(request.headers, names)
+        if not reason and not (by_address or is_token(request.cookies.get(cookie, ""))):
+            reason = NO_TOKEN
         if reason:
             return web.Response(status=403, text=reason, headers=headers(STRICT))
+        if by_address and request.path == "/":
+            response = web.Response(
+                status=303, headers={**headers(STRICT), "Location": "/"}
+            )
+            response.set_cookie(cookie, token, httponly=True, samesite="Lax")
+            return response
         return await handler(request)
 
     app = web.Application(middlewares=[web.middleware(for_own_pages)], **extra)
@@ -108,14 +139,16 @@ def answering(handlers: Handlers, names: Collection[str] = (), **extra: Any) -> 
     return app
 
 
-def run(application: Any, address: str, port: int, text: str) -> None:
-    """Serves an application until it is interrupted, and prints its address once it
-    serves."""
+def run(application: Any, place: Tuple[str, int], text: str, token: str) -> None:
+    """Serves an application at an address and port until it is interrupted, and prints
+    its address with its token once it serves."""
+    address, port = place
+    link = f"http://{address}:{port}/?{TOKEN}={token}"
     require("aiohttp.web").run_app(
         application,
         host=address,
         port=port,
         access_log=None,
         shutdown_timeout=1,
-        print=lambda *_: print(f"{text} http://{address}:{port}/", flush=True),
+        print=lambda *_: print(f"{text} {link}", flush=True),
     )

@@ -59,14 +59,15 @@ class Person:
 def check_secrets(url: str) -> None:
     """Before the end the server tells what agents have seen, and shows no page of the
     match."""
-    with urllib.request.urlopen(f"{url}/seen") as answer:
+    by_token = url.replace("?", "{}?")
+    with urllib.request.urlopen(by_token.format("seen")) as answer:
         observations = json.load(answer)
     if set(observations) != {"over", "agents"} or any(
         set(agent) != KNOWN for agent in observations["agents"]
     ):
         sys.exit(f"the page is told more than agents see: {observations}")
     try:
-        urllib.request.urlopen(f"{url}/match")
+        urllib.request.urlopen(by_token.format("match"))
     except urllib.error.HTTPError as fault:
         if fault.code == 404:
             return
@@ -105,7 +106,6 @@ def main() -> int:
     shots = pathlib.Path(sys.argv[1] if len(sys.argv) == 2 else tempfile.mkdtemp())
     shots.mkdir(parents=True, exist_ok=True)
     port = free_port()
-    url = f"http://127.0.0.1:{port}"
     words = [
         "play",
         "--network",
@@ -125,7 +125,7 @@ def main() -> int:
         text=True,
     )
     assert server.stdout is not None
-    server.stdout.readline()
+    url = server.stdout.readline().split()[-1]
     page = browser()
     try:
         page.get(url)

@@ -114,10 +114,10 @@ def main() -> int:
         ]
         watch = subprocess.Popen(watches, cwd=TOP, stdout=subprocess.PIPE, text=True)
         assert watch.stdout is not None
-        watch.stdout.readline()
+        address = watch.stdout.readline().split()[-1]
         page = browser()
         try:
-            page.get(f"http://127.0.0.1:{web}/")
+            page.get(address)
             WebDriverWait(page, SECONDS).until(lambda it: len(rows(it)) == 4)
             shoot(page, shots, "begins")
             commands = [

@@ -49,6 +49,15 @@ def admit(address: str) -> Team:
     return team
 
 
+def owner() -> Team:
+    """Returns who writes on a machine of their own, by `arena-lab try`, and stays: the
+    guest who wrote last, if there are some."""
+    team = Team.objects.filter(is_guest=True).order_by("-drafts__at").first()
+    return team or Team.objects.create(
+        name="mine", display=_("you"), hidden=True, is_guest=True
+    )
+
+
 def remove_gone() -> None:
     """Removes guests that have written nothing for long."""
     recent_drafts = Draft.objects.filter(at__gte=timezone.now() - STAYS)

@@ -1,4 +1,5 @@
 """The page on which a team writes and tries a program."""
+import secrets
 from typing import Any, Dict, List
 
 from django.conf import settings
@@ -13,6 +14,7 @@ from arena_lab.hall.attempts.views import send_file
 from arena_lab.hall.drafts import guests, kits, trying, words, writing
 from arena_lab.hall.drafts.models import Trial
 from arena_lab.hall.handins.windows import Window, windows
+from arena_lab.hall.place import OWNER
 from arena_lab.hall.teams import guards, logins
 from arena_lab.hall.teams.models import Team
 from arena_lab.hall.teams.views import owned_row
@@ -80,6 +82,18 @@ def begin_as_guest(request: Any) -> HttpResponse:
         logins.log_in(request, guests.admit(guards.address_of(request)))
     except RequestRefusedError as fault:
         return guards.refusal(fault.status_code, str(fault))
+    return redirect("/write")
+
+
+def begin_as_owner(request: Any, secret: str) -> HttpResponse:
+    """Lets in who knows the secret of `arena-lab try`."""
+    folder = settings.PLACE.folder
+    is_own = (folder / OWNER).exists() and secrets.compare_digest(
+        secret, settings.PLACE.secret(OWNER)
+    )
+    if not is_own:
+        raise Http404
+    logins.log_in(request, guests.owner())
     return redirect("/write")
 
 

@@ -9,6 +9,7 @@ import tempfile
 import time
 import unittest
 import urllib.error
+import urllib.parse
 import urllib.request
 from typing import Any
 
@@ -37,11 +38,23 @@ class Try(unittest.TestCase):
         self.addCleanup(child.communicate)
         self.addCleanup(child.terminate)
         assert child.stdout is not None
-        self.assertIn(f"http://127.0.0.1:{self.port}/write", child.stdout.readline())
-        jar = http.cookiejar.CookieJar()
-        keeps = urllib.request.HTTPCookieProcessor(jar)
+        line = child.stdout.readline()
+        self.assertIn(f"try http://127.0.0.1:{self.port}/mine/", line)
+        self.own_page = urllib.parse.urlsplit(line.split()[1]).path
+        self.new_browser()
+
+    def new_browser(self) -> None:
+        """Goes on without cookies."""
+        self.jar = http.cookiejar.CookieJar()
+        keeps = urllib.request.HTTPCookieProcessor(self.jar)
         self.browser = urllib.request.build_opener(keeps)
-        self.jar = jar
+
+    def status(self, path: str, body: Any = None) -> int:
+        try:
+            self.request(path, body)
+        except urllib.error.HTTPError as fault:
+            return fault.code
+        return 200
 
     def request(self, path: str, body: Any = None) -> str:
         """Returns the body of a response, to a GET or to a POST with an object."""
@@ -67,11 +80,31 @@ class Try(unittest.TestCase):
         raise AssertionError(f"{path} does not say {texts}")
 
     def test_one_writes_and_plays_without_a_course(self) -> None:
-        self.waits("/write", "Begin as a guest")
-        self.assertIn("Compare and write", self.request("/write/guest", ""))
+        self.assertIn("Compare and write", self.waits(self.own_page, "Compare"))
         draft = json.loads(self.request("/api/drafts/python"))
         request = {**draft, "kind": "play", "network": "ring of 5"}
         made = json.loads(self.request("/api/trials", request))
         path = f"/api/trials/{made['id']}"
         report = json.loads(self.waits(path, '"over"', '"lost"'))
         self.assertTrue(report["found"] and report["found"]["right"], report)
+        # another browser of the same person finds what was written
+        draft["files"]["agent.py"] = "# mine"
+        secret = {it.name: it.value for it in self.jar}["csrftoken"]
+        body = json.dumps(draft).encode()
+        head = {"X-CSRFToken": secret, "Content-Type": "application/json"}
+        address = f"http://127.0.0.1:{self.port}/api/drafts/python"
+        self.browser.open(urllib.request.Request(address, body, head, method="PUT"))
+        self.new_browser()
+        self.request(self.own_page)
+        self.assertIn("# mine", self.request("/api/drafts/python"))
+
+    def test_another_user_of_the_machine_runs_nothing(self) -> None:
+        """Who reaches the port and does not know the secret."""
+        page = self.waits("/write", "Token")
+        self.assertNotIn("Begin as a guest", page)
+        self.assertIn(self.status("/write/guest", ""), (403, 404))
+        self.assertEqual(self.status(f"/mine/{'0' * 64}"), 404)
+        self.assertIn(self.status("/api/drafts"), (401, 403))
+        for path in self.folder.rglob("*"):
+            if path.name != "try.toml":
+                self.assertEqual(path.stat().st_mode & 0o077, 0, path)

@@ -9,6 +9,7 @@ import sys
 import time
 from typing import Any, Callable, Dict, List
 
+from arena_lab.pages.web_pages import cookie_of
 from arena_lab.rules.engines import TOP
 from arena_lab.rules.model import Match, spell
 from arena_lab.rules.networks import ring
@@ -53,9 +54,11 @@ class Watching(InFolder):
         self.addCleanup(child.stdout.close)
         self.addCleanup(child.wait)
         self.addCleanup(child.kill)
-        self.assertEqual(
-            child.stdout.readline(), f"watch http://127.0.0.1:{self.port}/\n"
+        line = child.stdout.readline()
+        self.assertRegex(
+            line, rf"^watch http://127\.0\.0\.1:{self.port}/\?token=[\w-]{{24}}\n$"
         )
+        self.token = line.strip().rpartition("=")[2]
 
     def part(self, number: int) -> pathlib.Path:
         return self.folder / f"m{number}.jsonl.part"
@@ -78,6 +81,11 @@ class Watching(InFolder):
         self.part(number).unlink()
 
     def request(self, path: str, **headers: str) -> "http.client.HTTPResponse":
+        """Asks as a browser does that has opened the page by its token."""
+        cookie = f"{cookie_of(self.token)}={self.token}"
+        return self.ask(path, Cookie=cookie, **headers)
+
+    def ask(self, path: str, **headers: str) -> "http.client.HTTPResponse":
         connection = http.client.HTTPConnection("127.0.0.1", self.port, timeout=SECONDS)
         self.addCleanup(connection.close)
         connection.request(
@@ -108,6 +116,19 @@ class Watching(InFolder):
                 message: Dict[str, Any] = json.loads(line[6:])
                 if holds(message["rows"]):
                     return message
+
+    def test_who_has_no_token_sees_nothing(self) -> None:
+        self.watch()
+        for path in ("/", "/standings", "/match/0", "/watch.js", "/?token=x"):
+            reply = self.ask(path)
+            self.assertEqual(reply.status, 403, path)
+            self.assertIn(b"its token is missing", reply.read())
+        # a browser keeps the token, and shows it no more
+        reply = self.ask(f"/?token={self.token}")
+        self.assertEqual((reply.status, reply.headers["Location"]), (303, "/"))
+        cookie = reply.headers["Set-Cookie"]
+        self.assertRegex(cookie, "HttpOnly.*SameSite=Lax")
+        self.assertEqual(self.ask("/", Cookie=cookie.partition(";")[0]).status, 200)
 
     def test_a_contest_from_its_beginning_to_its_end(self) -> None:
         self.watch()

@@ -14,6 +14,7 @@ from arena_lab.rules.fixtures import fixture_of
 from arena_lab.rules.model import Setup
 from arena_lab.rules.networks import ring
 
+TOKEN = "secret"
 Asked = Callable[[Any], Coroutine[Any, Any, None]]
 
 
@@ -24,7 +25,13 @@ def with_client(ask: Asked) -> None:
         match = HumanMatch(
             fixture_of(Setup(4, ring(4).links, 0, [1], 2, 100, 64)), random.Random(1)
         )
-        async with TestClient(TestServer(application(match, "ring:4"))) as client:
+        app = application(match, "ring:4", TOKEN)
+        async with TestClient(TestServer(app)) as client:
+            reply = await client.post("/end", json={})
+            if reply.status != 403:
+                raise AssertionError("a stranger ends the match")
+            # the client sends the cookie with each later request
+            await client.get("/", params={"token": TOKEN})
             await ask(client)
 
     asyncio.run(talk())

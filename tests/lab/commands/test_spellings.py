@@ -102,6 +102,13 @@ class Spellings(unittest.TestCase):
                 output, f"./arena-lab {command}: {old} is called {SPELLINGS[old]} now\n"
             )
 
+    def test_an_old_flag_takes_no_value(self) -> None:
+        new, silent = read_words("hall", "--allow-weak-sandbox", "course.toml")
+        result, output = read_words("hall", "--weak-walls", "course.toml")
+        self.assertEqual((result, silent), (new, ""))
+        self.assertIn("'allow_weak_sandbox': True", str(vars(result)))
+        self.assertIn("--weak-walls is called --allow-weak-sandbox now", output)
+
     def test_a_value_is_refused_as_by_the_new_one(self) -> None:
         self.assertIn(
             "invalid choice: 'nobody'", read_words("explore", "--by", "nobody")[1]

@@ -353,27 +353,28 @@ class Commands(InTemporary):
         second.write_text(COURSE.replace('"x"', '"y"'))
         hall_folder = HallFolder(self.folder / "it.hall", course, None)
         hall_folder.write(read_hall(course))
-        words = argparse.Namespace(weak_walls=False)
+        words = argparse.Namespace(allow_weak_sandbox=False)
         with serving.alone(hall_folder):
             before = {
                 path.name: path.read_bytes() for path in hall_folder.folder.iterdir()
             }
             with self.assertRaisesRegex(HallError, "is served already"):
-                hall.serve(words, HallFolder(hall_folder.folder, second, "/bin/false"))
+                of = HallFolder(hall_folder.folder, second, "/bin/false")
+                hall.serve(words, of, mock.Mock())
         new = HallFolder(self.folder / "new.hall", second, None)
         refuses = mock.patch.object(
             hall, "check_walls", side_effect=HallError("no walls")
         )
         for of in (hall_folder._replace(course=second), new):
             with refuses, self.assertRaisesRegex(HallError, "no walls"):
-                hall.serve(words, of)
+                hall.serve(words, of, mock.Mock())
         self.assertFalse(new.folder.exists())
         after = {path.name: path.read_bytes() for path in hall_folder.folder.iterdir()}
         self.assertEqual(after, before)
         self.assertEqual(sorted(before), ["course.toml", "hall.json", "lock"])
 
     def test_programs_are_tried_where_walls_and_an_editor_are(self) -> None:
-        words = argparse.Namespace(weak_walls=False)
+        words = argparse.Namespace(allow_weak_sandbox=False)
         plain = hall_of(COURSE, pathlib.Path("/c.toml"))
         writes = hall_of(COURSE + "[editor]\n", pathlib.Path("/c.toml"))
         weak = mock.patch.object(
