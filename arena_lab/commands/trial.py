@@ -11,9 +11,12 @@ a process, and none waits until modules are loaded.
 
 A trial reads `asked.json` of its folder (TrialRequest) and the program's files in
 `files`. It writes `found.json`, and of a match the replay and the page. What is found has
-sentences, and marks: lines of the program's files, each with what is wrong there.
+sentences, and marks: lines of the program's files, each with what is wrong there. A
+trial that would fail again writes why to `fault.txt`. One that has written neither was
+ended by the machine, and is begun again.
 """
 import contextlib
+import errno
 import functools
 import gc
 import io
@@ -38,6 +41,7 @@ from arena_lab.course.trials import (
     REQUEST_FILE,
     CHECK,
     EXPLORE,
+    FAULT_FILE,
     FILES,
     RESULT_FILE,
     LOG,
@@ -54,6 +58,7 @@ from arena_lab.play.parallel import end_with
 from arena_lab.play.schedules import Schedule, schedule_of
 from arena_lab.play.teams import OUTSIDE, AgentWords
 from arena_lab.sandbox import calls, isolation
+from arena_lab.sandbox.isolation import CellError
 from arena_lab.sandbox.own_sandboxes import OwnSandboxes
 from arena_lab.sandbox.sandboxes import Isolation, SandboxOptions
 from arena_lab.support.faults import ArenaError
@@ -72,6 +77,15 @@ MAX_OUTPUT = 20_000
 MAX_MESSAGE = 1 << 16
 # seconds for which it is known where the system has pipes and sockets
 SURVEY_SECONDS = 3600.0
+# faults of a machine that is short of disk, memory, descriptors or processes
+SHORTAGES = (
+    errno.ENOSPC,
+    errno.EDQUOT,
+    errno.ENOMEM,
+    errno.EMFILE,
+    errno.ENFILE,
+    errno.EAGAIN,
+)
 # the command of most trials
 DEFAULT_COMMAND = "python3"
 
@@ -324,6 +338,12 @@ def share(command: str) -> None:
         isolation.words((), False)
 
 
+def is_of_machine(fault: BaseException) -> bool:
+    """Returns whether another run of the trial may not have this fault."""
+    is_short = isinstance(fault, OSError) and fault.errno in SHORTAGES
+    return is_short or isinstance(fault, CellError)
+
+
 def end(folder: pathlib.Path, temporary: str, parent: int) -> NoReturn:
     """Runs a trial in the forked process, and exits."""
     status = 1
@@ -341,10 +361,11 @@ def end(folder: pathlib.Path, temporary: str, parent: int) -> NoReturn:
         os.dup2(1, 2)
         try_in(folder)
         status = 0
-    except (ArenaError, OSError) as fault:
-        print(f"trial: {fault}", file=sys.stderr)
-    except BaseException:
+    except BaseException as fault:
         traceback.print_exc()
+        if not is_of_machine(fault):
+            with contextlib.suppress(OSError):
+                (folder / FAULT_FILE).write_text(f"{fault}\n", encoding="utf-8")
     finally:
         with contextlib.suppress(OSError):
             sys.stderr.flush()

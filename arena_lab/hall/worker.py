@@ -62,9 +62,10 @@ def due(resting: Dict[Any, Set[int]]) -> List[Job]:
 
 
 def due_trials(resting: Set[int]) -> List[Trial]:
-    """The trials that may begin, beside gradings and matches."""
+    """The trials that may begin, beside gradings and matches. Those of a hall that has
+    no editor any more end."""
     rules = settings.HALL.editor
-    return [] if rules is None else trying.due(rules.trials, resting)
+    return trying.due(1 if rules is None else rules.trials, resting)
 
 
 def due_attempts(limit: int, resting: Collection[int] = ()) -> List[Any]:

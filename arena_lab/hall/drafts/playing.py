@@ -8,11 +8,13 @@ from typing import Any, Dict
 
 from django.conf import settings
 from django.db import transaction
+from django.utils.translation import gettext as _
 
 from arena_lab.course.trials import (
     REQUEST_FILE,
     CHECK,
     EXPLORE,
+    FAULT_FILE,
     FILES,
     RESULT_FILE,
     LOG,
@@ -20,6 +22,7 @@ from arena_lab.course.trials import (
     PLAY,
 )
 from arena_lab.hall import conditions, machine, packing
+from arena_lab.hall.attempts.asking import RequestRefusedError
 from arena_lab.hall.children import last_line
 from arena_lab.hall.drafts import writing
 from arena_lab.hall.drafts.forking import trial_in
@@ -61,7 +64,12 @@ def prepare(work: Trial, folder: pathlib.Path) -> None:
     for name, text in work.files.items():
         path = folder / FILES / name
         path.write_text(text, encoding="utf-8", newline="\n")
-    kit = kit_of(work.language)
+    try:
+        kit = kit_of(work.language)
+    except RequestRefusedError:
+        raise ArenaError(
+            _("your teacher has removed this kit or exercise: choose another")
+        ) from None
     exercise = exercise_of(work.language)
     request = {
         "kind": work.kind,
@@ -120,8 +128,12 @@ def run(work: Trial, holder: str, folder: pathlib.Path) -> None:
             lease.wait(0)
             if time.monotonic() > until:
                 raise ArenaError(f"it was ended after {seconds} s")
+    if (folder / FAULT_FILE).exists():
+        raise ArenaError(f"it could not be tried: {last_line(folder / FAULT_FILE)}")
     if not (folder / RESULT_FILE).exists():
-        raise ArenaError(f"it could not be tried: {last_line(folder / LOG)}")
+        raise machine.MachineFaultError(
+            f"the process of a trial was ended: {last_line(folder / LOG)}"
+        )
 
 
 def finish(work: Trial, holder: str, folder: pathlib.Path) -> None:

@@ -1,6 +1,8 @@
 """Programs that teams try, by the process that a worker starts: what is found, and at
 which lines; programs that hang, flood and attack; and trials that are stopped."""
+import contextlib
 import json
+import os
 import shutil
 import signal
 import subprocess
@@ -16,7 +18,7 @@ from tests.integration.hall.hall_pages import PLACE, hall_with
 from django.conf import settings
 
 from arena_lab.course import exercises
-from arena_lab.hall import machine
+from arena_lab.hall import machine, worker
 from arena_lab.hall.drafts import forking, kits, playing
 from arena_lab.hall.drafts.models import Trial
 from arena_lab.hall.steps import claim_work, step
@@ -291,15 +293,56 @@ class Waiting(Tried):
         self.assertTrue(self.report_of(CAREFUL)["right"])
         self.assertTrue(before.found["right"])
 
-    def test_a_trial_whose_process_has_ended_is_no_finding(self) -> None:
-        def kill(*_: Any) -> None:
+    def test_a_trial_that_was_killed_is_begun_again(self) -> None:
+        """Whether its own process was killed, or that which forks it."""
+
+        def kill_waiting(*_: Any) -> None:
             assert forking.FORK_SERVER._child is not None
             forking.FORK_SERVER._child.kill()
 
-        with mock.patch.object(playing.Lease, "wait", kill):
-            trial = self.run_trial("import time\ntime.sleep(9)\n")
-        self.assertEqual((trial.state, trial.found), (machine.LOST, None))
-        self.assertIn("it could not be tried", trial.fault)
+        def kill_trial(*_: Any) -> None:
+            assert forking.FORK_SERVER._child is not None
+            parent = forking.FORK_SERVER._child.pid
+            for trial in processes.below(parent)[1:]:
+                with contextlib.suppress(ProcessLookupError):
+                    os.kill(trial, signal.SIGKILL)
+
+        for kill in (kill_waiting, kill_trial):
+            with mock.patch.object(playing.Lease, "wait", kill):
+                trial = self.run_trial("import time\ntime.sleep(9)\n")
+            self.assertEqual((trial.state, trial.faults), (machine.WAITING, 1))
+            self.assertIsNone(trial.found)
+            holder = claim_work(trial)
+            assert holder is not None
+            Trial.objects.filter(pk=trial.pk).update(files={"agent.py": "x = 1\n"})
+            playing.play(trial.pk, holder)
+            trial.refresh_from_db()
+            self.assertEqual((trial.state, trial.runs), (machine.OVER, 2))
+
+    def test_what_would_fail_again_is_not_begun_again(self) -> None:
+        # a mock would not reach the forked process, so the request has the fault
+        wrong = {**playing.DEFAULT_CONDITIONS, "networks": ["ring:1"]}
+        with mock.patch.object(playing, "conditions_of", return_value=wrong):
+            trial = self.run_trial(CAREFUL)
+        self.assertEqual((trial.state, trial.faults), (machine.LOST, 0))
+        self.assertRegex(trial.fault, "it could not be tried: .*ring:1")
+
+    def test_a_trial_of_a_kit_that_was_removed_ends_by_a_sentence(self) -> None:
+        for rules in (RULES._replace(languages=["c"]), None):
+            number = self.tries().json()["id"]
+            with hall_with(editor=rules):
+                self.assertEqual(
+                    [trial.pk for trial in worker.due_trials(set())], [number]
+                )
+                holder = claim_work(Trial.objects.get(pk=number))
+                assert holder is not None
+                playing.play(number, holder)
+            trial = Trial.objects.get(pk=number)
+            self.assertEqual((trial.state, trial.faults), (machine.LOST, 0))
+            self.assertIn("your teacher has removed this kit", trial.fault)
+            # the page of the team still names it
+            reply = self.rest("get", f"/api/trials/{number}").json()
+            self.assertEqual(reply["fault"], trial.fault)
 
 
 class Hostile(Tried):
