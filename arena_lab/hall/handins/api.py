@@ -2,6 +2,7 @@
 from typing import Any
 
 from rest_framework import serializers
+from rest_framework.parsers import MultiPartParser
 from rest_framework.response import Response
 from rest_framework.viewsets import ViewSet
 
@@ -19,7 +20,10 @@ class Sent(serializers.Serializer):
 
 
 class HandIns(ViewSet):
-    """The hand-ins of a team."""
+    """The hand-ins of a team. Files are sent as forms, which go to the disk: an object
+    of that size would take much memory."""
+
+    parser_classes = [MultiPartParser]
 
     def list(self, request: Any) -> Response:
         return Response(

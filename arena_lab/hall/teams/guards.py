@@ -47,9 +47,18 @@ STRANGERS = 600
 TRIES = 10
 # what begins the names of teachers here, and of no team
 STAFF = "@"
-# request size in bytes: with a hand-in, and for a form of a client without login
+# request size in bytes, by the beginning of the path: files are handed in, drafts are
+# texts, and forms of the teacher have fields for each team; and what all others have,
+# also of a client without login
 MAX_SENT = (8 << 20) + (64 << 10)
-MAX_SENT_BY_STRANGERS = 64 << 10
+MAX_SENT_TO = {
+    "/hand-ins/": MAX_SENT,
+    "/api/hand-ins": MAX_SENT,
+    "/api/drafts/": 256 << 10,
+    "/api/trials": 256 << 10,
+    "/teacher/": 256 << 10,
+}
+MAX_SENT_OTHERWISE = 64 << 10
 # what is kept in mind at most
 MAX_ENTRIES = 20_000
 # where programs ask, and how they send their token
@@ -185,10 +194,11 @@ class Guards:
         if wait:
             return too_many(wait)
         # the body of a request with a token is read after the token was verified
-        if length_of(request) > (
-            MAX_SENT if name or token_in(request) else MAX_SENT_BY_STRANGERS
-        ):
-            return refusal(413, _("that is too much"))
+        is_known = bool(name or token_in(request))
+        bound = max_sent_to(request.path) if is_known else MAX_SENT_OTHERWISE
+        if length_of(request) > bound:
+            text = _("that is too much: at most %(count)s KB")
+            return refusal(413, text % {"count": bound >> 10})
         if any(word in request.GET for word in ("token", "key", "password")):
             # what stands in an address is kept by browsers, servers and logs
             return refusal(
@@ -198,6 +208,12 @@ class Guards:
                 ),
             )
         return None
+
+
+def max_sent_to(path: str) -> int:
+    """Returns how many bytes are sent with a request to a path at most."""
+    bounds = (MAX_SENT_TO[begin] for begin in MAX_SENT_TO if path.startswith(begin))
+    return next(bounds, MAX_SENT_OTHERWISE)
 
 
 def length_of(request: HttpRequest) -> int:

@@ -14,6 +14,7 @@ from tests.integration.hall.hall_pages import (
 from django.conf import settings
 from django.template import engines
 from django.test import Client, RequestFactory
+from rest_framework.parsers import JSONParser
 
 from arena_lab.hall.attempts.models import Attempt
 from arena_lab.hall.teams import guards, logins
@@ -328,7 +329,8 @@ class Attempts(Hall):
         for length, name, status in (
             (9 << 20, "amber", 413),
             (100 << 10, "", 413),
-            (100 << 10, "amber", 400),
+            (100 << 10, "amber", 413),
+            (60 << 10, "amber", 400),
         ):
             token = (
                 {"HTTP_AUTHORIZATION": f"Bearer {self.tokens['amber']}"} if name else {}
@@ -342,6 +344,32 @@ class Attempts(Hall):
         self.assertEqual(response.status_code, 400)
         response = self.rest("post", "/api/matches", body={"network": "ring\0of 5"})
         self.assertEqual(response.status_code, 400)
+
+    def test_a_body_is_bounded_by_its_route_before_it_is_parsed(self) -> None:
+        """Objects in objects take thirty times their bytes."""
+        parses = mock.patch.object(JSONParser, "parse", side_effect=AssertionError)
+        for path, kilobytes in (
+            ("/api/matches", 64),
+            ("/api/trials", 256),
+            ("/api/drafts/python", 256),
+            ("/api/drafts/python/hand-in", 256),
+        ):
+            body = b"[" + b"{}," * (kilobytes << 10) + b"{}]"
+            how = "put" if path.endswith("python") else "post"
+            with parses, self.subTest(path):
+                reply = getattr(Client(), how)(
+                    path,
+                    body,
+                    content_type="application/json",
+                    HTTP_AUTHORIZATION=f"Bearer {self.tokens['amber']}",
+                )
+                self.assertEqual(reply.status_code, 413)
+                text = f"that is too much: at most {kilobytes} KB"
+                self.assertEqual(reply.json()["error"], text)
+        # hand-ins are larger, and sent as forms
+        with parses:
+            reply = self.rest("post", "/api/hand-ins", body=[{}] * (64 << 10))
+        self.assertEqual(reply.status_code, 415)
 
     def test_floods_are_refused_and_slow_no_other_team(self) -> None:
         with stopped_clock(), hall_with(
