@@ -16,7 +16,7 @@ from arena_lab.hall.attempts import views as attempts
 from arena_lab.hall.attempts.api import Attempts, Networks
 from arena_lab.hall.attempts.models import Attempt
 from arena_lab.hall.drafts import views as drafts
-from arena_lab.hall.drafts.api import Drafts, Trials
+from arena_lab.hall.drafts.api import Drafts, Space, Trials
 from arena_lab.hall.drafts.models import Trial
 from arena_lab.hall.handins import views as handins
 from arena_lab.hall.handins.api import HandIns
@@ -99,11 +99,17 @@ API = [
     path("drafts", Drafts.as_view({"get": "list"})),
     path(
         "drafts/<language:language>",
-        Drafts.as_view({"get": "retrieve", "put": "update"}),
+        Drafts.as_view({"get": "retrieve", "put": "update", "delete": "destroy"}),
     ),
     path("drafts/<language:language>/hand-in", Drafts.as_view({"post": "hand_in"})),
-    path("trials", Trials.as_view({"get": "list", "post": "create"})),
-    path("trials/<number:number>", Trials.as_view({"get": "retrieve"})),
+    path("space", Space.as_view({"get": "retrieve"})),
+    path(
+        "trials", Trials.as_view({"get": "list", "post": "create", "delete": "clear"})
+    ),
+    path(
+        "trials/<number:number>",
+        Trials.as_view({"get": "retrieve", "delete": "destroy"}),
+    ),
     path("trials/<number:number>/close", Trials.as_view({"post": "close"})),
     path("trials/<number:number>/files", Trials.as_view({"get": "files"})),
     path("trials/<number:number>/replay", Trials.as_view({"get": "replay"})),

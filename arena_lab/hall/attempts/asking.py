@@ -1,5 +1,5 @@
 """Asking for matches: what a team may ask for, and why it is refused."""
-from typing import List, NamedTuple, Optional
+from typing import Dict, List, NamedTuple, Optional
 
 from django.conf import settings
 from django.db import models, transaction
@@ -85,8 +85,8 @@ def check_limits(team: Team) -> None:
 
 
 def make_room(team: Team, extra: int = 0) -> None:
-    """Removes the oldest files of practice of a team that has too many, or is to get
-    more; refuses if that is not enough."""
+    """Removes the oldest files of practice of a team that is to get more than it may
+    have; refuses if that is not enough, and says what fills its space."""
     limit = bytes_of(team)
     disk_used = own_bytes(team) + extra
     old = Attempt.objects.filter(team=team, size__gt=0, state=machine.OVER).order_by(
@@ -95,13 +95,19 @@ def make_room(team: Team, extra: int = 0) -> None:
     while disk_used > limit:
         attempt: Optional[Attempt] = old.first()
         if attempt is None:
-            raise RequestRefusedError(
-                429,
-                _(
-                    "the files of your team take more than %(count)s MB: ask your teacher"
-                )
-                % {"count": limit >> 20},
+            space = space_of(team)
+            kept = space["matches"] + space["hand_ins"] + space["gradings"]
+            text = _(
+                "your team has %(count)s MB: trials take %(trials)s, drafts %(drafts)s, matches and hand-ins "
+                "%(kept)s. Delete trials, or ask your teacher"
             )
+            sizes = {
+                "count": limit >> 20,
+                "trials": megabytes(space["trials"]),
+                "drafts": megabytes(space["drafts"]),
+                "kept": megabytes(kept),
+            }
+            raise RequestRefusedError(429, text % sizes)
         disk_used -= attempt.size
         forget(attempt)
 
@@ -112,18 +118,28 @@ def bytes_of(team: Team) -> int:
     return int(limit << 20)
 
 
+def megabytes(size: int) -> str:
+    return f"{size / (1 << 20):.1f}"
+
+
+def space_of(team: Team) -> Dict[str, int]:
+    """The bytes of a team's files by their kinds."""
+    kinds = {
+        "matches": Attempt.objects.filter(team=team),
+        "hand_ins": HandIn.objects.filter(team=team),
+        "gradings": Grading.objects.filter(hand_in__team=team),
+        "drafts": Draft.objects.filter(team=team),
+        "trials": Trial.objects.filter(team=team),
+    }
+    sums = models.Sum("size")
+    return {
+        name: int(rows.aggregate(all=sums)["all"] or 0) for name, rows in kinds.items()
+    }
+
+
 def own_bytes(team: Team) -> int:
-    """The bytes of all files of a team: matches, hand-ins and what came of grading
-    them, drafts and trials."""
-    kinds = (
-        Attempt.objects.filter(team=team),
-        HandIn.objects.filter(team=team),
-        Grading.objects.filter(hand_in__team=team),
-        Draft.objects.filter(team=team),
-        Trial.objects.filter(team=team),
-    )
-    sizes = (rows.aggregate(all=models.Sum("size"))["all"] for rows in kinds)
-    return sum(size or 0 for size in sizes)
+    """The bytes of all files of a team."""
+    return sum(space_of(team).values())
 
 
 def close(attempt: Attempt) -> bool:

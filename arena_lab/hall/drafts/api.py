@@ -2,9 +2,11 @@
 from typing import Any, Dict
 
 from rest_framework import serializers
+from rest_framework.exceptions import NotFound
 from rest_framework.response import Response
 from rest_framework.viewsets import ViewSet
 
+from arena_lab.hall.attempts import asking
 from arena_lab.hall.drafts import kits, trying, views, writing
 from arena_lab.hall.drafts.models import Trial
 from arena_lab.hall.handins import taking
@@ -31,6 +33,14 @@ class Writers(ViewSet):
     authentication_classes = [ByToken, ByWriter]
 
 
+class Space(Writers):
+    """What fills the space of a team."""
+
+    def retrieve(self, request: Any) -> Response:
+        space = asking.space_of(request.user)
+        return Response({"limit": asking.bytes_of(request.user), **space})
+
+
 class Drafts(Writers):
     """The drafts of a team."""
 
@@ -50,6 +60,10 @@ class Drafts(Writers):
         )
         # who sends has the files
         return Response({**writing.draft_dict(draft), "files": None})
+
+    def destroy(self, request: Any, language: str) -> Response:
+        writing.delete(request.user, language)
+        return Response(status=204)
 
     def hand_in(self, request: Any, language: str) -> Response:
         handed_draft = HandedDraft(data=request.data)
@@ -81,8 +95,20 @@ class Trials(Writers):
             headers={"Location": f"/api/trials/{trial.pk}"},
         )
 
+    def clear(self, request: Any) -> Response:
+        """Deletes all that have ended."""
+        trying.delete_all(request.user)
+        return Response(status=204)
+
     def retrieve(self, request: Any, number: int) -> Response:
         return Response(trying.trial_dict(views.own_trial(request, number)))
+
+    def destroy(self, request: Any, number: int) -> Response:
+        trial = views.own_trial(request, number)
+        if trial.team != request.user:
+            raise NotFound
+        trying.delete(trial)
+        return Response(status=204)
 
     def close(self, request: Any, number: int) -> Response:
         """Stops it."""

@@ -99,6 +99,20 @@ def forget(trial: Trial) -> None:
     shutil.rmtree(trial.folder, ignore_errors=True)
 
 
+def delete(trial: Trial) -> None:
+    """Deletes the files of a trial that has ended. Its row counts until tomorrow."""
+    if trial.state not in machine.ENDED:
+        raise RequestRefusedError(409, _("it is being tried: stop it first"))
+    forget(trial)
+
+
+def delete_all(team: Team) -> None:
+    """Deletes the files of all trials of a team that have ended."""
+    for trial in kept_trials(team):
+        if trial.state in machine.ENDED:
+            forget(trial)
+
+
 def due(limit: int, resting: Collection[int] = ()) -> List[Trial]:
     """The trials that may begin, at most this number; those that rest wait. Matches come
     before searches, which leave one place to them, and teams before guests."""

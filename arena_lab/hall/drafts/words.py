@@ -26,6 +26,15 @@ def words() -> Dict[str, str]:
         "handed_in": _("handed in as"),
         "program": _("program"),
         "next": _("next"),
+        "matches": _("matches"),
+        "hand_ins": _("hand-ins"),
+        "gradings": _("gradings"),
+        "drafts": _("drafts"),
+        "trials": _("trials"),
+        "limit": _("at most"),
+        "clear": _(
+            "Delete the earlier versions of all programs? What is in the editor or was handed in stays."
+        ),
         "old": _("This browser has what you wrote on an older version."),
         "anew": _(
             "Begin anew from the kit? What you wrote stays in the earlier versions if you have tried it."

@@ -5,6 +5,7 @@ from typing import Any, Dict, Optional
 
 from django.core.files.base import ContentFile
 from django.db import transaction
+from django.db.models import F
 from django.utils import timezone
 from django.utils.translation import gettext as _
 
@@ -96,13 +97,22 @@ def save(team: Team, language: str, files: Any, version: Any) -> Draft:
                 409, _("somebody of your team has changed it meanwhile")
             )
         draft = draft or Draft(team=team, language=language)
-        make_room(team, size - draft.size)
+        if size > draft.size:
+            make_room(team, size - draft.size)
         draft.files = files
         draft.size = size
         draft.version += 1
         draft.at = timezone.now()
         draft.save()
     return draft
+
+
+def delete(team: Team, language: str) -> None:
+    """Deletes what a team has written of a kit; the kit comes in its place. An exercise
+    that is done stays done."""
+    kit = kit_of(language)
+    rows = Draft.objects.filter(team=team, language=language)
+    rows.update(files=kit.files, size=0, version=F("version") + 1)
 
 
 def hand_in(team: Team, language: str, files: Any, contest: Optional[int]) -> HandIn:

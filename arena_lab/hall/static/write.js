@@ -180,6 +180,13 @@ byId("earlier").addEventListener("change", async ({ target }) => {
   keep();
   save();
 });
+byId("clear").addEventListener("click", async () => {
+  const { limit, ...space } = await rest("GET", "/api/space"), mega = (size) => (size / 2 ** 20).toFixed(1);
+  const takes = Object.entries(space).filter(([, size]) => size).map(([name, size]) => `${words[name]} ${mega(size)} MB`);
+  if (!confirm(`${takes.join(", ")} (${words.limit} ${mega(limit)} MB). ${words.clear}`)) return;
+  await rest("DELETE", "/api/trials");
+  earlier();
+});
 for (const kind of KINDS) byId(kind).addEventListener("click", () => ask(kind));
 const close = () => rest("POST", `/api/trials/${trial.id}/close`).catch(() => {});
 byId("stop").addEventListener("click", () => {

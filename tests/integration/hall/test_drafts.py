@@ -128,8 +128,50 @@ class Drafts(DraftFile):
         self.assertEqual(asking.own_bytes(team), 9_011)
         team.disk = 0
         team.save()
-        self.assertEqual(self.put_draft({"a.py": "more"}, 1).status_code, 429)
+        larger = {"a.py": "more than there was"}
+        self.assertEqual(self.put_draft(larger, 1).status_code, 429)
         self.assertEqual(self.tries().status_code, 429)
+
+    def test_a_team_whose_space_is_full_clears_it(self) -> None:
+        """And is told what fills it; what was handed in stays."""
+        team = self.team("amber")
+        self.put_draft({"agent.py": "long text"}, 0)
+        hand_in = HandIn.objects.create(team=team, name="a.py", size=1 << 20, files=1)
+        number = self.tries().json()["id"]
+        trial = self.over(number, size=200 << 20)
+        reply = self.tries()
+        self.assertEqual(reply.status_code, 429)
+        self.assertIn("trials take 200.0, drafts 0.0, matches", reply.json()["error"])
+        self.assertIn("hand-ins 1.0. Delete trials", reply.json()["error"])
+        # what gets smaller is kept all the same
+        self.assertEqual(self.put_draft({"agent.py": "short"}, 1).status_code, 200)
+        space = self.rest("get", "/api/space").json()
+        self.assertEqual(
+            (space["limit"], space["trials"], space["drafts"], space["hand_ins"]),
+            (200 << 20, 200 << 20, 5, 1 << 20),
+        )
+        path = f"/api/trials/{number}"
+        self.assertEqual(self.rest("delete", path, "birch").status_code, 404)
+        self.assertTrue(trial.folder.exists())
+        self.assertEqual(self.rest("delete", path).status_code, 204)
+        self.assertFalse(trial.folder.exists())
+        self.assertEqual(self.tries().status_code, 201)
+        # one that is being tried stays, and what was deleted counts for the day
+        second = Trial.objects.latest("pk").pk
+        path = f"/api/trials/{second}"
+        self.assertEqual(self.rest("delete", path).status_code, 409)
+        self.assertEqual(self.rest("delete", "/api/trials").status_code, 204)
+        kept = [it["id"] for it in self.rest("get", "/api/trials").json()]
+        self.assertEqual((kept, Trial.objects.count()), ([second], 2))
+        Trial.objects.filter(pk=second).update(state=machine.OVER)
+        self.rest("delete", "/api/trials")
+        self.assertEqual(self.rest("get", "/api/trials").json(), [])
+        # the kit comes in the place of a draft
+        self.assertEqual(self.rest("delete", "/api/drafts/python").status_code, 204)
+        draft = self.rest("get", "/api/drafts/python").json()
+        self.assertEqual(draft["version"], 3)
+        self.assertNotIn("short", draft["files"].values())
+        self.assertEqual(asking.own_bytes(team), hand_in.size)
 
     def test_a_copy_of_the_hall_has_drafts_and_trials(self) -> None:
         self.put_draft(FILES, 0)

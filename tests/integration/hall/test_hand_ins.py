@@ -156,7 +156,7 @@ class HandIns(Hall):
         Grading.objects.filter(pk=work.pk).update(size=(200 << 20) - 10)
         hand = self.hand_in(b"print('much more')")
         self.assertEqual((hand.status_code, HandIn.objects.count()), (429, 1))
-        self.assertIn("take more than 200 MB", hand.json()["error"])
+        self.assertIn("your team has 200 MB: trials take 0.0", hand.json()["error"])
         request = self.rest("post", "/api/matches", body={"network": "ring of 5"})
         self.assertEqual(request.status_code, 201)
         self.assertEqual(self.hand_in(b"print()", "birch").status_code, 201)

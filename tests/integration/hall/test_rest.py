@@ -51,6 +51,7 @@ class Documented(Hall):
             "/contests": {},
             "/drafts": {},
             "/trials": {},
+            "/space": {},
         }
         numbers = [attempt.pk for attempt in Attempt.objects.all()]
         paths: Dict[str, str] = {
