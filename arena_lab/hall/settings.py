@@ -1,5 +1,6 @@
 """Django's settings for a hall, made of its course's file. ARENA_HALL names the hall's
 folder."""
+import hashlib
 import pathlib
 import socket
 import urllib.parse
@@ -139,6 +140,11 @@ LOGIN_URL = "/login"
 
 # cookies: not for scripts, not for other sites, and encrypted alone if a server that
 # encrypts stands before the hall
+# and of this course alone: browsers send them to all ports of a host
+COURSE_NAME = hashlib.sha256(SECRET_KEY.encode()).hexdigest()[:8]
+SESSION_COOKIE_NAME = f"session-{COURSE_NAME}"
+CSRF_COOKIE_NAME = f"csrf-{COURSE_NAME}"
+LANGUAGE_COOKIE_NAME = f"language-{COURSE_NAME}"
 SESSION_COOKIE_HTTPONLY = CSRF_COOKIE_HTTPONLY = True
 SESSION_COOKIE_SAMESITE = CSRF_COOKIE_SAMESITE = "Lax"
 SESSION_COOKIE_SECURE = CSRF_COOKIE_SECURE = HALL.https

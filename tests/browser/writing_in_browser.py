@@ -175,6 +175,22 @@ class Writing(Walk):
         self.waits("return editor.mirror.getValue().includes('# offline')", True)
         self.save()
 
+    def log_out(self) -> None:
+        """What the hall did not have yet goes to it, and leaves the browser."""
+        self.offline(True)
+        self.change("import os", "import os  # last")
+        self.until("not saved yet")
+        self.offline(False)
+        self.open("/matches")
+        self.waits("return Object.keys(localStorage).length", 1)
+        self.find(".who button").click()
+        self.waits("return document.querySelector('.who')", None)
+        self.waits("return Object.keys(localStorage).length", 0)
+        token = self._hall.tokens()["amber"]
+        draft = self._hall.ask("GET", "/api/drafts/python", token).json()
+        if "# last" not in draft["files"]["agent.py"]:
+            raise SystemExit("what was written without a network is lost at log-out")
+
     def looks(self) -> None:
         """Languages, a dark page, and the way out of the editor by keys."""
         for language, word in (("de", "Starten"), ("fr", "Lancer"), ("en", "Run")):
@@ -272,6 +288,8 @@ def main(program: str, folder: pathlib.Path) -> int:
             other.waits_for(first)
             other.quiet("429")
             first.looks()
+            first.log_out()
+            first.quiet("ERR_INTERNET_DISCONNECTED")
             first.begin_as_guest()
             first.hostile()
             first.quiet()

@@ -16,6 +16,8 @@ from arena_lab.hall.teams.models import Team, note
 
 # a guest that has written nothing for so long is gone
 STAYS = datetime.timedelta(days=1)
+# the name of who writes on a machine of their own, and is never gone
+OWNER = "mine"
 # MB of a guest
 DISK = 8
 # guests admitted per address and day: half of all places, so that one address cannot
@@ -50,18 +52,13 @@ def admit(address: str) -> Team:
 
 
 def owner() -> Team:
-    """Returns who writes on a machine of their own, by `arena-lab try`, and stays: the
-    guest who wrote last, if there are some."""
-    team = Team.objects.filter(is_guest=True).order_by("-drafts__at").first()
-    return team or Team.objects.create(
-        name="mine", display=_("you"), hidden=True, is_guest=True
-    )
+    """Returns who writes on a machine of their own, by `arena-lab try`."""
+    values = {"display": _("you"), "hidden": True, "is_guest": True}
+    return Team.objects.get_or_create(name=OWNER, defaults=values)[0]
 
 
 def remove_gone() -> None:
     """Removes guests that have written nothing for long."""
     recent_drafts = Draft.objects.filter(at__gte=timezone.now() - STAYS)
-    guests_gone = Team.objects.filter(is_guest=True).exclude(
-        pk__in=recent_drafts.values("team")
-    )
-    guests_gone.delete()
+    strangers = Team.objects.filter(is_guest=True).exclude(name=OWNER)
+    strangers.exclude(pk__in=recent_drafts.values("team")).delete()

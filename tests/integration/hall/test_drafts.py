@@ -380,6 +380,14 @@ class Guests(DraftFile):
             self.assertEqual(comes("10.0.0.5"), 404)
             self.assertEqual(Client().get("/write")["Location"], "/login")
 
+    def test_who_writes_on_a_machine_of_their_own_stays(self) -> None:
+        owner = guests.owner()
+        Draft.objects.create(team=owner, language="python", files=FILES, size=9)
+        Draft.objects.update(at=timezone.now() - guests.STAYS * 9)
+        self.assertEqual(guests.owner(), owner)
+        self.guest()
+        self.assertEqual(Draft.objects.filter(team=owner).count(), 1)
+
     def test_no_token_is_drawn_for_them(self) -> None:
         self.guest()
         path = PLACE.folder / "new.csv"

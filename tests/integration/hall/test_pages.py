@@ -192,10 +192,10 @@ class Logins(Hall):
         client = Client()
         client.get("/login")
         client.post("/login", {"token": self.tokens["amber"]})
-        before = client.cookies["sessionid"].value
+        before = client.cookies[settings.SESSION_COOKIE_NAME].value
         client.post("/login", {"token": self.tokens["amber"]})
-        self.assertNotEqual(client.cookies["sessionid"].value, before)
-        self.assertTrue(client.cookies["sessionid"]["httponly"])
+        self.assertNotEqual(client.cookies[settings.SESSION_COOKIE_NAME].value, before)
+        self.assertTrue(client.cookies[settings.SESSION_COOKIE_NAME]["httponly"])
 
 
 class Forgeries(Hall):

@@ -3,6 +3,7 @@ import contextlib
 import http.cookiejar
 import json
 import pathlib
+import sqlite3
 import subprocess
 import sys
 import tempfile
@@ -56,9 +57,13 @@ class Try(unittest.TestCase):
             return fault.code
         return 200
 
+    def secret(self) -> str:
+        """Returns the secret of forms that the browser has, or nothing."""
+        return next((it.value or "" for it in self.jar if "csrf" in it.name), "")
+
     def request(self, path: str, body: Any = None) -> str:
         """Returns the body of a response, to a GET or to a POST with an object."""
-        secret = {it.name: it.value for it in self.jar}.get("csrftoken") or ""
+        secret = self.secret()
         kind = "application/json" if isinstance(body, dict) else "text/plain"
         data = None if body is None else json.dumps(body).encode()
         head = {"X-CSRFToken": secret, "Content-Type": kind}
@@ -87,13 +92,17 @@ class Try(unittest.TestCase):
         path = f"/api/trials/{made['id']}"
         report = json.loads(self.waits(path, '"over"', '"lost"'))
         self.assertTrue(report["found"] and report["found"]["right"], report)
-        # another browser of the same person finds what was written
+        # another browser of the same person finds what was written, whenever it comes
         draft["files"]["agent.py"] = "# mine"
-        secret = {it.name: it.value for it in self.jar}["csrftoken"]
+        secret = self.secret()
         body = json.dumps(draft).encode()
         head = {"X-CSRFToken": secret, "Content-Type": "application/json"}
         address = f"http://127.0.0.1:{self.port}/api/drafts/python"
         self.browser.open(urllib.request.Request(address, body, head, method="PUT"))
+        path = self.folder / "mine" / "hall" / "hall.sqlite3"
+        with contextlib.closing(sqlite3.connect(path, timeout=60)) as database:
+            database.execute("UPDATE drafts_draft SET at = datetime(at, '-9 days')")
+            database.commit()
         self.new_browser()
         self.request(self.own_page)
         self.assertIn("# mine", self.request("/api/drafts/python"))
