@@ -34,6 +34,7 @@ from arena_lab.commands.words import add_program, at_least_one, not_negative
 from arena_lab.hall import backup, entry, place, serving
 from arena_lab.hall.course import (
     CODEMIRROR,
+    KEYS,
     PACKAGE,
     Hall,
     HallError,
@@ -45,8 +46,10 @@ from arena_lab.rules.engines import program_at
 from arena_lab.sandbox import sandboxes
 from arena_lab.sandbox.sandboxes import Isolation
 from arena_lab.support.missing import check
+from arena_lab.support.ports import listen
 
 PACKAGES = ("django", "rest_framework", "waitress", "whitenoise")
+__doc__ = f"{__doc__}\n{KEYS}"
 ACTIONS = ("new", "serve", "worker", "keys", "password", "contest", "backup", "restore")
 WEAK_SANDBOX = "--allow-weak-sandbox"
 SHEET = "keys.csv"
@@ -159,7 +162,11 @@ def run(args: argparse.Namespace) -> int:
         return serve(
             args,
             HallFolder(folder, course.resolve(), program_at(args.program, args.needs)),
-            functools.partial(prepare, f"http://{args.address}:{args.port}/"),
+            prepare,
+            functools.partial(
+                report,
+                f"hall http://{args.address}:{args.port}/ (the teacher's pages: /teacher/)",
+            ),
         )
     if action == "restore":
         backup.take_course(pathlib.Path(operands[1]), course)
@@ -256,14 +263,16 @@ def serve(
     args: argparse.Namespace,
     of: HallFolder,
     prepare: Callable[[Hall, HallFolder], None],
+    announce: Callable[[], object],
 ) -> int:
-    """Serves a hall after a function has prepared its database."""
+    """Serves a hall after a function has prepared its database, and announces it once
+    it answers."""
     os.umask(0o077)
     hall = of.to_serve()
     check_walls(args, hall)
     check_editor(hall)
     of.make()
-    with serving.alone(of):
+    with serving.alone(of), listen(args.address, args.port) as listener:
         of.write(hall)
         for line in hall.notes:
             place.log_line(line)
@@ -272,7 +281,7 @@ def serve(
         prepare(hall, of)
         serving.serve(
             of,
-            serving.Options([args.address, args.port], args.workers),
+            serving.Options(args.workers, listener, announce),
             args.seconds,
         )
     return 0
@@ -286,13 +295,12 @@ def work(args: argparse.Namespace, hall: Hall, folder: pathlib.Path) -> int:
         )
     check_walls(args, hall)
     os.umask(0o077)
-    serving.serve(place.at(folder), serving.Options(None, args.workers), args.seconds)
+    serving.serve(place.at(folder), serving.Options(args.workers), args.seconds)
     return 0
 
 
-def prepare(address: str, hall: Hall, of: HallFolder) -> None:
-    """Makes teams, tokens and the teacher's password, where they are not there yet, and
-    prints where the hall is."""
+def prepare(hall: Hall, of: HallFolder) -> None:
+    """Makes teams, tokens and the teacher's password, where they are not there yet."""
     from arena_lab.hall import keys
 
     keys.sync(hall)
@@ -304,7 +312,6 @@ def prepare(address: str, hall: Hall, of: HallFolder) -> None:
             f"hall: log in as teacher by the password in {of.folder / place.PASSWORD}; `hall password` sets another",
             flush=True,
         )
-    print(f"hall {address} (the teacher's pages: /teacher/)", flush=True)
 
 
 def draw_keys(args: argparse.Namespace, hall: Hall, folder: pathlib.Path) -> int:

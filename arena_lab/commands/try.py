@@ -14,13 +14,12 @@ import argparse
 import os
 import pathlib
 import shutil
-import threading
 import webbrowser
 
 from arena_lab.commands import hall
 from arena_lab.commands.words import add_program, at_least_one
 from arena_lab.hall import place
-from arena_lab.hall.course import Hall, HallError
+from arena_lab.hall.course import HallError
 from arena_lab.hall.place import HallFolder
 from arena_lab.rules.engines import program_at
 from arena_lab.sandbox import sandboxes
@@ -32,8 +31,6 @@ COURSE = "try.toml"
 # machine see, do not have its secret
 OPENS = "open.html"
 LEADS = '<meta http-equiv="refresh" content="0; url={link}">\n'
-# seconds after which the page is opened, in which the hall begins
-OPEN_SECONDS = 4.0
 
 
 def usual_folder() -> pathlib.Path:
@@ -89,15 +86,12 @@ def run(args: argparse.Namespace) -> int:
     args.workers = 1
     of = HallFolder(folder / "hall", course, program_at(args.program, args.needs))
 
-    def prepare(_: Hall, of: HallFolder) -> None:
+    def announce() -> None:
         """Prints the address, and opens it."""
         link = f"http://{ADDRESS}:{args.port}/mine/{of.secret(place.OWNER)}"
         print(f"try {link} (Ctrl+C ends it; {folder} has what you write)", flush=True)
         if not args.no_browser:
             place.write_whole(of.folder / OPENS, LEADS.format(link=link))
-            page = (of.folder / OPENS).as_uri()
-            opens = threading.Timer(OPEN_SECONDS, webbrowser.open, [page])
-            opens.daemon = True
-            opens.start()
+            webbrowser.open((of.folder / OPENS).as_uri())
 
-    return hall.serve(args, of, prepare)
+    return hall.serve(args, of, lambda *_: None, announce)

@@ -3,6 +3,7 @@ many an address has, how many bytes of its requests wait, and how long a request
 Where a bound is passed, a connection that waits is closed, so that a new one is taken."""
 import collections
 import functools
+import socket
 import time
 from typing import Any, Callable, List, NamedTuple, Tuple, Type
 
@@ -190,14 +191,17 @@ class HallServer(TcpWSGIServer):
                 channel.handle_close()
 
 
-def servers(
-    application: Any, kind: Type[HallServer] = HallServer, **options: Any
-) -> List[Any]:
-    """Servers of an application by waitress's options, one for each address of its
-    host. Any of them runs all."""
-    adj = Adjustments(**options)
-    sockets: Any = {}
-    return [
-        kind(application, sockets, adj=adj, sockinfo=socket_info)
-        for socket_info in adj.listen
-    ]
+def server_on(
+    listener: socket.socket,
+    application: Any,
+    kind: Type[HallServer] = HallServer,
+    **options: Any,
+) -> HallServer:
+    """Makes the server of an application by waitress's options, which answers whom the
+    listener hears."""
+    address = listener.getsockname()
+    info = (listener.family, listener.type, listener.proto, address)
+    adj = Adjustments(host=address[0], port=address[1], **options)
+    return kind(
+        application, {}, True, listener, adj=adj, sockinfo=info, bind_socket=False
+    )

@@ -1,7 +1,7 @@
 """Where a process of a hall begins. Nothing of Django is imported before the hall is
 known.
 
-    python3 -m arena_lab.hall.entry FOLDER web ADDRESS PORT
+    python3 -m arena_lab.hall.entry FOLDER web ADDRESS DESCRIPTOR
     python3 -m arena_lab.hall.entry FOLDER worker NUMBER
 """
 import importlib

@@ -3,12 +3,15 @@ All of them end with this process, and servers of matches with their worker. Wha
 say of faults goes where this process says it."""
 import contextlib
 import fcntl
+import http.client
 import os
 import signal
+import socket
 import subprocess
 import sys
+import threading
 import time
-from typing import Dict, Iterator, List, NamedTuple, Optional
+from typing import Callable, Dict, Iterator, List, NamedTuple, Optional
 
 from arena_lab.hall.attempts.servers import bound
 from arena_lab.hall.course import HallError
@@ -21,15 +24,18 @@ LOCK = "lock"
 LOOK = 0.3
 RETRY_SECONDS = 1.0
 PATIENCE = 8.0
+# seconds in which the pages answer once, also on a busy machine
+ANSWER_SECONDS = 60.0
 Children = Dict[str, "subprocess.Popen[bytes]"]
 
 
 class Options(NamedTuple):
-    """Options of a hall: address of its pages (None for a machine with workers only),
-    and the number of workers."""
+    """Options of a hall: the number of workers, the socket of its pages (None for a
+    machine with workers only), and what is called once a request is answered there."""
 
-    pages: Optional[List[object]]
     workers: int
+    listener: Optional[socket.socket] = None
+    announce: Callable[[], object] = lambda: None
 
 
 @contextlib.contextmanager
@@ -52,13 +58,32 @@ def commands(options: Options) -> Dict[str, List[object]]:
     }
     return (
         processes
-        if options.pages is None
-        else {**processes, "web": ["web", *options.pages]}
+        if options.listener is None
+        else {**processes, "web": web_words(options.listener)}
     )
 
 
+def web_words(listener: socket.socket) -> List[object]:
+    return ["web", listener.getsockname()[0], listener.fileno()]
+
+
+def announce_answer(listener: socket.socket, announce: Callable[[], object]) -> None:
+    """Asks the pages until they answer, and announces it."""
+    host, port = listener.getsockname()[:2]
+    host = {"0.0.0.0": "127.0.0.1", "::": "::1"}.get(host, host)
+    while True:
+        with contextlib.suppress(OSError, http.client.HTTPException):
+            connection = http.client.HTTPConnection(host, port, timeout=ANSWER_SECONDS)
+            with contextlib.closing(connection):
+                connection.request("GET", "/health")
+                connection.getresponse().read()
+            announce()
+            return
+        time.sleep(LOOK)
+
+
 def start_process(
-    hall_folder: HallFolder, words: List[object]
+    hall_folder: HallFolder, words: List[object], listener: Optional[socket.socket]
 ) -> "subprocess.Popen[bytes]":
     # strangers choose the keys of forms: sets and dictionaries have an order of their
     # own in each process
@@ -72,7 +97,11 @@ def start_process(
         [sys.executable, "-m", "arena_lab.hall.entry", hall_folder.folder, *words]
     )
     return subprocess.Popen(
-        command, stdin=subprocess.DEVNULL, env=variables, cwd=hall_folder.folder
+        command,
+        stdin=subprocess.DEVNULL,
+        env=variables,
+        cwd=hall_folder.folder,
+        pass_fds=[listener.fileno()] if listener and words[0] == "web" else [],
     )
 
 
@@ -95,9 +124,12 @@ def serve(
     limit = float("inf") if seconds is None else time.monotonic() + seconds
     children: Children = {}
     begin_times: Dict[str, float] = {}
+    if options.listener is not None:
+        words = (options.listener, options.announce)
+        threading.Thread(target=announce_answer, args=words, daemon=True).start()
     try:
         while time.monotonic() < limit:
-            for name, words in commands(options).items():
+            for name, command in commands(options).items():
                 child = children.get(name)
                 if (
                     child is not None
@@ -110,7 +142,7 @@ def serve(
                     log_line(
                         f"{name} has ended with status {child.returncode} and is started again"
                     )
-                children[name] = start_process(hall_folder, words)
+                children[name] = start_process(hall_folder, command, options.listener)
                 begin_times[name] = time.monotonic()
             time.sleep(LOOK)
     finally:

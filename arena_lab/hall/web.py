@@ -1,12 +1,13 @@
 """Serves the pages of a hall by waitress, which waits for slow clients without a thread
 of their own."""
 import resource
+import socket
 from typing import Any, Dict
 
 from django.conf import settings
 from django.core.wsgi import get_wsgi_application
 
-from arena_lab.hall.connections import HallServer, servers
+from arena_lab.hall.connections import HallServer, server_on
 
 # threads that answer, and seconds after which a connection that says nothing is ended
 THREADS = 16
@@ -39,14 +40,12 @@ def options(address: str, is_behind: bool) -> Dict[str, Any]:
     return server_options
 
 
-def main(address: str, port: str) -> None:
+def main(address: str, descriptor: str) -> None:
+    """Serves the pages on a socket, which the hall has opened at this address."""
     _, limit = resource.getrlimit(resource.RLIMIT_NOFILE)
     resource.setrlimit(
         resource.RLIMIT_NOFILE, (min(limit, FILES) if limit > 0 else FILES, limit)
     )
-    servers(
-        get_wsgi_application(),
-        host=address,
-        port=port,
-        **options(address, settings.HALL.https),
-    )[0].run()
+    listener = socket.socket(fileno=int(descriptor))
+    application = get_wsgi_application()
+    server_on(listener, application, **options(address, settings.HALL.https)).run()

@@ -15,6 +15,7 @@ from arena_lab.pages.web_pages import (
     new_token,
     run,
 )
+from arena_lab.support.ports import listen
 
 # limit on a request, in bytes
 MAX_BYTES = 10_000
@@ -132,4 +133,6 @@ def application(match: PersonMatch, title: str, token: str) -> Any:
 def serve(match: PersonMatch, title: str, port: int) -> None:
     """Serves the page to this machine until it is interrupted."""
     token = new_token()
-    run(application(match, title, token), ("127.0.0.1", port), "play at", token)
+    app = application(match, title, token)
+    with listen("127.0.0.1", port) as listener:
+        run(app, listener, "play at", token)

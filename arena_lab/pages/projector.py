@@ -22,6 +22,7 @@ from arena_lab.pages.web_pages import (
     run,
 )
 from arena_lab.rules.model import Match, judge
+from arena_lab.support.ports import listen
 
 # seconds between two looks at the files, and how many watchers there may be
 EVERY = 0.5
@@ -237,4 +238,5 @@ def show(
         handlers = ProjectorHandlers(contest, title, turns)
         return application(handlers, contest, token, names)
 
-    run(make_page(), address, "watch", token)
+    with listen(*address) as listener:
+        run(make_page(), listener, "watch", token)

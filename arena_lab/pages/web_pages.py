@@ -7,10 +7,11 @@ import ipaddress
 import re
 import secrets
 import socket
-from typing import Any, Collection, Dict, List, Mapping, Tuple
+from typing import Any, Collection, Dict, List, Mapping
 
 from arena_lab.pages.parts import fill_page, part
 from arena_lab.support.missing import require
+from arena_lab.support.ports import link_to
 
 STRICT = (
     "default-src 'none'; style-src 'self'; script-src 'self'; connect-src 'self'; base-uri 'none'; "
@@ -139,15 +140,13 @@ def answering(
     return app
 
 
-def run(application: Any, place: Tuple[str, int], text: str, token: str) -> None:
-    """Serves an application at an address and port until it is interrupted, and prints
-    its address with its token once it serves."""
-    address, port = place
-    link = f"http://{address}:{port}/?{TOKEN}={token}"
+def run(application: Any, listener: socket.socket, text: str, token: str) -> None:
+    """Serves an application until it is interrupted, and prints its address with its
+    token once it serves."""
+    link = f"{link_to(listener)}?{TOKEN}={token}"
     require("aiohttp.web").run_app(
         application,
-        host=address,
-        port=port,
+        sock=listener,
         access_log=None,
         shutdown_timeout=1,
         print=lambda *_: print(f"{text} {link}", flush=True),

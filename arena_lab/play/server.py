@@ -22,6 +22,7 @@ from arena_lab.rules.model import (
 )
 from arena_lab.rules.printed import table
 from arena_lab.rules.rehearsal import Item, Ready, SentReplies, Sessions
+from arena_lab.support.ports import listen
 
 
 class ServeOptions(NamedTuple):
@@ -161,7 +162,7 @@ def serve_contest(
     """Serves a contest: writes its replays, and prints its table. The files must be
     right: ask `arena check`."""
     contest = Contest(read_tournament(tournament))
-    with socket.create_server(("127.0.0.1", port), backlog=sessions) as listener:
+    with listen("127.0.0.1", port, sessions) as listener:
         print(f"listening {port}", flush=True)
         # daemons, so that a server that is interrupted ends
         threads = [

@@ -172,6 +172,16 @@ class Commands(Halls):
             new.write_text(text)
             self.assertIn(expectation, self.output(new, status=2))
 
+    def test_a_port_that_is_taken_is_told_and_nothing_is_served(self) -> None:
+        """Before, the web server was started again for ever."""
+        second = self.hall.folder.parent / "second.toml"
+        second.write_bytes(self.hall.course.read_bytes())
+        words = (second, "--program", halls.program(), "--port", self.hall.port)
+        output = self.output(*words, status=2)
+        text = f"127.0.0.1:{self.hall.port}: another program listens there: end it, or"
+        self.assertIn(text, output)
+        self.assertNotIn("hall http://", output)
+
     def test_nobody_else_may_look(self) -> None:
         for path in [self.hall.folder, *self.hall.folder.rglob("*")]:
             with contextlib.suppress(FileNotFoundError):

@@ -8,7 +8,8 @@ import time
 import unittest
 from typing import Any, Dict, Iterable, List
 
-from arena_lab.hall.connections import ConnectionBounds, HallServer, servers
+from arena_lab.hall.connections import ConnectionBounds, HallServer, server_on
+from arena_lab.support.ports import listen
 from waitress import wasyncore
 
 SMALL = ConnectionBounds(30, 20, 4 << 20, 2 << 20, 2.0, 1 << 20)
@@ -36,17 +37,15 @@ class Connections(unittest.TestCase):
     options: Dict[str, Any] = {}
 
     def setUp(self) -> None:
-        result = servers(
+        self.server = server_on(
+            self.enterContext(listen("127.0.0.1", 0)),
             respond,
             SmallServer,
-            host="127.0.0.1",
-            port=0,
             threads=THREADS,
             cleanup_interval=1,
             asyncore_use_poll=True,
             **self.options,
         )
-        self.server = result[0]
         self.port = int(self.server.effective_port)
         thread = threading.Thread(target=self.server.run)
         thread.start()

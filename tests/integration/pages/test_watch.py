@@ -13,6 +13,7 @@ from arena_lab.pages.web_pages import cookie_of
 from arena_lab.rules.engines import TOP
 from arena_lab.rules.model import Match, spell
 from arena_lab.rules.networks import ring
+from arena_lab.support.ports import listen
 from examples.contest import free_port
 from tests.support.matches import InFolder
 from tests.support.tournaments import match, write_cup
@@ -116,6 +117,27 @@ class Watching(InFolder):
                 message: Dict[str, Any] = json.loads(line[6:])
                 if holds(message["rows"]):
                     return message
+
+    def test_a_port_that_is_taken_is_told(self) -> None:
+        with listen("127.0.0.1", self.port):
+            for words in (["watch", "cup.toml", "m"], ["play", "--page"]):
+                result = subprocess.run(
+                    [
+                        sys.executable,
+                        "-m",
+                        "arena_lab",
+                        *words,
+                        "--port",
+                        f"{self.port}",
+                    ],
+                    cwd=self.folder,
+                    env={**os.environ, "PYTHONPATH": str(TOP)},
+                    capture_output=True,
+                    text=True,
+                )
+                text = f"arena-lab: 127.0.0.1:{self.port}: another program listens"
+                self.assertEqual((result.returncode, result.stdout), (2, ""))
+                self.assertIn(text, result.stderr.splitlines()[0])
 
     def test_who_has_no_token_sees_nothing(self) -> None:
         self.watch()

@@ -360,14 +360,14 @@ class Commands(InTemporary):
             }
             with self.assertRaisesRegex(HallError, "is served already"):
                 of = HallFolder(hall_folder.folder, second, "/bin/false")
-                hall.serve(words, of, mock.Mock())
+                hall.serve(words, of, mock.Mock(), mock.Mock())
         new = HallFolder(self.folder / "new.hall", second, None)
         refuses = mock.patch.object(
             hall, "check_walls", side_effect=HallError("no walls")
         )
         for of in (hall_folder._replace(course=second), new):
             with refuses, self.assertRaisesRegex(HallError, "no walls"):
-                hall.serve(words, of, mock.Mock())
+                hall.serve(words, of, mock.Mock(), mock.Mock())
         self.assertFalse(new.folder.exists())
         after = {path.name: path.read_bytes() for path in hall_folder.folder.iterdir()}
         self.assertEqual(after, before)
