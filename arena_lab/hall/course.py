@@ -95,6 +95,8 @@ Each [[network]] has these keys:
     trials        how many programs are tried at a time (2).
     a_day         how many programs a team tries a day (500).
     guests        how many people without a token write and try at a time (0); they hand in nothing.
+    class_word    a word of 8 characters or more: who opens /class/WORD begins as a guest of your class ("", nobody).
+    class_guests  how many guests of your class there are at a time, beside others (40).
 
 Hand-ins are graded by the agents, quota, whiteboards and labels that practice has on the same network.
 
@@ -111,6 +113,7 @@ FIXED = "fixed"
 # a table of earlier files, which is passed over
 RATED = "rated"
 TEAM = re.compile("[a-z0-9][a-z0-9-]{0,15}")
+CLASS_WORD = re.compile(r"([A-Za-z0-9_-]{8,60})?")
 TIMES = 'a time such as "2026-12-18 18:00"'
 
 
@@ -220,6 +223,12 @@ EDITOR = {
     "trials": fields.count(2),
     "a_day": fields.count(500),
     "guests": Field(is_number, "a whole number", 0),
+    "class_word": Field(
+        lambda value: isinstance(value, str) and bool(CLASS_WORD.fullmatch(value)),
+        "8 characters or more out of letters, digits, - and _",
+        "",
+    ),
+    "class_guests": fields.count(40),
 }
 
 
@@ -287,6 +296,8 @@ class EditorRules(NamedTuple):
     trials: int
     a_day: int
     guests: int
+    class_word: str = ""
+    class_guests: int = 40
 
 
 class Hall(NamedTuple):

@@ -134,6 +134,7 @@ urlpatterns = [
     path("matches/<number:number>/<number:match>/page", attempts.page),
     path("write", drafts.page),
     path("write/guest", drafts.begin_as_guest),
+    path("class/<slug:word>", drafts.begin_by_class),
     re_path(r"^mine/(?P<secret>[0-9a-f]{64})$", drafts.begin_as_owner),
     path("write/trials/<number:number>/page", drafts.match_page),
     path("hand-ins", handins.list_hand_ins),

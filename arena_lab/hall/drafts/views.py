@@ -42,13 +42,20 @@ def taking_now(team: Team) -> List[Window]:
     ]
 
 
+def guest_page(request: Any, action: str) -> HttpResponse:
+    """Shows the page on which one begins as a guest."""
+    return render(request, "guest.html", {"action": action})
+
+
 def page(request: Any) -> HttpResponse:
     """Shows the editor of a kit to a team or a guest."""
     rules = settings.HALL.editor
     if rules is None:
         raise Http404
     if request.writer is None:
-        return render(request, "guest.html") if rules.guests else redirect("/login")
+        return (
+            guest_page(request, "/write/guest") if rules.guests else redirect("/login")
+        )
     team = request.writer
     language = request.GET.get("language") or kits.languages()[0]
     try:
@@ -79,7 +86,20 @@ def page(request: Any) -> HttpResponse:
 def begin_as_guest(request: Any) -> HttpResponse:
     """Lets somebody without a token write and try."""
     try:
-        logins.log_in(request, guests.admit(guards.address_of(request)))
+        logins.log_in(request, guests.admit(guards.site_of(request)))
+    except RequestRefusedError as fault:
+        return guards.refusal(fault.status_code, str(fault))
+    return redirect("/write")
+
+
+def begin_by_class(request: Any, word: str) -> HttpResponse:
+    """Lets in who has the link of the class, as a guest counted apart from others."""
+    if not guests.is_of_class(word):
+        raise Http404
+    if request.method != "POST":
+        return guest_page(request, request.path)
+    try:
+        logins.log_in(request, guests.admit_by_class(word))
     except RequestRefusedError as fault:
         return guards.refusal(fault.status_code, str(fault))
     return redirect("/write")

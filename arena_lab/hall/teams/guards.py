@@ -64,8 +64,10 @@ MAX_ENTRIES = 20_000
 # where programs ask, and how they send their token
 REST = "/api/"
 BEARER = "bearer "
-# prefix length in bits of an IPv6 network, which stands for one client
+# prefix lengths in bits of IPv6 networks: of one client, and of one site, which has all
+# the networks of clients in it
 OF_ONE = 64
+OF_SITE = 48
 
 
 class Buckets:
@@ -122,7 +124,12 @@ def address_of(request: HttpRequest) -> str:
     return network_of(str(request.META.get("REMOTE_ADDR", "")))
 
 
-def network_of(address_text: str) -> str:
+def site_of(request: HttpRequest) -> str:
+    """Returns the client's IPv4 address, or the IPv6 network of its site."""
+    return network_of(str(request.META.get("REMOTE_ADDR", "")), OF_SITE)
+
+
+def network_of(address_text: str, bits: int = OF_ONE) -> str:
     """Returns an IPv4 address, or the network of an IPv6 address, since one client may
     use all addresses of the network."""
     try:
@@ -131,7 +138,7 @@ def network_of(address_text: str) -> str:
         return address_text
     if address.version == 4 or address.ipv4_mapped:
         return str(getattr(address, "ipv4_mapped", None) or address)
-    return str(ipaddress.ip_network((address, OF_ONE), strict=False))
+    return str(ipaddress.ip_network((address, bits), strict=False))
 
 
 def token_in(request: HttpRequest) -> Optional[str]:

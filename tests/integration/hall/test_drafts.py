@@ -1,5 +1,6 @@
 """What teams write in the browser: by the page and by REST, as a team, two members of it,
 another team and a stranger ask."""
+import datetime
 import json
 import shutil
 import tarfile
@@ -379,6 +380,38 @@ class Guests(DraftFile):
         with hall_with(editor=RULES):
             self.assertEqual(comes("10.0.0.5"), 404)
             self.assertEqual(Client().get("/write")["Location"], "/login")
+
+    def test_a_site_has_many_networks_and_who_is_idle_makes_room(self) -> None:
+        def comes(address: str) -> int:
+            response = Client(REMOTE_ADDR=address).post("/write/guest")
+            return int(response.status_code)
+
+        codes = [comes(f"2001:db8:1:{number}::1") for number in range(3)]
+        self.assertEqual(codes, [302, 302, 429])
+        rest = [comes("2001:db8:2::1"), comes("10.0.0.1"), comes("10.0.0.2")]
+        self.assertEqual(rest, [302, 302, 429])
+        first, second = Team.objects.filter(is_guest=True).order_by("pk")[:2]
+        for team, hours in ((first, 2), (second, 3)):
+            at = timezone.now() - datetime.timedelta(hours=hours)
+            Draft.objects.filter(team=team).update(at=at)
+        # whose program was tried is not idle
+        Trial.objects.create(team=second, language="python", kind="play", files={})
+        self.assertEqual([comes("10.0.0.3"), comes("10.0.0.4")], [302, 429])
+        self.assertFalse(Team.objects.filter(pk=first.pk).exists())
+        self.assertTrue(Team.objects.filter(pk=second.pk).exists())
+
+    def test_a_class_comes_by_its_link_beside_strangers(self) -> None:
+        rules = RULES._replace(guests=2, class_word="autumn-27", class_guests=25)
+        with hall_with(editor=rules):
+            for path in ("/class/autumn-28", "/class/guest"):
+                self.assertEqual(Client().post(path).status_code, 404)
+            self.assertContains(Client().get("/class/autumn-27"), "/class/autumn-27")
+            codes = [Client().post("/class/autumn-27").status_code for _ in range(26)]
+            self.assertEqual(codes, [302] * 25 + [429])
+            self.guest()
+        # without a word there is no link
+        for path in ("/class/", "/class/autumn-27"):
+            self.assertEqual(Client().post(path).status_code, 404)
 
     def test_who_writes_on_a_machine_of_their_own_stays(self) -> None:
         owner = guests.owner()
