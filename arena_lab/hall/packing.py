@@ -2,16 +2,28 @@
 import gzip
 import pathlib
 import shutil
+import stat
 from typing import IO, Any, cast
 
 SUFFIX = ".gz"
+# bytes of a disk that are given to files at once
+BLOCK = 4_096
 # bytes of a file that is worth it
 MIN_BYTES = 4_096
 
 
+def on_disk(size: int) -> int:
+    """Returns how many bytes of a disk a file of this size takes, with its inode."""
+    return (-(-size // BLOCK) + 1) * BLOCK
+
+
 def size_of(folder: pathlib.Path) -> int:
-    """The bytes of all files of a folder."""
-    return sum(path.stat().st_size for path in folder.rglob("*") if path.is_file())
+    """The bytes of a disk that all files and folders of a folder take."""
+    paths = (path.lstat() for path in folder.rglob("*"))
+    return sum(
+        on_disk(status.st_size if stat.S_ISREG(status.st_mode) else 0)
+        for status in paths
+    )
 
 
 def pack(folder: pathlib.Path) -> int:

@@ -12,6 +12,7 @@ from arena_lab.hall.attempts.playing import forget
 from arena_lab.hall.course import Net
 from arena_lab.hall.drafts.models import Draft, Trial
 from arena_lab.hall.handins.models import Grading, HandIn
+from arena_lab.hall.packing import BLOCK
 from arena_lab.hall.steps import step
 from arena_lab.hall.teams.models import Switch, Team, note, today
 
@@ -96,7 +97,7 @@ def make_room(team: Team, extra: int = 0) -> None:
         attempt: Optional[Attempt] = old.first()
         if attempt is None:
             space = space_of(team)
-            kept = space["matches"] + space["hand_ins"] + space["gradings"]
+            match_bytes = space["matches"] + space["hand_ins"] + space["gradings"]
             text = _(
                 "your team has %(count)s MB: trials take %(trials)s, drafts %(drafts)s, matches and hand-ins "
                 "%(kept)s. Delete trials, or ask your teacher"
@@ -105,7 +106,7 @@ def make_room(team: Team, extra: int = 0) -> None:
                 "count": limit >> 20,
                 "trials": megabytes(space["trials"]),
                 "drafts": megabytes(space["drafts"]),
-                "kept": megabytes(kept),
+                "kept": megabytes(match_bytes),
             }
             raise RequestRefusedError(429, text % sizes)
         disk_used -= attempt.size
@@ -123,7 +124,7 @@ def megabytes(size: int) -> str:
 
 
 def space_of(team: Team) -> Dict[str, int]:
-    """The bytes of a team's files by their kinds."""
+    """The bytes that a team's files take of the disk, by their kinds."""
     kinds = {
         "matches": Attempt.objects.filter(team=team),
         "hand_ins": HandIn.objects.filter(team=team),
@@ -131,10 +132,13 @@ def space_of(team: Team) -> Dict[str, int]:
         "drafts": Draft.objects.filter(team=team),
         "trials": Trial.objects.filter(team=team),
     }
-    sums = models.Sum("size")
-    return {
-        name: int(rows.aggregate(all=sums)["all"] or 0) for name, rows in kinds.items()
+    space = {
+        name: rows.aggregate(all=models.Sum("size"))["all"] or 0
+        for name, rows in kinds.items()
     }
+    files = kinds["hand_ins"].aggregate(all=models.Sum("files"))["all"] or 0
+    # as each file takes a block that is not full, and an inode
+    return {**space, "hand_ins": space["hand_ins"] + 2 * BLOCK * files}
 
 
 def own_bytes(team: Team) -> int:

@@ -18,12 +18,15 @@ import threading
 import zipfile
 from typing import Dict, Iterator, List, NamedTuple
 
-from arena_lab.course.hand_in import MAX_BYTES, MAX_DEPTH, MAX_FILES
+from arena_lab.course.hand_in import MAX_BYTES, MAX_FILES
 from arena_lab.support.built import TOP
 from arena_lab.support.faults import ArenaError
 
 # bytes of what is sent
 MAX_SENT = 8 << 20
+# folders, of which each takes room of the disk in each copy, and how deep they are
+MAX_FOLDERS = 64
+MAX_DEPTH = 8
 PART = re.compile(r"[^/\\\0-\x1f\x7f]{1,100}")
 # bytes of the name of a file or a folder, and of all names that lead to a file: what a
 # disk takes
@@ -167,6 +170,8 @@ def check_names(archive: zipfile.ZipFile) -> List[str]:
             raise HandInError(f"{name} stands twice in the zip")
         names[name] = None
     folders = {str(above) for name in names for above in pathlib.PurePath(name).parents}
+    if len(folders - {"."}) > MAX_FOLDERS:
+        raise HandInError(f"it has more than {MAX_FOLDERS} folders")
     for name in folders.intersection(names):
         raise HandInError(f"{name} is a file and a folder in the zip")
     return list(names)
@@ -177,7 +182,7 @@ def checked_name(entry: zipfile.ZipInfo) -> str:
     that is read piece by piece."""
     name = entry.filename
     parts = name.split("/")
-    if len(parts) > MAX_DEPTH:
+    if len(parts) - 1 > MAX_DEPTH:
         raise HandInError(f"its folders are more than {MAX_DEPTH} deep")
     if any(part in ("", ".", "..") or not PART.fullmatch(part) for part in parts):
         raise HandInError(

@@ -19,6 +19,7 @@ from arena_lab.hall.course import EditorRules
 from arena_lab.hall.drafts import guests, trying, writing
 from arena_lab.hall.drafts.models import Draft, Trial
 from arena_lab.hall.handins.models import HandIn
+from arena_lab.hall.packing import BLOCK
 from arena_lab.hall.teams.models import Team
 from arena_lab.play.agent_files import AGENTS
 
@@ -149,7 +150,7 @@ class Drafts(DraftFile):
         space = self.rest("get", "/api/space").json()
         self.assertEqual(
             (space["limit"], space["trials"], space["drafts"], space["hand_ins"]),
-            (200 << 20, 200 << 20, 5, 1 << 20),
+            (200 << 20, 200 << 20, 5, (1 << 20) + 2 * BLOCK),
         )
         path = f"/api/trials/{number}"
         self.assertEqual(self.rest("delete", path, "birch").status_code, 404)
@@ -162,8 +163,8 @@ class Drafts(DraftFile):
         path = f"/api/trials/{second}"
         self.assertEqual(self.rest("delete", path).status_code, 409)
         self.assertEqual(self.rest("delete", "/api/trials").status_code, 204)
-        kept = [it["id"] for it in self.rest("get", "/api/trials").json()]
-        self.assertEqual((kept, Trial.objects.count()), ([second], 2))
+        numbers = [row["id"] for row in self.rest("get", "/api/trials").json()]
+        self.assertEqual((numbers, Trial.objects.count()), ([second], 2))
         Trial.objects.filter(pk=second).update(state=machine.OVER)
         self.rest("delete", "/api/trials")
         self.assertEqual(self.rest("get", "/api/trials").json(), [])
@@ -172,7 +173,7 @@ class Drafts(DraftFile):
         draft = self.rest("get", "/api/drafts/python").json()
         self.assertEqual(draft["version"], 3)
         self.assertNotIn("short", draft["files"].values())
-        self.assertEqual(asking.own_bytes(team), hand_in.size)
+        self.assertEqual(asking.own_bytes(team), hand_in.size + 2 * BLOCK)
 
     def test_a_copy_of_the_hall_has_drafts_and_trials(self) -> None:
         self.put_draft(FILES, 0)
@@ -409,7 +410,7 @@ class Guests(DraftFile):
             codes = [Client().post("/class/autumn-27").status_code for _ in range(26)]
             self.assertEqual(codes, [302] * 25 + [429])
             self.guest()
-        # without a word there is no link
+        # a hall whose course has no word has no link
         for path in ("/class/", "/class/autumn-27"):
             self.assertEqual(Client().post(path).status_code, 404)
 

@@ -153,7 +153,9 @@ class HandIns(Hall):
         """Sources, results and matches: who is over is told so before anything is
         written, files of practice go first, and the teacher gives more."""
         work = make_grading("amber")
-        Grading.objects.filter(pk=work.pk).update(size=(200 << 20) - 10)
+        # the hand-in's file takes a block and an inode
+        full = (200 << 20) - work.hand_in.size - 2 * packing.BLOCK
+        Grading.objects.filter(pk=work.pk).update(size=full - 10)
         hand = self.hand_in(b"print('much more')")
         self.assertEqual((hand.status_code, HandIn.objects.count()), (429, 1))
         self.assertIn("your team has 200 MB: trials take 0.0", hand.json()["error"])
@@ -182,8 +184,10 @@ class HandIns(Hall):
         position = attempt.matches.get().replay
         text = position.read_bytes()
         before = packing.size_of(attempt.folder)
-        self.assertLess(packing.pack(attempt.folder) * 5, before)
+        self.assertLess(packing.pack(attempt.folder) * 2, before)
         self.assertFalse(position.exists())
+        packed_size = packing.packed_path(position).stat().st_size
+        self.assertLess(packed_size * 5, len(text))
         reply = self.rest("get", f"/api/matches/{attempt.pk}").json()["matches"][0]
         self.assertEqual(reply["after"]["holes"], [3])
         page = self.client_of("amber").get(f"/matches/{attempt.pk}/0/replay")
