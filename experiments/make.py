@@ -18,6 +18,7 @@ Tables:
     charts       the same agents beside agents that keep a chart
     known-map    two agents that have the map
     large-known-map  the same on networks of up to 1,024 nodes
+    dividing     two agents that divide a network by a plan, beside the moves that are proved
     too-few      one agent too few: a schedule after which the team fails
 """
 import argparse

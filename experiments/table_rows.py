@@ -484,5 +484,6 @@ TABLES: Dict[str, Callable[[TableRequest], MadeTable]] = {
     "charts": charts,
     "known-map": of_sweep("known_map"),
     "large-known-map": of_sweep("large_known_map"),
+    "dividing": of_sweep("dividing"),
     "too-few": too_few,
 }
