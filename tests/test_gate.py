@@ -12,6 +12,7 @@ import unittest.mock
 from typing import List, Tuple
 
 from tests import TOP
+from tests.runners import integration_tests
 from tests.support.output import run_call, write
 from tools import parts
 from tools.prove import prover
@@ -233,8 +234,17 @@ class Quick(unittest.TestCase):
             self.assertIn([name], commands)
         self.assertIn(["tests.runners.program_tests", gate.quick.PROGRAM], commands)
         self.assertEqual(
-            commands[-1], ["tests.runners.integration_tests", gate.quick.PROGRAM]
+            commands[-1],
+            ["tests.runners.integration_tests", gate.quick.PROGRAM, "--quick"],
         )
+
+    def test_searches_are_left_out(self) -> None:
+        every = set(integration_tests.file_names(False))
+        quick = set(integration_tests.file_names(True))
+        self.assertIn("rules.test_networks", quick)
+        self.assertLessEqual(quick, every)
+        packages_left_out = {name.partition(".")[0] for name in every - quick}
+        self.assertEqual(packages_left_out, {"play", "search", "sweep"})
 
     def test_what_fails_is_named_and_counted(self) -> None:
         status, lines, commands = self.run_quickly("tests.runners.library_tests")

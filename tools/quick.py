@@ -2,7 +2,7 @@
 
 It compiles the program and the player of modules without a proof, as `./arena` does,
 and beside that runs the tests of the libraries and of the Python programs. Then it
-plays rows, cases and the tests of the lab on that program.
+plays rows, cases and the quick tests of the lab on that program.
 """
 import concurrent.futures
 from typing import List
@@ -21,7 +21,7 @@ FIRST_COMMANDS = (
 )
 LEFT_OUT = (
     "left out, `.ci/run` has it: proofs, edits, instructions, the benchmark, the sample contest, hostile clients,"
-    " failing machines, spoilers, operators, refusals"
+    " failing machines, spoilers, operators, refusals, the lab's searches and sweeps, kits and modules"
 )
 
 
@@ -36,8 +36,11 @@ def play() -> List[Counts]:
         print("the program was not compiled: nothing is played")
         return [FAILED]
     counts = []
-    for name in ("tests.runners.program_tests", "tests.runners.integration_tests"):
-        counts.append(count_tests(run([PYTHON, "-m", name, PROGRAM])))
+    for name, *words in (
+        ("tests.runners.program_tests", PROGRAM),
+        ("tests.runners.integration_tests", PROGRAM, "--quick"),
+    ):
+        counts.append(count_tests(run([PYTHON, "-m", name, *words])))
         say(name, counts[-1])
     return counts
 

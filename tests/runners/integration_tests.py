@@ -1,17 +1,19 @@
 """Runs the tests of the lab on the built program, by Debian's Python with Debian's
 packages.
 
-    python3 -m tests.runners.integration_tests PROGRAM [PACKAGE.FILE ..]
+    python3 -m tests.runners.integration_tests PROGRAM [--quick | PACKAGE.FILE ..]
 
 The tests are those of tests/integration/PACKAGE/test_*.py, or of the files that are
 named, as many files at a time as there are processors, since most tests wait. A file is
 skipped if the machine lacks a package that each of its tests needs
-(tools/packages.toml). What a file's tests print comes once they have ended. The last
-line reads `N passed, M failed`, and the exit status is 1 if one failed.
+(tools/packages.toml). With --quick the files of SLOW are left out. What a file's tests
+print comes once they have ended. The last line reads `N passed, M failed`, and the exit
+status is 1 if one failed.
 """
 import concurrent.futures
 import os
 import pathlib
+import re
 import subprocess
 import sys
 import time
@@ -22,6 +24,10 @@ from tests.support.counts import SKIPPED, Counts, report_counts, counts_in
 from tools import packages
 
 TOP = pathlib.Path(__file__).resolve().parents[2]
+QUICK = "--quick"
+# files that search thousands of schedules, which a program with AddressSanitizer does 20
+# times as slowly as the proved one
+SLOW = re.compile(r"(search|sweep)\..*|play\.test_(kits|known_map|modules)")
 # runs tests/runners/python_tests.py and imports no `tools`: agents of the tests have
 # modules of that name
 RUN = (
@@ -70,15 +76,22 @@ def counts_of(name: str, variables: Dict[str, str]) -> Counts:
     return passes, max(failures, int(result.returncode != 0))
 
 
+def file_names(is_quick: bool) -> List[str]:
+    """Returns the names of the files of tests, as PACKAGE.FILE: all, or the quick ones."""
+    names = sorted(
+        f"{path.parent.name}.{path.stem}"
+        for path in (TOP / "tests" / "integration").glob("*/test_*.py")
+    )
+    return [name for name in names if not (is_quick and SLOW.fullmatch(name))]
+
+
 def main() -> int:
     if len(sys.argv) < 2 or sys.argv[1] in ("-h", "--help"):
         sys.exit((__doc__ or "").strip())
     program, *names = sys.argv[1:]
     variables = {**os.environ, "ARENA_PROGRAM": str(pathlib.Path(program).resolve())}
-    names = names or sorted(
-        f"{path.parent.name}.{path.stem}"
-        for path in (TOP / "tests" / "integration").glob("*/test_*.py")
-    )
+    if names in ([], [QUICK]):
+        names = file_names(names == [QUICK])
     with concurrent.futures.ThreadPoolExecutor(len(os.sched_getaffinity(0))) as pool:
         results = list(pool.map(lambda name: counts_of(name, variables), names))
     passes, failures = map(sum, zip(*results))
