@@ -37,8 +37,8 @@ module _ (Holds : ℕ → Type 0) (number : ℕ) where
     | inr is ↦ subst Holds (sym is) here
   ]
 
--- Two tasks that were both tried: the combined status is `DONE` exactly if both statuses are, and else it is one of
--- them.
+-- Two tried tasks: the combined status is `DONE` exactly if both statuses are `DONE`; otherwise it equals one of the
+-- two.
 module _ (first second : ℕ) where
   both_by : (is_done : Bool) → (first == DONE) ≡ is_done → (if is_done then second else first) ≡ DONE
       → (first ≡ DONE) × (second ≡ DONE)

@@ -20,7 +20,7 @@ IsTaken line piece line' (Ended rest) = line ++ piece ≡ line' ++ 10 ∷ rest.n
 IsTaken line piece line' Unfinished = line ++ piece ≡ line'
 IsTaken line piece line' Overlong = IsOverlong (line ++ piece) × (line' ≡ line)
 
--- The text is a part of a line and not too long.
+-- The text is part of a line within the length limit.
 pub record IsPart (text : List ℕ) : Type 0 where
   pub unended : list_any is_line_feed text ≡ false
   pub short : length text ≤ MAX_TEXT

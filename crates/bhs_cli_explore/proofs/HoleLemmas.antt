@@ -26,7 +26,7 @@ none_later hole start (suc count) later =
     cond-false (is_hole (hole ∷ []) start) _ _ (only_hole hole start false (ne_eqb hole start (λ same. omega arith)))
     ∙ none_later hole (start + 1) count (omega arith)
 
--- a node other than the first is in the rest of the list
+-- Every node except the first belongs to the rest of the list.
 apart : (hole start : ℕ) → start ≤ hole → (hole == start) ≡ false → start + 1 ≤ hole
 apart hole start from is = elim (cases_order hole start) [
   | inl same ↦ absurd (true≢false (sym (eq-eqb hole start same) ∙ is))

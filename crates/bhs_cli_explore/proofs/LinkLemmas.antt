@@ -34,7 +34,7 @@ no_more held node old v p =
     ∙ ap (λ (b : Bool). is_held old v p || b)
     (sym (ap (λ (b : Bool). node == v && (b && held_in held v p)) (none_below_0 p) ∙ and_none (node == v)))
 
--- the list has the links of all nodes below this one
+-- The list contains the held links of all lower nodes.
 abbrev pub HasBelow : (net : Network) (held : List (ℕ × ℕ)) (node : ℕ) (links : List (ℕ × ℕ)) → Type 0
 HasBelow net held node links = (v p : ℕ) → p < degree_of net v → is_held links v p ≡ (nat_lt v node && held_in held v p)
 

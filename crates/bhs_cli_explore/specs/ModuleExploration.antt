@@ -73,8 +73,8 @@ abbrev pub is_of_one : Finding → Bool
 is_of_one (Comes verdict schedule) = true
 is_of_one other = false
 
--- What was found of this match, with its held links, is true of agents in these roles. Schedules were drawn if the
--- exploration has that. A search of all schedules has a finding about all of them.
+-- The finding on this match, with its held links, holds for agents in these roles. An exploration with a drawing draws
+-- schedules. A search of all schedules reports a finding about all schedules.
 pub record IsFoundOfModules (ready : Ready) (exploration : Exploration) (roles : Roles) (fuel : ℕ) (found : Discovery) :
     Type 0 where
   pub links : List (ℕ × ℕ)
@@ -110,7 +110,7 @@ AreFor agents modules = (modules ≡ 1) ⊎ (modules ≡ agents)
 abbrev pub arguments_of : Roles → List (List ℕ)
 arguments_of roles = map (λ role. role.arguments.items) (all_roles roles)
 
--- the command asks for the match of this number, with one module for all its agents or one for each
+-- The command selects the match with this number, and gives one module for all agents or a module for each agent.
 pub record IsWanted (lineup : Lineup) (game : ℕ) (modules : List AgentModule) (ready : Ready) : Type 0 where
   pub is_match : slice_get lineup.ready.items game ≡ Some ready
   pub enough : AreFor ready.game.setup.agents (length (map (λ it. it.arguments) modules))

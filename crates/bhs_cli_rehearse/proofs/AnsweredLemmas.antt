@@ -79,7 +79,7 @@ mean_append games lines others script more (skips line behind its is mean) rest 
 mean_append games lines others script more (gives line behind one its is mean) rest =
     gives line (behind ++ others) one (its ++ more) is (mean_append games behind others its more mean rest)
 
--- the instructions of a line that is not refused
+-- the instructions of an accepted line
 abbrev means_by : Meaning → List Instruction
 means_by Skipped = []
 means_by (Gives one) = one ∷ []

@@ -58,7 +58,7 @@ module _ {T : Type 0} (sent : T → List (ℕ × List ℕ)) (old new : Rehearsin
   prints_call (Err rehearsals.NoGame) follows pushed = of_refused rehearsals.NoGame follows pushed
   prints_call (Err rehearsals.Memory) follows pushed = absurd pushed
 
--- The instructions from a place on are the one at this place, followed by the later ones.
+-- A script's suffix from position `i` is instruction `i`, followed by the suffix from `i + 1`.
 pub one_by_one : (script : List InstructionOfCode) (i : ℕ) (one : InstructionOfCode) → i < length script
     → one ≡ get_or script i one → map seen (drop i script) ≡ seen one ∷ map seen (drop (i + 1) script)
 one_by_one script i one within is = ap (map seen)

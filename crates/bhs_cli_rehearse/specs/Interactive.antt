@@ -102,7 +102,7 @@ module _ {O : Type 0} (takes : O → List ℕ → WriteAnswer → O → Type 0) 
     BreaksAt progress output output' Memory = output' ≡ output
     BreaksAt progress output output' fault = ⊥
 
-    -- The same for one of the lines that were read.
+    -- The same for an input line.
     pub record BreaksWithin (progress : ScriptProgress) (output output' : O) (fault : Fault) : Type 0 where
       pub here : ScriptProgress
       pub there : O

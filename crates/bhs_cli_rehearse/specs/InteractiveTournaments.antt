@@ -43,7 +43,7 @@ module _ {P I O : Type 0} (files : P → List ℕ → WriteAnswer → P → Type
     tournament_refused : (fault : Fault) → code ≡ status fault → Rests input input' output output'
         → InteractsNamed prefix input input' output output' code
 
-  -- The rehearsal of the named tournament, or of the built-in one without a name.
+  -- The rehearsal of the named tournament, or by default of the built-in tournament.
   abbrev pub InteractsEither : (tournament prefix : Option (List ℕ)) → (input input' : I) → (output output' : O) → ℕ
       → Type 0
   InteractsEither None prefix input input' output output' code =

@@ -1,4 +1,4 @@
--- The rehearsal of a named tournament, or of the built-in one.
+-- Rehearsals of a named or the built-in tournament.
 use Rattle.std.specs.Prelude.{◌≡◌, ℕ, Bool, List, Option, Some, None}
 use Rattle.bhs_model.specs.declared.limits.TheConstants.{MAX_TURNS}
 use Rattle.bhs_stream.specs.Streams.{Chunk, WriteAnswer}
@@ -23,7 +23,7 @@ module _ {P I O : Type 0} (files : P → List ℕ → WriteAnswer → P → Type
     refuses_file : (fault : Fault) → code ≡ status fault → Rests input input' output output'
         → RehearsesNamed prefix input input' output output' code
 
-  -- The rehearsal of the named tournament, or of the built-in one without a name.
+  -- The rehearsal of the named tournament, or by default of the built-in tournament.
   abbrev pub RehearsesEither : (tournament prefix : Option (List ℕ)) → (input input' : I) → (output output' : O) → ℕ
       → Type 0
   RehearsesEither None prefix input input' output output' code =

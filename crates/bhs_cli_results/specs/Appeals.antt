@@ -129,7 +129,7 @@ IsVerdictOn play text = text ≡ verdict_line (verdict_of play)
 module _ {O : Type 0} (takes : O → List ℕ → WriteAnswer → O → Type 0) (flushes : O → Bool → O → Type 0) where
   -- what came of an appeal to the match of this number
   pub data Appeals (game : ℕ) (output output' : O) (code : ℕ) : Type 0 where
-    -- With its turns the log is a timed execution, and the verdict on it was to be printed.
+    -- The log with its turns is a timed execution; the command's output is the verdict.
     upholds : (one : Case) → IsCase game one → IsOnTime one
         → Reports (Prints takes flushes) (IsVerdictOn one.play) output output' code → Appeals game output output' code
     -- this is wrong, and nothing was written

@@ -35,7 +35,7 @@ abbrev pub IsFound : Ready → Result Row ℕ → Type 0
 IsFound ready (Ok row) = IsContestRow ready row
 IsFound ready (Err code) = IsOfFault code
 
--- the row, if there is one
+-- the optional row as a list
 abbrev pub row_in : Result Row ℕ → List Row
 row_in (Ok row) = row ∷ []
 row_in (Err code) = []
@@ -63,7 +63,7 @@ pub record IsTableOf (rows : List Row) (text : List ℕ) : Type 0 where
 module _ {O : Type 0} (takes : O → List ℕ → WriteAnswer → O → Type 0) (flushes : O → Bool → O → Type 0) where
   -- what came of the order to print the table of these matches
   pub data TablesMatches (matches : List Ready) (output output' : O) (code : ℕ) : Type 0 where
-    -- Matches without a row are omitted, and the table of the others was to be printed.
+    -- Leaves out matches without a row; the output is the table of the other matches.
     tables_found : (rows : List Row) (found printed : ℕ) → AreFound matches rows found
         → Reports (Prints takes flushes) (IsTableOf rows) output output' printed
         → code ≡ first_status found printed → TablesMatches matches output output' code

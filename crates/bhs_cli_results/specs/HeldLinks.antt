@@ -16,7 +16,7 @@ abbrev pub links_after : List (Option (ℕ × ℕ)) → Event → (site : Option
 links_after links (Tell agent (Depart port)) (Some node) = slice_set links agent (Some (node, port))
 links_after links event site = links
 
--- whether the link, if there is one, is held
+-- whether an optional link is held
 abbrev pub is_held : (held : List (ℕ × ℕ)) → Option (Option (ℕ × ℕ)) → Bool
 is_held held (Some (Some link)) = held_in held link.0 link.1
 is_held held link = false

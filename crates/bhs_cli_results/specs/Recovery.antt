@@ -85,7 +85,7 @@ pub data AreSaved {P : Type 0} (files : P → List ℕ → WriteAnswer → P
 -- the transition relations of written files and output
 module _ {P O : Type 0} (files : P → List ℕ → WriteAnswer → P → Type 0) (takes : O → List ℕ → WriteAnswer → O → Type 0)
     (flushes : O → Bool → O → Type 0) where
-  -- The matches of a tournament were to be saved, and then their table was to be printed.
+  -- The command saves the matches of a tournament, then prints their table.
   pub record RecoversMatches (lineup : Lineup) (output output' : O) (code : ℕ) : Type 0 where
     pub saved : ℕ
     pub printed : ℕ

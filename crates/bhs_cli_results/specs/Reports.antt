@@ -31,7 +31,7 @@ verdict_line verdict =
     outcome_text verdict.outcome ++ (codes " moves " ++ (decimal verdict.moves
     ++ (codes " lost " ++ (decimal verdict.lost ++ codes "\n"))))
 
--- The text is the verdict on a match of which some text is the replay.
+-- The text is the verdict of a match, whose replay is some text.
 pub record IsJudgement (text : List ℕ) : Type 0 where
   pub play : Play
   pub replayed : IsReplayed play
@@ -39,7 +39,7 @@ pub record IsJudgement (text : List ℕ) : Type 0 where
 
 -- ---- the table
 
--- The row of an entry: its team, and the verdict on a match of which some text is the replay.
+-- The row of an entry: its team, and the verdict of a match whose replay is some text.
 pub record IsRow (entry : TableEntry) (row : Row) : Type 0 where
   pub play : Play
   pub replayed : IsReplayed play

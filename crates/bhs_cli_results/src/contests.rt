@@ -109,7 +109,7 @@ fn found_of<F: Files, E: Write>(
     Ok(Found { rows, status })
 }
 
-// Adds the row of a match, if it has one. Returns the exit status of the result.
+// Adds a match's row, where one exists. Returns the exit status of the result.
 fn added(rows: &mut Vec<Row>, found: Result<Row, u8>) -> Result<u8, Memory>
     ensures rows { OnOk result (rows.new.items ≡ rows.old.items ++ row_in found) }
     ensures status { IfOk result (λ code. code ≡ status_in found) }

@@ -33,7 +33,7 @@ pub record Explains {O : Type 0} (takes : O → List ℕ → WriteAnswer → O �
   pub kind : OutputKind
   pub printed : Reports (PrintsByLine takes flushes) (IsPast kind agent) output output' code
 
--- the calls of the files that are written, of the input and of the output
+-- the transition relations of written files, input and output
 module _ {P I O : Type 0} (files : P → List ℕ → WriteAnswer → P → Type 0) (gives : I → Chunk → I → Type 0)
     (takes : O → List ℕ → WriteAnswer → O → Type 0) (flushes : O → Bool → O → Type 0) where
   -- a report that is printed at once, and one that is printed line by line

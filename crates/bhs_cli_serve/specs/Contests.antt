@@ -24,7 +24,7 @@ use Rattle.bhs_cli.specs.declared.reporting.statuses.TheConstants.{DONE}
 abbrev pub listening : (port : ℕ) → List ℕ
 listening port = codes "listening " ++ (decimal port ++ codes "\n")
 
--- The match with this number is the first that has no result.
+-- The match with this number is the first unsettled match.
 pub record IsFirstUnsettled (settled : List (Result Settlement Refused)) (game : ℕ) : Type 0 where
   pub before : List Settlement
   pub refused : Refused
@@ -49,7 +49,7 @@ abbrev pub HasTurns : {P : Type 0} → (P → List ℕ → WriteAnswer → P →
 HasTurns files Adaptive turns = Unit {0}
 HasTurns files (Oblivious law) turns = Took files (turns_text turns)
 
--- If the match was settled, its replay was written by these calls, and its turns if it has any.
+-- For a settled match, these calls wrote the replay and, where turns exist, the file of turns.
 abbrev pub HasReplay : {P : Type 0} → (P → List ℕ → WriteAnswer → P → Type 0) → ScheduleKind → Result Settlement Refused
     → Type 0
 HasReplay files schedule (Ok settlement) =
@@ -80,7 +80,7 @@ module _ {O : Type 0} (takes : O → List ℕ → WriteAnswer → O → Type 0) 
 -- the transition relations of written files and output
 module _ {P O : Type 0} (files : P → List ℕ → WriteAnswer → P → Type 0) (takes : O → List ℕ → WriteAnswer → O → Type 0)
     (flushes : O → Bool → O → Type 0) where
-  -- The end of a contest with these results: the replays were to be written, and then the table was to be printed.
+  -- The end of a contest with these results: the program writes the replays, then prints the table.
   pub record Ends (schedule : ScheduleKind) (teams : List (List ℕ)) (settled : List (Result Settlement Refused))
       (output output' : O) (code : ℕ) : Type 0 where
     pub filed : ℕ

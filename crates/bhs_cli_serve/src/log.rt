@@ -42,7 +42,7 @@ impl Waiting {
 #[derive(Drop)]
 pub struct Log {
     alloc: Global,
-    /// The start of the contest; None if the clock could not be read.
+    /// The start of the contest, or None without a readable clock.
     began: Option<Duration>,
     waiting: Mutex<Waiting>,
     changed: Condvar,
@@ -100,7 +100,7 @@ impl Log {
         unreachable!()
     }
 
-    // Returns the next text to write: a line, or the number of dropped lines. None once the log is over.
+    // Takes the next text to write: a queued line, or the count of dropped lines. Returns None after the log's end.
     fn next<R: Wait + Clock>(&self, rt: &R) -> Option<String> {
         let mut waiting = self.waiting.lock(rt);
         waiting.is_writing = false;

@@ -56,7 +56,7 @@ impl Operator {
         })
     }
 
-    /// Returns the progress of the matches, and which of them are closed.
+    /// Returns the progress of the matches, including their closes.
     pub(crate) fn progress(&self) -> &Progress {
         &self.progress
     }

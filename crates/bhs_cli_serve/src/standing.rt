@@ -7,7 +7,7 @@ use bhs_standings::Showcase;
 use std::alloc::Global;
 use std::sync::{Mutex, Wait};
 
-/// The data of a match other than its events.
+/// The data of a match beside its events.
 #[derive(Clone, Drop)]
 pub(crate) struct MatchStatus {
     /// The agents that have not entered, in order.

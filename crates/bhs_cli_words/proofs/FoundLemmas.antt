@@ -62,7 +62,7 @@ module _ {T : Type 0} (says : Text → Option T) (words : List (Bor Text)) (plac
         ∙ (sym (ap (λ (it : Option T). joined done (then_one it (all_said says (texts_from (place + 1) words)))) some)
         ∙ (sym (ap (joined done) next_said) ∙ so_far))
 
--- a name and the text after it, if both exist
+-- a name together with its text, where both exist
 pub both_found : {X N R : Type 0} (first : X → N) (second : X → R) (found : Option X) (name : N) (rest : R)
     → Some name ≡ option_map first found
     → Some rest ≡ option_map (λ (one : N × R). one.1) (option_map {U = N × R} (λ one. (first one, second one)) found)

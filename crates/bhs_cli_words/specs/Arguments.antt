@@ -81,7 +81,7 @@ text_in id rows = unwrap_or (first_of id rows) []
 abbrev pub texts_in : (id : Text) → List Row → List Text
 texts_in id rows = unwrap_or (all_of id rows) []
 
--- The meaning of all these words, in order; None if one of them has none.
+-- The meanings of all words, in order; None as soon as one word has no meaning.
 abbrev pub all_said : {T : Type 0} → (says : Text → Option T) → List Text → Option (List T)
 all_said says [] = Some []
 all_said says (word ∷ words) =

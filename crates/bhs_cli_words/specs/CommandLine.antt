@@ -99,7 +99,7 @@ abbrev pub rehearsal_of : (is_interactive : Bool) → (tournament prefix : Optio
 rehearsal_of true tournament prefix = RehearseInteractively tournament prefix
 rehearsal_of false tournament prefix = Rehearse tournament prefix
 
--- the appeal on the match with this number, if there is one
+-- the optional appeal on the match with this number
 abbrev pub appeal_of : (turns tournament : Text) → (game : Option ℕ) → Option Appeal
 appeal_of turns tournament (Some game) = Some (record { turns = turns; tournament = tournament; game = game })
 appeal_of turns tournament None = None

@@ -53,7 +53,7 @@ has is text = nat_lt (position_or_len is text) (length text)
 abbrev pub argument_in : Text → Option ℕ
 argument_in = number_within 0 4294967295
 
--- prepends an argument to others, if all are valid
+-- prepends an argument; invalid parts invalidate the result
 abbrev pub before_arguments : Option ℕ → Option (List ℕ) → Option (List ℕ)
 before_arguments (Some argument) (Some arguments) = Some (argument ∷ arguments)
 before_arguments _ _ = None
@@ -109,7 +109,7 @@ abbrev pub objective_by : Option Text → Option (Option Objective)
 objective_by (Some word) = option_map Some (objective_in word)
 objective_by None = Some None
 
--- the drawing with these parameters, if all are valid
+-- the drawing with these parameters; None with an invalid parameter
 abbrev pub drawing_of : (schedules seed : Option ℕ) → Option Scheduler → (objective : Option (Option Objective))
     → Option Drawing
 drawing_of (Some schedules) (Some seed) (Some scheduler) (Some objective) =
@@ -124,7 +124,7 @@ drawing_in (Some draws) seed scheduler objective =
     (drawing_of (number_within 1 4294967295 draws) (seed_in seed) (scheduler_by scheduler) (objective_by objective))
 drawing_in None seed scheduler objective = None
 
--- the exploration with these parameters, if all are valid
+-- the exploration with these parameters; None with an invalid parameter
 abbrev pub exploration_of : (game states wakeups : Option ℕ) → (drawing : Option (Option Drawing)) → Option Exploration
 exploration_of (Some game) (Some states) (Some wakeups) (Some drawing) =
     Some (record { game = game; states = states; wakeups = wakeups; drawing = drawing })

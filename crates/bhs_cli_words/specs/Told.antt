@@ -22,7 +22,7 @@ needed_by id AnyNumber = record (may_have id) { action = Some Append }
 needed_by id (Default word) = has_default id word.now
 needed_by id Switch = flag id
 
--- the rule of a word that follows an option, if there is one
+-- the rule of a word after an optional option
 abbrev pub placed : Option (Bor Text) → Rule → Rule
 placed None rule = rule
 placed (Some option) rule = behind option.now rule
@@ -35,7 +35,7 @@ rule_by row = placed row.option (needed_by row.id.now row.need)
 abbrev pub shape_by : Subcommand → Shape
 shape_by row = command row.name.now (map rule_by row.arguments.now)
 
--- the number that a word spells, if it is in the range of its kind
+-- the number that a word spells, within the range of its kind
 abbrev pub number_by : Takes → Text → Option ℕ
 number_by (Number least most) word = number_within least most word
 number_by _ word = None

@@ -22,7 +22,7 @@ use bhs_text::Text;
 use clap::ArgMatches;
 use std::alloc::{AllocError, Global};
 
-/// Returns the order, or None if its command does not accept one of the words.
+/// Returns the order; None for words that its command does not accept.
 pub(crate) fn order_given(
     alloc: Global,
     matches: &ArgMatches<'_>,

@@ -9,9 +9,8 @@ use std::marker::Model;
 /// An order to the program.
 #[derive(Drop)]
 pub enum Order {
-    /// Plays the script on standard input with the tournament of this file, or with the built-in one if it is None.
-    /// With a prefix, the replays of the matches that have ended are then written to files whose names begin with the
-    /// prefix.
+    /// Plays the script on standard input with the tournament of this file; None selects the built-in tournament. A
+    /// prefix makes the program write the replays of ended matches to files whose names begin with the prefix.
     Rehearse {
         tournament: Option<Text>,
         prefix: Option<Text>,
@@ -136,7 +135,7 @@ pub struct Drawing {
     pub seed: u32,
     /// Whose turn it is.
     pub scheduler: Scheduler,
-    /// The quantity to maximise over schedules that do not fail, if any.
+    /// The optional quantity to maximise over schedules that succeed.
     pub objective: Option<Objective>,
 }
 

@@ -1,4 +1,4 @@
--- Lemmas on how a talk is extended by an observation, and how it breaks off.
+-- Lemmas on talks: extension by an observation, and breaking off.
 use Rattle.std.proofs.Common.{◌≡◌, ◌∙◌, ℕ, List, ◌∷◌, sym, ap, subst}
 use Rattle.std.proofs.Common.{Result, Ok, Err, IfErr, IsErrAnd, OnErr}
 use Rattle.bhs_model.specs.declared.replies.Reply.{Reply}
@@ -82,7 +82,7 @@ pub by_fault : {T E : Type 0} (P Q : E → Type 0) (result : Result T E) → ((e
 by_fault P Q (Ok it) more holds = tt
 by_fault P Q (Err error) more holds = more error holds
 
--- the same for a result that is known to be an error
+-- the same for an error result
 pub on_fault : {T E A : Type 0} (Q : E → Type 0) (result : Result T E) → ((error : E) → A → Q error) → OnErr result A
     → IfErr result Q
 on_fault Q (Ok it) more holds = tt

@@ -17,7 +17,7 @@ strategy_of_module agent =
     strategy_of (contents_of agent.agents.roles.first.program) agent.agents.roles.first.arguments.items
     agent.agents.fuel
 
--- the agent's memory is the one that its module has after this history
+-- The stored memory is the module's memory after this history.
 abbrev pub Remembers : ModuleAgent → History → Type 0
 Remembers agent history = saved_at agent.agents.table.states.items agent.memory ≡ Some (record {
   role = 0;

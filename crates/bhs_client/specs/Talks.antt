@@ -100,8 +100,8 @@ pub data BreaksOff {W : Type 0} (says hears cuts : W → List ℕ → W → Type
   asleep : (new : W) → doing ≡ step.Sleeps → HearsNone hears loses here new
       → BreaksOff says hears cuts loses key doing here new
 
--- An agent breaks off with this fault. Its talk until then follows its strategy, and so does the command that it began.
--- The fault is `Failed` only if the strategy has failed.
+-- An agent breaks off with this fault. Its talk so far follows its strategy, and so does the command that it began to
+-- write. Only a failed strategy gives the fault `Failed`.
 pub record Breaks {W : Type 0} (says hears cuts : W → List ℕ → W → Type 0) (loses : W → W → Type 0) (wakeups : ℕ)
     (strategy : Strategy) (key : List ℕ) (old : W) (why : PlayFault) (new : W) : Type 0 where
   pub history : History

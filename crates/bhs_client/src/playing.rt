@@ -62,7 +62,7 @@ pub struct PlayLimits {
 pub enum PlayEnd {
     /// It has accused a link.
     Accused,
-    /// The server has said that the match is over.
+    /// The server has reported the end of the match.
     Over,
 }
 
@@ -235,14 +235,14 @@ fn end_of(ended: PlayEnd, step: &Step) -> Result<PlayEnd, PlayFault>
     }
 }
 
-// Whether a reply says that the match is over.
+// Returns whether a reply reports the end of the match.
 fn is_over(reply: &Reply) -> bool
     ensures { IsTrue result → reply.now ≡ Reply.Over }
 {
     matches!(reply, Reply::Over)
 }
 
-// The end of an agent after these news, if they end it.
+// Returns the end of an agent, for news that end it.
 fn ended_by(news: &AgentNews) -> Option<PlayEnd>
     ensures { result ≡ end_after (observation_of news.now) }
 {

@@ -56,7 +56,8 @@ impl Progress {
         Ok(Progress { matches })
     }
 
-    /// Calls the match of this number off. Answers whether there is such a match, which was not called off before.
+    /// Calls off the match with this number. Returns whether the call changed anything: the match exists and was not
+    /// called off earlier.
     pub fn call_off<R: Wait>(&self, rt: &R, game: u32) -> bool {
         match self.matches.get(game as usize) {
             Some(paced) => paced.call_off(rt),
@@ -64,7 +65,7 @@ impl Progress {
         }
     }
 
-    /// Calls all matches off. Answers whether one was not called off before.
+    /// Calls off all matches. Returns whether the call changed anything.
     pub fn call_all_off<R: Wait>(&self, rt: &R) -> bool {
         let mut were_on = false;
         for paced in &self.matches {

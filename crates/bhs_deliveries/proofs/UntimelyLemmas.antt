@@ -155,7 +155,7 @@ module _ (terms : DeliveryTerms) (world : World) (timed : TimedState) (lost : �
   kept_as_due : (turn : ℕ) → KeptIn turn ≡ Due terms dues turn
   kept_as_due turn = kept_if_due terms world timed lost unclosed dues turn are gone (few turn)
 
-  -- the turns from now on, up to this one
+  -- the turns between the present turn and this turn
   within_count : (turn other : ℕ) → timed.turn ≤ turn → other < turn → other < timed.turn + (turn - timed.turn)
   within_count turn other later before = omega (arith, later, before)
 

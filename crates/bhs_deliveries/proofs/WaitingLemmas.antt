@@ -47,7 +47,7 @@ abbrev pub AreDue : DeliveryTerms → (lost : ℕ → Bool) → TimedState → L
 AreDue terms lost timed dues = (agent : ℕ) → agent < length dues →
     due_of dues agent ≡ due_at terms (lost agent) agent (departed_at (timed.pasts agent)) (timed.state.position agent)
 
--- Whether an agent at this position may be lost: it is on a destroying link, or ended on one.
+-- Whether an agent at this position can be lost: on a destroying link, or after ending on such a link.
 abbrev pub may_be_lost : World → Position → Bool
 may_be_lost world (Bound node port) = doomed world node port
 may_be_lost world After = true

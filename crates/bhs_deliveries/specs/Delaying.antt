@@ -59,7 +59,8 @@ pub record IsApart (stream agent other who : ℕ) : Type 0 where
   pub of_matches : delay_stream stream agent ≡ other → ⊥
   pub of_delays : delay_stream stream agent ≡ delay_stream other who → (stream ≡ other) × (agent ≡ who)
 
--- Matches have streams below 2 ^ 32, by their numbers; the streams of delays differ from these and from each other.
+-- Matches have streams below 2 ^ 32, by their numbers; every delay stream differs from these streams and from other
+-- delay streams.
 abbrev pub DelaysHaveTheirOwnStreams : Type 0
 DelaysHaveTheirOwnStreams = (stream agent other who : ℕ) → stream < 2 ^ 32 → other < 2 ^ 32 → agent < 2 ^ 16 →
     who < 2 ^ 16 → IsApart stream agent other who

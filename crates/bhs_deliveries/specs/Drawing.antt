@@ -10,7 +10,7 @@ use Rattle.bhs_match.specs.Games.{IsPlayed}
 use Rattle.bhs_deliveries.specs.declared.draws.Drawn.{Drawn}
 use Rattle.bhs_deliveries.specs.declared.draws.Drawn.TheVariants.{Nobody, Stays, Delivered}
 
--- the result for the picked agent, if there is one
+-- the result of an optional pick
 abbrev pub drawn_of : Held → State → Option ℕ → Drawn
 drawn_of held state None = Nobody
 drawn_of held state (Some agent) = if is_held held (state.position agent) then Stays else Delivered agent
@@ -35,7 +35,7 @@ abbrev pub IsPlayedIf : (old : Play) → Option Event → (new : Play) → Type 
 IsPlayedIf old None new = new ≡ old
 IsPlayedIf old (Some event) new = (answer : Answer) × IsPlayed old event answer new
 
--- the event of a draw, if any
+-- the event of a draw
 abbrev pub event_of : Drawn → Option Event
 event_of Nobody = None
 event_of Stays = None

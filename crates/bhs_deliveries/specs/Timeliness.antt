@@ -56,7 +56,7 @@ abbrev pub delivered_by : DeliveryTerms → List (Option ℕ) → (turn : ℕ) �
 delivered_by terms dues turn =
     if is_due (due_of dues (picked_by terms turn)) turn then Some (picked_by terms turn) else None
 
--- the agent with its turn, or else the alternative
+-- pairs the optional agent with its turn; falls back to the alternative
 abbrev pub or_else : Option ℕ → (turn : ℕ) → Option (ℕ × ℕ) → Option (ℕ × ℕ)
 or_else None turn later = later
 or_else (Some agent) turn later = Some (agent, turn)
@@ -102,7 +102,7 @@ untimely terms dues now event turn =
     if nat_lt turn now then Some Early
     else left_out (first_delivery terms dues now (turn - now)) (late_in terms dues event turn)
 
--- the fault at this place, or else the later one
+-- the fault at this place; falls back to the later fault
 abbrev pub at_or_later : (place : ℕ) → Option Untimely → Option (ℕ × Untimely) → Option (ℕ × Untimely)
 at_or_later place None later = later
 at_or_later place (Some why) later = Some (place, why)

@@ -33,7 +33,7 @@ pub fn draws_are_those_of_the_model()
     ensures { DrawsAreThoseOfTheModel }
 {}
 
-/// The streams of delays differ from those of the matches, and from each other.
+/// Each stream of delays differs from every match's stream and from other streams of delays.
 pub fn delays_have_their_own_streams()
     ensures { DelaysHaveTheirOwnStreams }
 {}

@@ -26,7 +26,7 @@ pub struct SchedulerState {
     // The number of the agent that is starved.
     starved: usize,
     waking: u32,
-    // For each agent, the weights of its answers and of its arrivals.
+    // For each agent, weights for its answers and its arrivals.
     answers: Vec<u32>,
     arrivals: Vec<u32>,
     // Of each node the place of its first port among all ports, and of each port the weight of its link.

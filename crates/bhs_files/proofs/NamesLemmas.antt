@@ -39,7 +39,7 @@ filter-all (x ∷ xs) = ap (λ (zs : List (List ℕ)). x ∷ zs) (filter-all xs)
 pub starts : (names : List (List ℕ)) → after [] names ≡ first_seen names
 starts names = filter-all (first_seen names)
 
--- A name that was seen differs from a name that was not.
+-- Seen names differ from unseen names.
 other_than_seen : (seen : List (List ℕ)) (name x : List ℕ) → is_among seen name ≡ true
     → not (is_among seen x) ≡ (not (same_name x name) && not (is_among seen x))
 other_than_seen seen name x h = by (same_name x name) refl

@@ -12,6 +12,6 @@ abbrev pub first_seen : List (List ℕ) → List (List ℕ)
 first_seen [] = []
 first_seen (name ∷ names) = name ∷ filter (λ other. not (same_name other name)) (first_seen names)
 
--- whether the name is a member of the list
+-- whether a list contains the name
 abbrev pub is_among : List (List ℕ) → List ℕ → Bool
 is_among names name = list_any (same_name name) names

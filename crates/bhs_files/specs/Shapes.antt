@@ -45,7 +45,7 @@ abbrev pub seed : Data → Option (List ℕ)
 seed (string text) = result_ok (decode_sized text SEED_BYTES)
 seed _ = None
 
--- whether the name is that of the oblivious schedule
+-- whether the name denotes the oblivious schedule
 abbrev pub is_oblivious : Data → Option Bool
 is_oblivious (string text) =
     if pointwise nat_eq text (codes "oblivious") then Some true
@@ -56,7 +56,7 @@ is_oblivious _ = None
 abbrev pub delay_scales : Data → Option ℕ
 delay_scales found = option_and_then (λ scales. if nat_le scales MAX_SCALES then Some scales else None) (number found)
 
--- An integer from 1 to 65,535 that is not less than the number of scales.
+-- An integer from 1 to 65,535, no less than the number of scales.
 abbrev pub delay_odds : (scales : ℕ) → Data → Option ℕ
 delay_odds scales found =
     option_and_then (λ odds. if nat_le 1 odds && nat_le scales odds then Some odds else None) (number found)

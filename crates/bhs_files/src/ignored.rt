@@ -128,8 +128,7 @@ fn advice_on(version: u16, game: Option<u32>, table: &Table, key: &str) -> Advic
     }
 }
 
-// The context of a table: the version of its file, whether the file may have delays, and whether it is the top level or
-// a match.
+// The context of a table: its file's version, whether delays are allowed, and its place (top level or match).
 #[derive(Clone, Copy)]
 struct Place {
     version: u16,

@@ -427,7 +427,7 @@ news_given table log pool news given play places agent order same is view =
     (sym (is ∙ ap (λ (news : List Shelf). (news_at news agent).places) same))
     (news_same table log pool news agent order))
 
--- A number without an agent has not entered and is not lost.
+-- Numbers beyond the match's agents never enter and never get lost.
 pub strange_outside : (table : Table) (log : List Kept) (agent : ℕ) → table.setup.agents ≤ agent
     → Before ≡ (run (world_in table) (events_of log)).position agent
 strange_outside table log agent strange = sym ((fair_run (world_in table) (events_of log)).strange agent strange)

@@ -14,8 +14,8 @@ IsGone world (Bound node port) = doomed world node port ≡ true
 IsGone world After = Unit {0}
 IsGone world position = ⊥
 
--- The potential of an agent: how many of its log places its position has used, in addition to two per command of its
--- quota. While it travels on a link that has not destroyed it, one arrival is outstanding.
+-- The potential of an agent: the log places that its position has used, beside two places per command of its quota. On
+-- a link, an agent that is not destroyed awaits one more arrival.
 abbrev pub weight : Position → (is_lost : Bool) → ℕ
 weight Before is_lost = 0
 weight (At node came) is_lost = 1

@@ -57,7 +57,7 @@ same_bounds position (agent ∷ agents) =
     (map (λ one. bound_at one (position one)) (filter (λ one. is_bound (position one)) agents)))
     ∙ ap (λ (others : List Bound). one_bound agent (position agent) ++ others) (same_bounds position agents)
 
--- The agent's link is unchanged, or it is on no link before and after.
+-- The agent's link is unchanged, possibly absent.
 unchanged_bound : (position : ℕ → Position) (agent : ℕ) (new : Position) (agents : List ℕ)
     → one_bound agent new ≡ one_bound agent (position agent) → all_bound (changed position agent new)
     agents ≡ all_bound position agents

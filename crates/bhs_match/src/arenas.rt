@@ -56,7 +56,7 @@ impl Arena {
         Ok(game.apply(event))
     }
 
-    /// Returns the match with this number, or None if there is none.
+    /// Returns the match with this number, or None beyond the last match.
     pub fn game(&self, game: u32) -> Option<&Match>
         ensures { option_copied result ≡ slice_get self.now game }
     {

@@ -246,7 +246,7 @@ impl Match {
         &self.sites
     }
 
-    /// Returns the agent's standing, or `Outside` if there is no such agent.
+    /// Returns the agent's standing, `Outside` for unknown agents.
     pub fn standing(&self, agent: u16) -> Standing
         ensures { position_of result ≡ (state_of self.now).position agent }
     {

@@ -8,12 +8,12 @@ pub fn logs_tell_all()
     ensures { LogsTellAll }
 {}
 
-/// So each event is answered as after all that happened, and the log stays what is kept of it.
+/// Hence replies after the log equal replies after all events, and the log keeps growing by the kept events.
 pub fn logs_grow()
     ensures { LogsGrow }
 {}
 
-/// No log is longer than what is reserved for it.
+/// Every log fits into its reserved memory.
 pub fn logs_are_bounded()
     ensures { LogsAreBounded }
 {}

@@ -72,7 +72,7 @@ impl Sealed {
         self.game.sites()
     }
 
-    /// Returns the agent's standing at the end, or `Outside` if there is no such agent.
+    /// Returns the agent's final standing, `Outside` for unknown agents.
     pub fn standing(&self, agent: u16) -> Standing
         ensures { position_of result ≡ (state_of self.now).position agent }
     {

@@ -12,7 +12,7 @@ use std::marker::Model;
 // What stands for no node, since a network has fewer.
 const NO_NODE: u16 = 65535;
 
-/// The site of an event: a node, or none.
+/// The site of an event: an optional node.
 #[derive(Debug, Drop)]
 pub struct Site {
     code: u16,

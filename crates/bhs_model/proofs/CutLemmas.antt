@@ -137,7 +137,7 @@ next_agree world whole part (Deliver agent) late own agree =
 next_agree world whole part Close late own agree =
     record { past = agree.past; position = agree.position; last_write = agree.last_write; closed = refl }
 
--- The answer to a command: computed from the close, and from the agent's past before the command and with it.
+-- The answer to a command, computed from the close and from the agent's pasts without and with that command.
 abbrev pub answer_by : World → ℕ → Command → Bool → View → View → Option Reply
 answer_by world agent command closed old new =
     if nat_lt agent world.agents

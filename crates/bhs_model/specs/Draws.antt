@@ -36,7 +36,7 @@ delivery_to held state (Some agent) =
 abbrev pub draw : Held → State → (word : ℕ) → Option Event
 draw held state word = if state.closed then None else delivery_to held state (pick (pool state) word)
 
--- an action on a match from outside
+-- external actions on a match
 pub data Act : Type 0 where
   -- an agent says a command
   Says : (agent : ℕ) → Command → Act

@@ -164,7 +164,7 @@ reply_to_command world state agent command =
     then (if state.closed then Some Over else reply_in_play world state agent command)
     else Some (No Agent)
 
--- the reply to an event, if any
+-- the optional reply to an event
 abbrev pub reply : World → State → Event → Option Reply
 reply world state (Tell agent command) = reply_to_command world state agent command
 reply world state (Deliver agent) =

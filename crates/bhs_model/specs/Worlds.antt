@@ -2,8 +2,8 @@
 use Rattle.std.specs.Prelude.{ℕ, Bool, ◌||◌, List, ◌==◌, ◌&&◌}
 use Rattle.std.specs.List.{list_any}
 
--- A network. Nodes are numbered from 0, and so are the ports of each node. `far` maps a port to the node at the other
--- end of its link and the link's label there.
+-- A network. Nodes and each node's ports are numbered from 0. `far` maps a port to its link's other end: the
+-- neighbouring node, and the link's label there.
 pub record Network : Type 0 where
   pub nodes : ℕ
   pub degree : ℕ → ℕ
@@ -21,7 +21,7 @@ pub record World : Type 0 where
   pub quota : ℕ
   pub board : ℕ
 
--- whether the node is one of these black holes
+-- whether the black holes include the node
 abbrev pub is_hole : List ℕ → (node : ℕ) → Bool
 is_hole holes node = list_any (λ hole. hole == node) holes
 

@@ -17,6 +17,6 @@ pub enum Command {
     Accuse { port: u16 },
     /// End.
     Leave,
-    /// A line that does not parse as a command.
+    /// A line that parses as no command.
     Bad,
 }

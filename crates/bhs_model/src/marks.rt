@@ -26,7 +26,7 @@ pub enum Mark {
     Changed {
         board: Option<u32>,
     },
-    /// The agent has departed and is on its link.
+    /// The agent has departed; its link carries it.
     Gone,
     /// The accusation stands, right or wrong, and the agent has ended.
     Noted,

@@ -18,7 +18,7 @@ pub enum Reply {
     Changed {
         board: Text,
     },
-    /// The agent has departed and is on its link.
+    /// The agent has departed; its link carries it.
     Gone,
     /// The accusation stands, right or wrong, and the agent has ended.
     Noted,

@@ -74,7 +74,7 @@ Joins-same a b end other end' other' (inr i) (inr j) e f =
           ∙ (e ∙ sym (ap (λ (q : End). q.0) j.0)),
     )
 
--- A link that is no loop has exactly one port at each of its nodes.
+-- Links other than loops have exactly one port per end node.
 Joins-one : (link : Link) (node port port' : ℕ) (other other' : End) → link.v ≢ link.w → Joins link (node, port) other
     → Joins link (node, port') other' → port ≡ port'
 Joins-one link node port port' other other' no_loop (inl i) (inl j) = ap (λ (q : End). q.1) (sym i.0 ∙ j.0)

@@ -1,7 +1,7 @@
 use Rattle.std.specs.Prelude.{◌≡◌, ℕ, ◌<◌, ◌⊎◌, List, length, slice_index_or}
 use Rattle.bhs_net.specs.declared.links.Link.{Link}
 
--- An end of a link: a node and one of its ports.
+-- A link's end: a node with one of its ports.
 abbrev pub End : Type 0
 End = ℕ × ℕ
 

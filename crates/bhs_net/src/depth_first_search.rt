@@ -121,8 +121,8 @@ pub fn depth_first(rows: &[Vec<End>]) -> DepthFirst {
     search
 }
 
-/// Computes an order of the nodes, an st-numbering if one exists; this is not proved. Each node is placed next to its
-/// parent, before or behind it.
+/// Computes an order of the nodes, an st-numbering where one exists; the proof checks results only. Places each node
+/// next to its parent, before or behind.
 pub fn order_of(search: &DepthFirst) -> NodeOrder {
     let second = search.found[1];
     let mut before = [0; NODES];

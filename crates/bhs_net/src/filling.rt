@@ -80,7 +80,7 @@ fn are_indexed(links: &[Link], index: &[Vec<u16>]) -> bool
     true
 }
 
-// Returns the other end of the link at this place of the list, if one of its ends is this one.
+// Returns the opposite end of the link at this place of the list, provided that the link has this end.
 fn other_end(links: &[Link], place: usize, node: usize, port: usize) -> Option<End>
     ensures { IfSome result (λ other. AreJoined links.now (node, port) other) }
 {

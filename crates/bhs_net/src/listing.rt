@@ -15,7 +15,7 @@ use crate::links::Link;
 use std::alloc::{AllocError, Global};
 use std::collections::{BTreeMap, BTreeSet};
 
-/// An end of a link: a node and one of its ports.
+/// A link's end: a node with one of its ports.
 pub type End = (u16, u16);
 
 fn check_nodes(nodes: u16) -> Result<(), NetFault>

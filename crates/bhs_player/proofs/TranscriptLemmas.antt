@@ -30,7 +30,7 @@ module _ {R W : Type 0} (gives : R → Chunk → R → Type 0) (takes : W → Li
             (gathers_more many (bytes ++ first) piece middle next before is given),
       )
 
-  -- ---- what is said, and what is heard
+  -- ---- spoken and heard lines
 
   -- the step's line is written to the wire and to the transcript
   record SaysBoth (key : List ℕ) (step : Step) (start : Wire R W) (transcript : Transcript) (told : Wire R W)

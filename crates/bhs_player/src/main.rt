@@ -27,7 +27,7 @@ const MOST_TRIES: u32 = 60;
 
 const PAUSE: u64 = 1_000;
 
-// Why an agent has not played to its end.
+// The reason for an unfinished match.
 enum EntryFault {
     Played(PlayFault),
     Rejected(Rejection),

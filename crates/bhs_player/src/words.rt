@@ -84,8 +84,8 @@ pub fn entrant_of<'w>(alloc: Global, words: &'w [String]) -> Result<Option<Entra
     }))
 }
 
-// Splits off the option --spurious-wakeups: its number, if the option is given, and the remaining words. Returns None
-// if the number is not below 2^32.
+// Splits off the option --spurious-wakeups: returns its number, where given, with the remaining words. Returns None for
+// numbers of 2^32 or more.
 fn limit_of(words: &[String]) -> Option<(Option<u32>, &[String])>
     ensures { option_map (λ it. (it.0, map string_bytes it.1.now)) result
         ≡ entrants.limit_in (map string_bytes words.now) }

@@ -1,7 +1,7 @@
 -- Rounds as a fairness premise, and the proof rule for progress: a measure that turns decrease.
 use Rattle.std.specs.Prelude.{ℕ, zero, suc, ◌≡◌, ◌<◌, ◌≤◌, ◌⊎◌, Bool, true, List, [], ◌∷◌, ◌++◌}
 
--- the number of threads, and the state after a turn of each
+-- the number of threads, and the transition of each thread's turn
 pub record Threads (S : Type 0) : Type 0 where
   pub count : ℕ
   pub turn : S → (thread : ℕ) → S

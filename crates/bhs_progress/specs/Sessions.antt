@@ -5,8 +5,8 @@ use Rattle.std.specs.Prelude.{ℕ, zero, suc, ◌+◌, ◌-◌, ◌*◌, ◌≡�
 use Rattle.std.specs.Prelude.{if◌then◌else◌, nat_lt}
 use Rattle.bhs_progress.specs.Rounds.{Threads, after, AreRounds}
 
--- The state of a session's thread: it takes its next line, and reads from the client if it has none; or its agent is on
--- a link, and it waits for the arrival or the close; or it has ended.
+-- The state of a session's thread. Reading: it takes its next line, and reads from the client if no line is buffered.
+-- Waiting: its agent is on a link, and the thread awaits the arrival or the close. Ended.
 pub data Stand : Type 0 where
   Takes : Stand
   Waits : Stand
@@ -47,8 +47,8 @@ stand_by Stays = Takes
 stand_by Departs = Waits
 stand_by Parts = Ends
 
--- A turn of a session's thread. In a closed match a session that takes a line or waits ends. In an open one it answers
--- its line, reads if it has none, or goes on waiting on its link.
+-- A turn of a session's thread. In a closed match a session ends when it takes a line or waits. In an open match it
+-- answers its line, reads without a buffered line, or keeps waiting on its link.
 abbrev pub own_by : (is_closed has_line : Bool) → Outcome → (brought : ℕ) → Stand → (read answered : ℕ) → SessionState
 own_by true true outcome brought Takes read answered = session_at Ends read answered
 own_by false true outcome brought Takes read answered = session_at (stand_by outcome) read (answered + 1)

@@ -79,7 +79,7 @@ silent_unsolved false false rest is h = cc
 
 -- ---- one agent
 
--- A number below 3 that differs from both given ones.
+-- The third number below 3, beside two given ones.
 pub record IsThird (one two : ℕ) : Type 0 where
   pub it : ℕ
   pub small : it < 3

@@ -143,7 +143,7 @@ module _ (game : Game) where
       (position ≡ After) × (m.mine + far + 2 ≡ n) × ((accused ≡ link (ways.node s m.mine) (ways.ahead s m.mine))
       ⊎ (accused ≡ link (ways.node (opposite s) far) (ways.ahead (opposite s) far)))
 
-  -- ---- the invariant of one agent, of both agents, and of the whiteboards
+  -- ---- the invariant of one agent, two agents and the whiteboards
 
   pub record Fit (s : ℕ) (a : Seat) (far mark : ℕ) (seen : ℕ → Bool) : Type 0 where
     pub side : a.memory.side ≡ s

@@ -370,7 +370,7 @@ module _ (world : World) (held : Held) (wakeups : ℕ) (strategies : Strategies)
   abbrev two : Trial
   two = searched world held wakeups strategies node
 
-  -- A turn has the same effect in both matches, or none in the first one.
+  -- A turn has equal effects in both matches, or no effect in the first match.
   record IsAlike (configuration : Configuration) (agent : ℕ) : Type 0 where
     either : (turn_in two configuration agent ≡ turn_in one configuration agent) ⊎ (turn_in one configuration agent
         ≡ configuration)

@@ -14,7 +14,7 @@ use std::alloc::{AllocError, Global};
 pub enum Phase {
     /// It has not entered.
     Begins,
-    /// The agent walks out and is at a node.
+    /// The agent walks out and stands at a node.
     GoesOut { steps: u16, port: u16 },
     /// The agent walks out and is on the link ahead.
     Leaves { steps: u16 },

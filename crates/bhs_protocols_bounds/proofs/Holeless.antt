@@ -127,7 +127,7 @@ module _ (world : World) (held : Held) (wakeups : ℕ) (strategies : Strategies)
       (turn_left_out hole configuration agent (never_before (turn_in free configuration agent) schedule hole never))
       ∙ left_out hole schedule (turn_in free configuration agent) never
 
-  -- ---- and what happens where it is, happens without it too, if the turns are left out that make nothing there
+  -- ---- simulation: each run with the black hole is a run without one, once its empty turns are removed
 
   pub record IsPlayed (hole : ℕ) (configuration : Configuration) (schedule : List ℕ) : Type 0 where
     pub other : List ℕ

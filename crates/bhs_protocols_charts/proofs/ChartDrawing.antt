@@ -328,7 +328,7 @@ module _ (game : Game) {chart : Chart} {place : ℕ → ℕ} {shown : ℕ → Li
 
   -- ---- texts fit on whiteboards
 
-  -- The ports of the black hole and those of all other nodes are the ports of the network.
+  -- The network's ports are the black hole's ports plus all other nodes' ports.
   beside : ports game + degree game hole ≡ total (degree game) (size game)
   beside = beside_is net can.network.labelled hole can.within
 

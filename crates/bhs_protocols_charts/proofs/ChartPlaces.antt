@@ -7,7 +7,7 @@ use Rattle.bhs_model.specs.Runs.{changed}
 use Rattle.bhs_model.proofs.StepLemmas.{changed_same, changed_other}
 use Rattle.bhs_protocols_charts.proofs.HoleEnds.{ArePlaces}
 
--- a property of all numbers below a bound, and of the bound
+-- extends a property of all smaller numbers by the bound itself
 pub each_below : (P : ℕ → Type 0) (rows : ℕ) → ((i : ℕ) → i < rows → P i) → P rows → (i : ℕ) → i < suc rows → P i
 each_below P rows early last i lt = elim (below_or_at i rows (omega arith)) [
   | inl h ↦ early i h

@@ -65,7 +65,7 @@ module _ (game : Game) {configuration : Configuration} {left : ℕ} (inv : Inv g
   abbrev pub Rests : Type 0
   Rests = (mine ≡ Ends) ⊎ (IsLost ⊎ IsStuck)
 
-  -- A configuration in which an agent can move is not at rest.
+  -- While an agent can move, the configuration is not at rest.
   restless : can_move_in (trial_of game) configuration agent ≡ true
       → can_move_in (trial_of game) configuration agent ≡ false → Rests
   restless moves still = absurd (true≢false (sym moves ∙ still))

@@ -255,7 +255,7 @@ module _ (game : Game) {configuration : Configuration} {left : ℕ} (inv : Inv g
   lost_is k lt lost = ap (is_doomed (trial_of game).world) lost.at ∙ doomed_is game (place lost.row) lost.port
       ∙ eq-eqb hole (far game (place lost.row) lost.port).0 (sym lost.leads)
 
-  -- Some agent is not lost, so it has ended.
+  -- A surviving agent exists; it has ended.
   pub record HasEnded : Type 0 where
     pub agent : ℕ
     pub within : agent < terms.agents
@@ -271,7 +271,7 @@ module _ (game : Game) {configuration : Configuration} {left : ℕ} (inv : Inv g
         | inr h ↦ absurd (true≢false (sym (lost_is one.0 one.1 h) ∙ one.2))
       ]
 
-  -- The node of a row has a name, so it was reached.
+  -- Rows describe named nodes, hence reached nodes.
   place_reached : (i : ℕ) → i < length chart → place i ≢ home → configuration.reached (place i) ≡ true
   place_reached zero lt other = absurd (other drawn.places.start)
   place_reached (suc i) lt other = elim (drawn.names (place (suc i)) other) [

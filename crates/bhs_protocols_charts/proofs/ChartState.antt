@@ -164,7 +164,7 @@ module _ (game : Game) where
     pub came : Option ℕ
     pub at : position ≡ At node came
 
-  -- The agent is on the link of the first of these ports.
+  -- The agent travels on the first listed port's link.
   abbrev pub IsBound : (node : ℕ) → List ℕ → Position → Type 0
   IsBound node [] position = ⊥
   IsBound node (next ∷ rest) position = position ≡ Bound node next

@@ -103,7 +103,7 @@ after_in nodes tells it item = it
 
 -- ---- the program
 
--- The memory of an agent: its phase, and whether it is between a departure and an arrival.
+-- The memory of an agent: its phase, and a flag between departure and arrival.
 pub record Memory : Type 0 where
   pub duty : Charting
   pub has_departed : Bool

@@ -84,7 +84,7 @@ abbrev pub next_in : (ports : List ℕ) → Option ℕ
 next_in [] = None
 next_in (port ∷ ports) = Some port
 
--- departs by the next port, if there is one
+-- departs by the next port of the route, or takes another step at its end
 abbrev pub departs : (next : Option ℕ) → (other : Step) → Step
 departs (Some port) other = Says (Depart port)
 departs None other = other

@@ -14,7 +14,7 @@ use std::marker::Model;
 /// The state of a port that nobody has claimed.
 pub const FREE: u8 = 0;
 
-/// The state of a port that an agent has claimed and from which it has not returned.
+/// A port's state after an agent has claimed it and before the agent returns.
 pub const CLAIMED: u8 = 1;
 
 /// The state of a port from which an agent has come back.

@@ -64,8 +64,8 @@ abbrev pub miss : Bool → ℕ
 miss true = 0
 miss false = 1
 
--- The share of one agent in the potential: walks, moves to new nodes and back, and marks. `count` divisions that it has
--- not read were told at the step `at` of its itinerary, which is its own step if there is none.
+-- One agent's share of the potential: its walks, its moves to new nodes and back, and its marks. `count` unread
+-- divisions were written at step `at` of its itinerary; without unread divisions `at` is its own step.
 pub record Purse : Type 0 where
   pub ways : ℕ
   pub trips : ℕ

@@ -65,7 +65,7 @@ module _ (plan : Plan) (m : Memory) where
     abbrev pub Few : ℕ → Type 0
     Few step = explored plan m.divisions (1 - m.side) + news (others_of plan m) step ≤ others
 
-    -- the step is at or before the exploration of the black hole
+    -- The step does not come after the exploration of the black hole.
     pub before_hole : (step : ℕ) → Few step → step ≤ hole_step
     before_hole step few =
         let never : (hole_step < step) → ⊥ = λ h.

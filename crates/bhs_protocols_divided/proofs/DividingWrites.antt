@@ -165,7 +165,7 @@ module _ {game : Game} (on : Turn game) where
     text_told = told_written m.side more (other_in m.side m.seen) (told_in m.seen) inv.state.below
         ∙ ap told_in (sym was_seen)
 
-    -- the only new node whose count is reached by this mark and not by the one before is the node of this step
+    -- This step's node is the only new node whose count the mark reaches.
     is_this : (step : ℕ) (it : ℕ) → Explores plan inv.now m.side step it
         → done plan m < count_at plan inv.now m.side step
         → count_at plan inv.now m.side step ≤ more → step ≡ m.step

@@ -10,7 +10,7 @@ use Rattle.bhs_protocols_mapped.proofs.Members.{AreApart}
 use Rattle.bhs_protocols_mapped.proofs.Ears.{HasEarlier, HasLater}
 use Rattle.bhs_protocols_divided.proofs.Grown.{Grows}
 
--- the nodes that are not explored, in their order
+-- the unexplored nodes, in order
 abbrev pub left_of : (explored nodes : List ℕ) → List ℕ
 left_of explored [] = []
 left_of explored (v ∷ vs) = if is_in v explored then left_of explored vs else v ∷ left_of explored vs

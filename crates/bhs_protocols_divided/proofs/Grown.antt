@@ -161,8 +161,8 @@ module _ (u port v label : ℕ) where
 module _ (net : Network) (labelled : (u port : ℕ) → port < degree_of net u
     → ((far_of net u port).1 < degree_of net (far_of net u port).0)
     × (far_of net (far_of net u port).0 (far_of net u port).1 ≡ (u, port))) where
-  -- A list leads from the root and back, past nodes that are known to be safe and past its own new ones. It
-  -- visits each of these nodes except the root.
+  -- A closed walk from the root over safe nodes and over the list's own new nodes. It visits every such node except the
+  -- root.
   pub record IsTour (root : ℕ) (safe : List ℕ) (acts : List Act) : Type 0 where
     pub chain : IsChain net root root acts
     pub fresh : IsFresh safe acts

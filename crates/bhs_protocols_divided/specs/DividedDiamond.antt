@@ -105,7 +105,7 @@ SmallRows = (board_text 65 2 1 ≡ 33 ∷ 33 ∷ 32 ∷ 34 ∷ 33 ∷ []) × (le
     × (left_at diamond_plan ((0, 0) ∷ []) 1 0 ≡ 1) × (count_at diamond_plan ((0, 0) ∷ []) 1 1 ≡ 2)
     × (most_moves 3 ≡ 10) × (most_moves 4 ≡ 30) × (most_moves 5 ≡ 44) × (most_moves 64 ≡ 2358)
 
--- the itineraries above are a plan
+-- The itineraries above form a plan.
 abbrev pub TheDiamondHasAPlan : Type 0
 TheDiamondHasAPlan = IsPlan (diamond_with 0).net 0 4 diamond_plan
 

@@ -21,7 +21,7 @@ module _ (net : Network) (is : IsNetwork net) where
   back : (a b : ℕ) → Leads net a b → Leads net b a
   back = walks.Leads-back net is.labelled
 
-  -- One of these nodes has a link to this node.
+  -- This node is adjacent to a node of the list.
   abbrev pub IsNear : List ℕ → ℕ → Type 0
   IsNear nodes v = (u : ℕ) × (is_in u nodes ≡ true) × Leads net u v
 

@@ -98,7 +98,7 @@ module _ (net : Network) (home : ℕ) (has : HasGuide net home) (cut : ℕ) wher
           (omega (arith, later))) ∙ same ∙ sym at) in
           omega (arith, there, later)
 
--- Among 0, 1 and 2 some number differs from both `a` and `b`.
+-- Of the numbers 0, 1 and 2, at least one differs from both `a` and `b`.
 third : (a b : ℕ) → (c : ℕ) × (c < 3) × (c ≢ a) × (c ≢ b)
 third a b = elim (eqb_tells 0 a) [
   | inl h ↦ elim (eqb_tells 1 b) [

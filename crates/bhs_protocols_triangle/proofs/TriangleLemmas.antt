@@ -99,9 +99,9 @@ module _ (world : World) (n right left wakeups : ℕ) (ways : Ways) (search : Is
       ∙ ap (λ (k : ℕ). ways.node 0 right == k) (sym (search.ring.home s))
       ∙ lemmas.safe_before (sides search) s 0 below (positive s below)
 
-  -- ---- the invariant: by what an agent is about,
+  -- ---- the invariant: the phase of an agent determines
 
-  -- where it is,
+  -- the agent's position,
   abbrev place : (s : ℕ) → Phase → Position
   place s Begins = Before
   place s Departs = At world.home None

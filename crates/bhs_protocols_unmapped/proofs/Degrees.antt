@@ -1,4 +1,5 @@
--- Handshake lemma: each link has two ports. The network's ports are the ports of one node and the ports of all others.
+-- Handshake lemma: every link has two ports. The ports of one node and those of all remaining nodes make up the
+-- network's ports.
 use Rattle.std.proofs.Common.{ℕ, ◌+◌, ◌*◌, ◌<◌, ◌≤◌, ◌≡◌, [], length, ◌∙◌}
 use Rattle.std.proofs.Common.{arith}
 use Rattle.std.specs.Prelude.{◌%◌}

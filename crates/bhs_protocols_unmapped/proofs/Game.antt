@@ -260,7 +260,7 @@ module _ (d : ℕ) (three : 3 ≤ d) (terms : Limits) (strategies : Strategies) 
 
     module _ (node port : ℕ) (came : Option ℕ) (it : IsDeparture node port came)
         (here : IsPort d count member state.known node port) where
-      -- The departing agent was not on a link before.
+      -- The departing agent stood at a node.
       not_bound : (other label : ℕ) → state.configuration.position agent ≢ Bound other label
       not_bound other label on = let same : At node came ≡ Bound other label = sym it.at ∙ on in cc
 

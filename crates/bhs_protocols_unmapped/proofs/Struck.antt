@@ -269,7 +269,7 @@ module _ (nodes hole : ℕ) (not_home : 0 ≢ hole) (terms : Limits) (strategies
         same = ap (λ (it : Configuration). turns_in second it rest.other) (sym alike) ∙ rest.same;
       }
 
-  -- An accusation on one network is possible on the other.
+  -- A link that is accused in the first network leads to the black hole in the second network.
   pub right_there : FindsFor second hole → (schedule : List ℕ) (it : SomeoneHasAccused first schedule)
       → (two it.link.0 it.link.1).0 ≡ hole
   right_there finds schedule it =

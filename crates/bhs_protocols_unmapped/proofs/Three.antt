@@ -75,7 +75,7 @@ module _ (d rim : ℕ) (four : 4 ≤ d) (wide : d + 4 ≤ rim) where
     off = λ role small same. off role small (same ∙ ap (λ (e : ℕ × ℕ). e.0) is);
   }
 
-  -- ---- the black hole has links to all four wide
+  -- ---- star: the black hole has links to the four wide nodes
 
   abbrev pub star : Shape
   star = record {
@@ -105,7 +105,7 @@ module _ (d rim : ℕ) (four : 4 ≤ d) (wide : d + 4 ≤ rim) where
     most = omega arith;
   }
 
-  -- ---- or to two of them, and the others have a link between them
+  -- ---- twin: the black hole has links to two of the wide nodes, and a link joins the other two
 
   abbrev pub twin : (a b e f : ℕ) → Shape
   twin a b e f = record {

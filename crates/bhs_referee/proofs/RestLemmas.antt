@@ -104,7 +104,7 @@ all_kempt_told world state marks agent command legal kempt is_heard other = elim
   | inr h ↦ rw h.0 (kempt other)
 ]
 
--- An arriving agent was on a link that does not destroy, so it is not lost.
+-- Arriving agents travel on safe links and therefore survive.
 kempt_arrival : (world : World) (state : State) (marks : ℕ → Bool) (agent : ℕ) (position : Position)
     → is_let_through world position ≡ true → Kempt world agent position (marks agent) → AllKempt world state marks
     → AllKempt world (delivered world state agent position) marks
@@ -285,7 +285,7 @@ calm_next world state marks Close legal calm = calm
 
 -- ---- nothing is found any more
 
--- a reply that is no arrival
+-- replies other than arrivals
 abbrev NoMove : Option Reply → Type 0
 NoMove said = (moves : ℕ) → moves_by said moves ≡ moves
 

@@ -37,7 +37,7 @@ abbrev pub VerdictsStand : Type 0
 VerdictsStand = (world : World) (events more : List Event) → AreDone world events →
     verdict_after world (events ++ more) ≡ verdict_after world events
 
--- A match in which each agent has ended or is lost is such a match.
+-- This includes every match whose agents have all ended or are lost.
 abbrev pub DecidedMatchesAreDone : Type 0
 DecidedMatchesAreDone = (play : Play) → AreAllDone play → AreDone (world_in play) (events_of play.log)
 

@@ -65,8 +65,7 @@ is_unreached world found node = not (node == world.home) && (not (is_hole world.
 abbrev pub first_unreached : World → Findings → Option ℕ
 first_unreached world found = find (is_unreached world found) (range_with_len 0 world.net.nodes)
 
--- If the accusations are right only because of a black hole, while some node is unreached, then the outcome is a guess:
--- the hole could be at that node.
+-- A guess: the accusations hold only if some black hole exists, while an unreached node could be that black hole.
 abbrev pub guess_or_solved : Option ℕ → Outcome
 guess_or_solved (Some node) = Guess node
 guess_or_solved None = Solved

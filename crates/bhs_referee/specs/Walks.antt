@@ -35,7 +35,7 @@ walk_told walk agent command mark site = record {
   moves = moves_told mark walk.moves;
 }
 
--- the walk after an arrival, or after a loss if there is no mark
+-- the walk after an arrival; without a mark, after a loss
 abbrev pub walk_delivered : Walk → Option Mark → (site : Option ℕ) → Walk
 walk_delivered walk (Some mark) (Some node) = record walk { reached = slice_set walk.reached node true }
 walk_delivered walk mark site = walk

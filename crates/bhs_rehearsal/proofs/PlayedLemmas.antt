@@ -52,7 +52,7 @@ played_lemma old new held event mark log net setup =
     ∙ by_keep (keeps_next (matches.world_in old) old.log event) old.net old.setup held old.log
     (record { event = event; mark = mark })
 
--- An event that is not kept did not arrive.
+-- Dropped events are no arrivals.
 not_arrived : (arrived other : Bool) (told : Option Reply) → (arrived || other) ≡ false
     → None ≡ (if arrived then told else None)
 not_arrived true other told is = cc

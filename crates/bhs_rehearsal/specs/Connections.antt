@@ -18,7 +18,7 @@ pub data Item : Type 0 where
 pub record Connection : Type 0 where
   -- The numbers of its match and agent; None before an agent is admitted.
   pub seat : Option (ℕ × ℕ)
-  -- The unfinished line; None if it is too long.
+  -- The unfinished line, or None beyond the length limit.
   pub unfinished : Option (List ℕ)
   -- the items that were not taken yet
   pub queue : List Item
@@ -46,7 +46,7 @@ pub record TakenItems : Type 0 where
   -- the text that the connection is sent
   pub text : List ℕ
 
--- the phase of the session after a reply, which may be the last
+-- the session's phase after a reply, possibly the last one
 abbrev pub answered : Reply → Phase
 answered reply = hear Ready (Answers reply)
 

@@ -1,4 +1,4 @@
--- A match of a rehearsal, and the effect of an event on it.
+-- Matches of a rehearsal, with the effects of events.
 use Rattle.std.specs.Prelude.{ℕ, Bool, Option, List, [], ◌∷◌, ◌++◌, if◌then◌else◌}
 use Rattle.bhs_net.specs.Network.{Network}
 use Rattle.bhs_model.specs.declared.setups.Setup.{Setup}
@@ -28,7 +28,7 @@ world_in game = world_of game.net game.setup
 abbrev pub state_of : Game → State
 state_of game = run (world_in game) game.log
 
--- the match after an event, which is logged if it is kept
+-- the match after an event, logged if kept
 abbrev pub played : Game → Event → Game
 played game event =
     if keeps (world_in game) (state_of game) (lost (world_in game) game.log) event

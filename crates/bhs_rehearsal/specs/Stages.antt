@@ -204,7 +204,7 @@ waits_in number game connection = waits connection.seat where
   waits None = false
   waits (Some seat) = (seat.0 == number) && is_away game seat.1
 
--- the connections after the end of a match: those that waited in it are closed
+-- the connections after a match's end; waiting ones are closed
 abbrev pub shut_in : (number : ℕ) → Game → List Connection → List Connection
 shut_in number game connections =
     map (λ connection. if waits_in number game connection then shut connection else connection) connections

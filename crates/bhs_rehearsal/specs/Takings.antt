@@ -81,6 +81,6 @@ IsDrawn old game drawn before (Ok agent) text new =
     ((agent, text) ≡ told_to before drawn.arrival) × (new ≡ on_stage old (with_game old.stage game drawn.game))
 IsDrawn old game drawn before (Err memory) text new = Unit {0}
 
--- The mark at a place of a log; None beyond its end.
+-- The mark at a log place; None beyond the log.
 abbrev pub mark_at : List Kept → (place : ℕ) → Option Mark
 mark_at log place = option_and_then (λ kept. kept.mark) (slice_get log place)

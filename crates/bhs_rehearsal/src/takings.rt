@@ -59,7 +59,7 @@ fn next_item<'s>(ready: &Ready, agent: u16, queue: &mut VecDeque<Item<'s>>) -> O
     queue.pop_front()
 }
 
-// Takes one item of an agent that is at a node. Returns whether it was the last.
+// Takes one item of an agent at a node. Returns whether this item was the last.
 fn take_item(
     alloc: Global,
     line_reader: &mut LineReader,

@@ -46,7 +46,7 @@ event_data (Deliver agent) reply =
     (member (codes "do") (string (codes "deliver")) (reply_member reply)))
 event_data Close reply = object (member (codes "do") (string (codes "close")) (reply_member reply))
 
--- ---- these are the data of a line
+-- ---- the data of an event's line
 
 why_ascii : (why : Why) → are_ascii (word why) ≡ true
 why_ascii Agent = refl

@@ -44,7 +44,7 @@ pub record HeadFits (net : Network) (setup : Setup) : Type 0 where
 
 -- ---- a head is data of a line
 
--- the members of a head from the links on
+-- a head's members, starting at the links
 abbrev last_members : ℕ → Network → Setup → Members
 last_members n net setup =
     member (codes "links") (listed (map link_data (links_of net)))

@@ -128,7 +128,7 @@ no_says line none net setup head =
     absurd (cc)
 
 module _ (line : List ℕ) (says : HeadFields) (is : Some says ≡ head_says line) where
-  -- the fields of a line that is a head
+  -- the fields of a head's line
   says_of : (net : Network) (setup : Setup) (head : IsHead line net setup) → says ≡ said head.version net setup
   says_of net setup head =
       same_says says (said head.version net setup)

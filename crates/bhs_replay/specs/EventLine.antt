@@ -7,7 +7,7 @@ use Rattle.bhs_model.specs.declared.events.Event.TheVariants.{Tell, Deliver, Clo
 use Rattle.bhs_model.specs.declared.replies.Reply.{Reply}
 use Rattle.bhs_wire.specs.Reply.{quoted_text, line}
 
--- the members of a command, from its word on
+-- a command's members, starting at its word
 abbrev pub said : Command → List ℕ
 said Enter = codes "\"enter\""
 said Look = codes "\"look\""

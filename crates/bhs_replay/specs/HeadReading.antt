@@ -53,7 +53,7 @@ version_by number = if number == 1 then Some One
 abbrev pub version_in : Data → Option Version
 version_in value = option_and_then version_by (port_at (codes "replay") value)
 
--- the black hole of a head of version 1, if there is one
+-- the optional black hole of a version 1 head
 abbrev pub holes_in : Version → Data → Option (List ℕ)
 holes_in One value = Some (option_to_list (port_at (codes "hole") value))
 holes_in Two value = list_at number_in (codes "holes") value

@@ -1,4 +1,4 @@
--- The conditions for a line to be the head of a match.
+-- When a line is a match's head.
 use Rattle.std.specs.Prelude.{ℕ, ◌≡◌, ◌≢◌, List, [], Option, Some, None}
 use Rattle.bhs_net.specs.Network.{Network, nodes_of, Makes}
 use Rattle.bhs_model.specs.declared.setups.Setup.{Setup}

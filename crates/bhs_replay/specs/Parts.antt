@@ -33,7 +33,7 @@ pub record IsPartOf (text : List ℕ) (play : Play) : Type 0 where
   pub leads : Leads (ended text) stage
   pub closed : IsClosedAt stage play
 
--- The match is the one of some text.
+-- Some text describes this match.
 abbrev pub IsOfPart : Play → Type 0
 IsOfPart play = (text : List ℕ) × IsPartOf text play
 

@@ -1,4 +1,4 @@
-//! Parsers of the beginning of a line, each with the bytes after it. They allocate no memory.
+//! Parsers for beginnings of lines; each also returns the remaining bytes. They allocate nothing.
 
 ghost use Rattle.std.specs.Prelude.{◌≡◌, ◌<◌, ◌+◌, ◌∷◌, ◌++◌, decimal, IfSome};
 ghost use Rattle.std.specs.Bool.{OnTrue};

@@ -37,7 +37,7 @@ fn line_in(alloc: Global, sealed: &Sealed, one: &Kept) -> Result<String, Memory>
     line_with(alloc, &one.event, reply_in(sealed, &one.mark))
 }
 
-/// Appends the line of a log's event, without its line feed. On `Err`, a part of it may have been appended.
+/// Appends the line of a logged event, without its line feed. An `Err` may leave a partial line.
 pub(crate) fn add_line_in(
     alloc: Global,
     text: &mut Vec<u8>,

@@ -19,7 +19,7 @@ use std::alloc::Global;
 /// An event and its reply, as a line spells them.
 pub type Spelled = (Event, Option<Reply>);
 
-/// Returns whether a reply can answer an event. If so, the canonical line of both spells them.
+/// Returns whether a reply can answer an event; in this case the canonical line spells both.
 pub(crate) fn spells(event: &Event, reply: Option<LentReply<'_>>) -> bool
     ensures { (line : List ℕ) → line ≡ event_line event.now (option_map reply_of reply.entry)
         → OnTrue result (spelled line ≡ Some (event.now, option_map reply_of reply.entry)) }

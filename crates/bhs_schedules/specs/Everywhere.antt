@@ -30,7 +30,7 @@ pub record Fails (trial : Trial) (schedule : List ℕ) : Type 0 where
 abbrev pub step_after : Trial → (schedule : List ℕ) → (agent : ℕ) → Step
 step_after trial schedule agent = trial.strategies agent ((under trial schedule).history agent)
 
--- the step of an agent on its link when it hears that the match is over
+-- the step of an agent on its link after hearing of the match's end
 abbrev pub step_when_over : Trial → (schedule : List ℕ) → (agent : ℕ) → Step
 step_when_over trial schedule agent = trial.strategies agent (Heard Over ∷ (under trial schedule).history agent)
 

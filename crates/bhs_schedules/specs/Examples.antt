@@ -60,7 +60,7 @@ two one other agent = if agent == 0 then one else other
 abbrev pub on_triangle : Strategy → Strategy → Trial
 on_triangle one other = record { world = triangle; held = none_held; wakeups = 0; strategies = two one other }
 
--- for both agents, whether they can move after this schedule
+-- both agents' ability to move after this schedule
 abbrev pub moves_left : Trial → (schedule : List ℕ) → Bool × Bool
 moves_left trial schedule = (can_move trial (under trial schedule) 0, can_move trial (under trial schedule) 1)
 

@@ -20,7 +20,7 @@ Strategy = History → Step
 abbrev pub Strategies : Type 0
 Strategies = (agent : ℕ) → Strategy
 
--- the history extended by a reply, if there is one
+-- extends the history by an optional reply
 abbrev pub hearing : Option Reply → History → History
 hearing (Some reply) history = Heard reply ∷ history
 hearing None history = history

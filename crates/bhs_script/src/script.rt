@@ -21,8 +21,8 @@ use hex::FromHexError;
 use std::alloc::Global;
 use std::borrow::CowSlice;
 
-/// Parses a line of a script, in a rehearsal with this number of matches. `ended` is the line with its line feed, if it
-/// has one.
+/// Parses a script's line, for a rehearsal with this number of matches. `ended` is the line including its line feed,
+/// where present.
 pub fn meaning_of<'s>(
     alloc: Global,
     games: usize,
@@ -88,7 +88,7 @@ fn space_in(text: &[u8]) -> Option<usize>
     text.iter().position(|byte| *byte == b' ')
 }
 
-// Feeds the rest of a line after its word. `ended` is that rest with the line feed, if there is one.
+// Feeds a line's text after its word. `ended` includes the line feed, where present.
 fn feed_line<'s>(
     alloc: Global,
     word: &[u8],

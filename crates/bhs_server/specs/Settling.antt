@@ -77,7 +77,7 @@ others_than game [] = []
 others_than game (session ∷ sessions) = if session.played.game == game then others_than game sessions
     else session ∷ others_than game sessions
 
--- These are the passes with which the match was settled or refused.
+-- These passes settled the match, or made it fail to settle.
 abbrev pub IsSettledBy : Given → List Passed → Result Settlement Refused → Type 0
 IsSettledBy given passes (Ok settlement) = AreInAccord given settlement.sealed passes
 IsSettledBy given passes (Err (Untimely settlement place why)) = AreInAccord given settlement.sealed passes
@@ -94,8 +94,7 @@ AreSettledBy game cells sessions settled = ⊥
 unfoldable pub sessions_on : (matches : ℕ) → List Session → List Session
 sessions_on matches = filter (λ session. nat_lt session.played.game matches)
 
--- How the sessions ended whose passes settled the matches: one entry for each of these sessions, in their order, and
--- none for others.
+-- The endings of the sessions whose passes settled the matches: exactly one entry per such session, in session order.
 pub record HaveEnded (cells : List Given) (settled : List (Result Settlement Refused))
     (ended : List Ended) : Type 0 where
   pub sessions : List Session

@@ -1,4 +1,4 @@
--- The clients that wait to be admitted, and which of them is cut off.
+-- Waiting clients, and the choice of the one to cut off.
 use Rattle.std.specs.Prelude.{ℕ, ◌+◌, ◌-◌, ◌^◌, min, nat_le, Bool, true, false, Option, Some, None, List}
 use Rattle.std.specs.Prelude.{[], ◌∷◌, zero, suc, if◌then◌else◌}
 use Rattle.bhs_server.specs.declared.waiting.Known.{Known}
@@ -24,7 +24,7 @@ aged client = record client {
 abbrev pub older : Known → Known
 older client = if waits client then aged client else client
 
--- cuts off the client at this place, if there is one
+-- cuts off the client at an optional place
 abbrev pub cut_at : List Known → Option ℕ → List Known
 cut_at clients None = clients
 cut_at [] (Some place) = []

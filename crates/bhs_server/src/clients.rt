@@ -56,8 +56,8 @@ impl Clients {
         })
     }
 
-    /// Adds the client of a session. If too many clients wait, one of them is cut off; if that is the new client, it is
-    /// not added.
+    /// Adds a session's client. Too many waiting clients make it cut off one of them; the new client is not added if
+    /// the choice falls on it.
     pub(crate) fn add(
         &mut self,
         session: u32,

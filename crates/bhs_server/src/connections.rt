@@ -94,7 +94,7 @@ impl Connection {
         turn_away(&self.stream, why);
     }
 
-    /// Reports the client's lines that were no commands to the watcher, if there are any.
+    /// Reports the client's invalid lines to the watcher, unless there were none.
     pub(crate) fn tell_strays<W: Watch>(&self, session: u32, watch: &W) {
         if let Ok(strays) = self.strays.try_borrow_mut() {
             if strays.lines > 0 {

@@ -1,5 +1,5 @@
-//! Chooses the waiting client to cut off: from the network, and within it the address, with the most waiting clients.
-//! So a flood makes room for others, and not others for a flood.
+//! Chooses which waiting client to cut off: from the network with most waiting clients, within it from the most crowded
+//! address. A flood therefore makes room for others, never the reverse.
 
 ghost use Rattle.std.specs.Prelude.{◌≡◌};
 ghost use Rattle.bhs_server.specs.Crowds.{crowd_of, crowd_with, denser, first_cut, goes, is_at, is_greater, is_near};

@@ -26,7 +26,7 @@ struct ContestProgress {
     awaited: u32,
     /// Whether no more sessions are accepted, and those that still run are cut off.
     is_over: bool,
-    /// Whether the matches may begin; None while this is undecided.
+    /// The decision whether the matches begin; None while undecided.
     begins: Option<bool>,
     clients: Clients,
 }
@@ -88,7 +88,7 @@ impl Ending {
         self.changed.notify_all();
     }
 
-    /// Registers the client of a session as connected. If the contest is over, the client is cut off.
+    /// Registers a session's client as connected, or cuts it off after the contest's end.
     pub(crate) fn come<R: Wait>(
         &self,
         rt: &R,

@@ -12,7 +12,7 @@ pub enum PaceStep {
     Close,
 }
 
-/// Decides when the dealers of a server take their turns. It may pause before it decides.
+/// Decides when a server's dealers take turns, possibly after a pause.
 pub trait Pace {
     // The possible decisions for the match with this number after this number of turns.
     ghost says: { Self → ℕ → ℕ → DealerStep → Type 0 };

@@ -58,11 +58,10 @@ pub struct Served {
 /// is settled with the passes of its sessions, and under the oblivious schedule the turns of its deliveries are
 /// compared with the words; if one match is refused, the others settle nevertheless.
 ///
-/// Serves a contest until it ends. Only a session whose agent was admitted counts as a session. Clients whose agents
-/// have not entered use up nothing: their number and their time are bounded separately, and if too many wait, one is
-/// cut off in the network, and at the address, with the most waiting clients. A client that is not served is told why,
-/// in a line that is independent of all matches. When an accept fails, the server pauses and accepts again. If a
-/// match's thread cannot be started, no match begins.
+/// Serves a contest until it ends. Only sessions with an admitted agent count. Clients whose agents have not entered
+/// have a bounded number and a bounded time of their own, and use up no session; with too many waiting, the server cuts
+/// one off in the most crowded network and address. Rejected clients get a line with the reason, independent of all
+/// matches. A failed accept makes the server pause and retry. Without a thread for every match, no match begins.
 pub fn run_server<
     R: Threads + Wait + Clock + Sync,
     P: Pace + Sync,

@@ -25,7 +25,7 @@ pub enum Refused {
     },
 }
 
-/// The result of a match: the match, as its sessions were answered, with its turns; or the reason why there is none.
+/// A match's result: the match as answered to its sessions, with turns, or the reason for having none.
 pub type Settled = Result<Settlement, Refused>;
 
 /// How the sessions on matches below this number ended, in order.

@@ -14,7 +14,7 @@ use std::sync::Wait;
 /// How often a session may read.
 pub const TURNS: u32 = 16_777_216;
 
-/// A session that has ended: how it ended, and its agent, if one was admitted.
+/// An ended session: its ending, and its admitted agent, where one exists.
 #[derive(Debug, Drop)]
 pub struct EndedSession {
     pub ended: Ended,

@@ -1,5 +1,5 @@
-//! The clients that wait to be admitted, and which of them is cut off. Playing clients are kept elsewhere, and an
-//! entering client is not cut off.
+//! Waiting clients, and the choice of the one to cut off. Playing clients are stored elsewhere, and entering clients
+//! are safe.
 
 ghost use Rattle.std.specs.Prelude.{◌≡◌, map};
 ghost use Rattle.bhs_server.specs.Waiting.{older, waits};
@@ -16,7 +16,7 @@ pub(crate) enum Stand {
     Waits,
     /// Its first line is being read, and it is not cut off meanwhile.
     Enters,
-    /// The client is cut off, and its session is about to end.
+    /// The client is cut off; its session will end soon.
     IsCut,
 }
 

@@ -86,7 +86,7 @@ module _ {O P : Type 0} (takes : O → List ℕ → WriteAnswer → O → Type 0
   Ends-trans b c port1 port2 taken1 taken2 phase1 next (Err stop) first second =
       (second.0, (second.1.0, Moves-trans b c port1 port2 taken1 second.1.0 phase1 (phase_of stop) first second.1.1))
 
--- The line of an answer other than the news of an arrival.
+-- The line of an answer, arrivals excepted.
 module _ {O P T : Type 0} (takes : O → List ℕ → WriteAnswer → O → Type 0) (calls : P → PortRequest → PortAnswer → P
     → Type 0) (b : O)
     (p : Point O P) (reply : Reply) where

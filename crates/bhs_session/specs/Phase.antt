@@ -61,8 +61,8 @@ finished_or (Some ended) next = Finished ended
 abbrev pub answered_by : (waits : Bool) → Reply → Phase
 answered_by waits reply = finished_or (ended_by reply) (waiting waits reply)
 
--- The phase after a call of `tell`, or of `news` if it does not wait. Neither call admits an agent: the last case does
--- not occur.
+-- The phase after a call of `tell`, or of a non-waiting `news`. Neither call admits an agent, so the last case never
+-- occurs.
 abbrev pub after_answer : (waits : Bool) → PortAnswer → Phase
 after_answer waits (Answers reply) = Owes (text_of reply) (answered_by waits reply)
 after_answer waits NoMemory = Leaves endings.Memory

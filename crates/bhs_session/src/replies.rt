@@ -53,7 +53,7 @@ fn send_reply<W: Output>(last: &mut LastLine, writer: &mut W, reply: Reply) -> R
     }
 }
 
-/// Appends the line of a reply, with its line feed. On `Err`, a part of it may have been appended.
+/// Appends a reply's line with its line feed. An `Err` may leave a partial line.
 #[inline(always)]
 pub fn push_reply(alloc: Global, reply: LentReply<'_>, text: &mut Vec<u8>) -> Result<(), Memory>
     ensures sent { OnOk result (text.new.items ≡ text.old.items ++ text_of (reply_of reply.entry)) }
@@ -95,8 +95,7 @@ fn send_denial<W: Output>(writer: &mut W, denial: Denial) -> Result<(), WriteFau
     send(writer, b"\n")
 }
 
-/// Appends the line that tells a client why it is turned away, with its line feed. On `Err`, a part of it may have been
-/// appended.
+/// Appends the rejection line for a client, with its line feed. An `Err` may leave a partial line.
 pub fn push_denial(denial: Denial, text: &mut Vec<u8>) -> Result<(), Memory>
     ensures sent { OnOk result (text.new.items ≡ text.old.items ++ denial_text denial) }
     ensures front { (more : List ℕ) × (text.new.items ≡ text.old.items ++ more) }

@@ -35,8 +35,8 @@ impl Keys {
         }
     }
 
-    /// Adds a key that admits an agent, unless the key is present. Returns whether it was added. The numbers are those
-    /// of the match and the agent.
+    /// Adds a key that admits an agent; returns false for a duplicate key. The numbers identify the match and its
+    /// agent.
     pub fn insert(&mut self, key: String, seat: (u32, u16)) -> Result<bool, Memory>
         ensures added { IfOk result (λ added. added ≡ not (has_key (string_bytes key) self.old)) }
         ensures seats { IfOk result (λ _. self.new ≡ with_seat self.old (string_bytes key, seat)) }

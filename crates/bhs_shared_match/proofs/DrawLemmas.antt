@@ -23,7 +23,7 @@ use Rattle.bhs_shared_match.specs.Timing.{Timed, stepped, turned, told_at, event
 use Rattle.bhs_shared_match.proofs.ToldLemmas.{same_play}
 use Rattle.bhs_shared_match.proofs.TallyLemmas.{IsHoused, IsLegalLog, legal_untold}
 
--- The event, if any, is no command.
+-- An optional event other than a command.
 abbrev IsNoCommand : Option Event → Type 0
 IsNoCommand None = Unit {0}
 IsNoCommand (Some (Tell agent command)) = ⊥

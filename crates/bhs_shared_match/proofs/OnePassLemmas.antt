@@ -86,7 +86,7 @@ logged_all play passes =
     (all_mapped (λ one. one.logged ≡ heard_in one.agent play.log) (told_by_none play)
     (without_pass passes play.setup.agents) (λ agent. refl))
 
--- an event that is no command of this agent
+-- an event other than this agent's commands
 not_told : (log : List Kept) (agent place : ℕ) (one : Kept) → place < length log → one ≡ get_or log place one
     → command_by agent one.event ≡ None →
     length (heard_from log agent 0 (take (place + 1) log)) ≡ length (heard_from log agent 0 (take place log))

@@ -13,7 +13,7 @@ use Rattle.bhs_shared_match.specs.Passes.{Passed, is_end, is_last, Ascend, AreBe
 use Rattle.bhs_shared_match.specs.Halls.{is_below, place_below, spoken}
 use Rattle.bhs_shared_match.proofs.PlaceLemmas.{any_push}
 
--- If the places ascend and the last one is below a bound, then all are below it.
+-- With ascending places, a bound on the last place bounds all places.
 pub all_below : (least : ℕ) (receipts : List Receipt) (place : ℕ) → Ascend least receipts
     → is_below receipts place ≡ true → AreBelow place receipts
 all_below least [] place order below = tt

@@ -22,7 +22,7 @@ use Rattle.bhs_shared_match.proofs.FoundLemmas.{AgreesAt, AnyDiffers, IsFound, s
 use Rattle.bhs_shared_match.proofs.FoundLemmas.{found_more, least_found}
 use Rattle.bhs_shared_match.proofs.OnePassLemmas.{AgreeSoFar, IsSoFar, all_joined, all_right, any_left}
 
--- The loop has passed over the log and over the passes up to this one.
+-- the loop invariant: the log and the first `count` passes have been compared
 pub record IsEnding (play : Play) (passes : List Passed) (heard : List ℕ) (count : ℕ)
     (best : Option (ℕ × ℕ)) : Type 0 where
   pub ends : (agent : ℕ) → get_or heard agent 0 ≡ length (heard_in agent play.log)

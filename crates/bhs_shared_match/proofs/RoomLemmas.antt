@@ -31,7 +31,7 @@ few_heard quota Ended used heard (Accuse port) free fits = absurd cc
 few_heard quota Ended used heard Leave free fits = absurd cc
 few_heard quota Ended used heard Bad free fits = absurd cc
 
--- There is room for the receipt of a command that is heard.
+-- A pass has room for every heard command's receipt.
 pub room_to_hear : (play : Play) (agent : ℕ) (command : Command) → AreFit play
     → IsHeard play agent command → heard_count agent play.log < play.setup.quota + 2
 room_to_hear play agent command fit is =

@@ -25,7 +25,7 @@ use Rattle.bhs_world.proofs.ListLemmas.{changed_same}
 use Rattle.bhs_match.specs.Matches.{Play, world_in, state_of, shown_at}
 use Rattle.bhs_shared_match.specs.Halls.{spoken}
 
--- The text of the reply, if it has one, is this text.
+-- The reply's text, where present, equals this text.
 abbrev pub Shows : (shown : List ℕ) → Reply → Type 0
 Shows shown (Here ports came board) = board ≡ shown
 Shows shown (Changed board) = board ≡ shown

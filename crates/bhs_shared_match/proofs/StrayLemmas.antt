@@ -10,7 +10,7 @@ use Rattle.bhs_shared_match.specs.Arrivals.{receipt_at}
 use Rattle.bhs_shared_match.specs.Comparing.{IsFirstDifference}
 use Rattle.bhs_shared_match.proofs.PlaceLemmas.{get_take, same_at_each}
 
--- The entry that is read at an index is the one stored there.
+-- Reading an index gives the stored entry.
 said_at : {A : Type 0} (said : List A) (index : ℕ) (one : A) → index < length said → one ≡ get_or said index one
     → slice_get (map Some said) index ≡ Some (Some one)
 said_at said index one inside is = slice_get-map (λ (x : _). Some x) said index

@@ -28,12 +28,12 @@ entry_of whole place command mark = record {
   reply = read_if whole mark;
 }
 
--- the command of an event, if it is a command of this agent
+-- this agent's command in an event, where present
 abbrev pub command_by : (agent : ℕ) → Event → Option Command
 command_by agent (Tell other command) = if agent == other then Some command else None
 command_by agent event = None
 
--- prepends a command as an entry, if there is one
+-- prepends an optional command as an entry
 abbrev pub entry_first : (whole : List Kept) → (place : ℕ) → Option Command → Option Mark → List HeardEntry
     → List HeardEntry
 entry_first whole place (Some command) mark others = entry_of whole place command mark ∷ others

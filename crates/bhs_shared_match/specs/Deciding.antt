@@ -6,8 +6,8 @@ use Rattle.bhs_match.specs.Matches.{Play}
 use Rattle.bhs_shared_match.specs.declared.model.Tally.{Tally}
 use Rattle.bhs_shared_match.specs.Tallies.{IsLegalHistory}
 
--- The observation holds of some legal history of a match with this network and setup. The contract of a lock can say no
--- more; that the history is the one under the lock, and not another one, is tested only.
+-- The observation holds of some legal history of a match with this network and setup. A lock's contract can say no
+-- more: tests alone show that it is the history under this lock.
 pub record WasSeen (net : Network) (setup : Setup) (IsSo : Play → Type 0) : Type 0 where
   pub play : Play
   pub tallies : List Tally

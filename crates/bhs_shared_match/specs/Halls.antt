@@ -1,4 +1,4 @@
--- The state under the lock, and the effect of a command on it and on a pass.
+-- The locked state, and the effect of a command on this state and on a pass.
 use Rattle.std.specs.Prelude.{ℕ, ◌≡◌, Bool, true, false, ◌&&◌, not, Option, Some, None, List, [], ◌==◌, nat_lt}
 use Rattle.std.specs.Prelude.{if◌then◌else◌, length, slice_get, ◌-◌, replicate, is_some}
 use Rattle.bhs_model.specs.declared.commands.Command.{Command}
@@ -46,7 +46,7 @@ same_bool a b = if a then b else not b
 abbrev pub same_tally : (one two : Tally) → Bool
 same_tally one two = (one.commands == two.commands) && same_bool one.ended two.ended
 
--- whether the receipt, if there is one, has a place below this length
+-- whether an optional receipt's place lies below this length
 abbrev pub place_below : Option Receipt → (length : ℕ) → Bool
 place_below (Some receipt) length = nat_lt receipt.place length
 place_below None length = true

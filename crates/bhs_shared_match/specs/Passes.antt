@@ -53,7 +53,7 @@ abbrev pub Ascend : (least : ℕ) → List Receipt → Type 0
 Ascend least [] = Unit {0}
 Ascend least (receipt ∷ receipts) = (least ≤ receipt.place) × Ascend (receipt.place + 1) receipts
 
--- All places of these receipts are below this one.
+-- Every receipt's place lies below this one.
 abbrev pub AreBelow : (place : ℕ) → List Receipt → Type 0
 AreBelow place receipts = AllByRecursion (λ receipt. receipt.place < place) receipts
 

@@ -11,7 +11,7 @@ use Rattle.bhs_shared_match.specs.Halls.{Housed, agrees, is_below, IsOfBoard}
 use Rattle.bhs_shared_match.specs.Tallies.{IsLegalHistory}
 use Rattle.bhs_shared_match.specs.Passes.{Passed, AreBelow, tally_in, gained}
 
--- whether the reply is a refusal
+-- Decides whether a reply refuses its command, which then changes no state.
 abbrev pub is_unheard : Reply → Bool
 is_unheard Over = true
 is_unheard (No Agent) = true
@@ -51,14 +51,14 @@ pub record IsUnrecorded (pass : Passed) (command : Command) (said : Reply) (pass
   pub why : (said ≡ No Agent) ⊎ ((said ≡ Over)
       ⊎ (Some said ≡ option_map No (refusal_by pass.quota (tally_in pass.receipts) command)))
 
--- the pass after a command, with or without a place in the log
+-- the pass after a logged or unlogged command
 abbrev pub IsSubmitted : Passed → Command → (place : Option ℕ) → Reply → Passed → Type 0
 IsSubmitted pass command (Some place) said pass' = IsRecorded pass command place said pass'
 IsSubmitted pass command None said pass' = IsUnrecorded pass command said pass'
 
--- A command that may need memory: in some legal history that agrees with the pass, its reply contains a whiteboard or
--- confirms a write. The commands Depart, Accuse, Leave and Bad have no such reply, nor does a command that the pass's
--- own tally refuses. That the match is not over is a clause of `Hall::told`.
+-- A command that may need memory: in some legal history consistent with the pass, its reply contains a whiteboard or
+-- confirms a write. Depart, Accuse, Leave and Bad never need memory, nor do commands that the pass's own tally refuses.
+-- `Hall::told` states that the match is open.
 pub record MayWantMemory (pass : Passed) (command : Command) : Type 0 where
   pub hall : Housed
   pub legal : IsLegalHistory hall.play hall.tallies

@@ -17,7 +17,7 @@ AnyOther agent index entry (pass ∷ passes) =
     ((pass.agent ≡ agent) × (slice_get (receipted pass.receipts pass.commands) index ≢ Some entry))
     ⊎ AnyOther agent index entry passes
 
--- whether the agent has a pass, and all its passes have this command at this index
+-- whether the agent has a pass, and all passes of the agent record this command at this index
 abbrev pub IsSaid : Bool → List Passed → (agent index : ℕ) → HeardEntry → Type 0
 IsSaid true passes agent index entry = (has_pass passes agent ≡ true) × AllSay agent index entry passes
 IsSaid false passes agent index entry = (has_pass passes agent ≡ false) ⊎ AnyOther agent index entry passes

@@ -36,7 +36,7 @@ pub record IsLeastDifference {A : Type 0} (all : List (Compared A)) (agent index
   pub there : DiffersAt agent index all
   pub before : AllByRecursion (IsBefore agent index) all
 
--- the least difference, if there is any
+-- the least difference, where one exists
 abbrev pub IsLeast : {A : Type 0} → List (Compared A) → Option (ℕ × ℕ) → Type 0
 IsLeast all None = Agree all
 IsLeast all (Some found) = IsLeastDifference all found.0 found.1
@@ -46,13 +46,13 @@ abbrev pub precedes : (agent index : ℕ) → ℕ × ℕ → Bool
 precedes agent index other = if nat_lt agent other.0 then true
     else (if agent == other.0 then nat_lt index other.1 else false)
 
--- the lesser of a difference and of an agent's index, where either may be absent
+-- the lesser of an optional difference and an agent's optional index
 abbrev pub lesser : Option (ℕ × ℕ) → (agent : ℕ) → Option ℕ → Option (ℕ × ℕ)
 lesser best agent None = best
 lesser None agent (Some index) = Some (agent, index)
 lesser (Some best) agent (Some index) = if precedes agent index best then Some (agent, index) else Some best
 
--- whether one of these passes belongs to the agent
+-- whether some pass belongs to the agent
 abbrev pub has_pass : List Passed → (agent : ℕ) → Bool
 has_pass passes agent = list_any (λ pass. pass.agent == agent) passes
 

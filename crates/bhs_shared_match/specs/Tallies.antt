@@ -11,7 +11,7 @@ use Rattle.bhs_model.specs.InOrder.{replies}
 use Rattle.bhs_match.specs.Matches.{Play, world_in, state_of}
 use Rattle.bhs_shared_match.specs.declared.model.Tally.{Tally}
 
--- whether the event is a command of the agent
+-- Decides whether an event of the log is a command of this agent.
 abbrev pub is_told_by : (agent : ℕ) → Event → Bool
 is_told_by agent (Tell other command) = agent == other
 is_told_by agent event = false

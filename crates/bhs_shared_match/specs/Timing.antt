@@ -39,7 +39,7 @@ abbrev pub stepped_if : Option ℕ → Timed → Timed
 stepped_if None timed = timed
 stepped_if (Some agent) timed = stepped agent timed
 
--- The times after a turn, with the agent that arrived in it, if any. Turns are counted up to 2 ^ 32 - 1.
+-- The times after a turn, given the optional arriving agent. Turn numbers stop at 2 ^ 32 - 1.
 abbrev pub turned : Option ℕ → Timed → Timed
 turned arrived timed =
     record (stepped_if arrived timed) { turn = min ((stepped_if arrived timed).turn + 1) (2 ^ 32 - 1) }
@@ -54,13 +54,13 @@ pub record HaveTurns (play : Play) (turns room : ℕ) : Type 0 where
   pub count : turns ≡ length play.log
   pub room_for : most_kept play.setup.agents play.setup.quota ≤ room
 
--- the agent that a draw delivers, if any, when the match is in this state
+-- the agent that a draw delivers in this state
 abbrev pub arrived_by : State → Drawn → Option ℕ
 arrived_by state (Delivered agent) = if is_bound (state.position agent) then None else Some agent
 arrived_by state drawn = None
 
--- The event of a turn, if it has one. Under the adaptive schedule the dealer's next word draws it from the pool; under
--- the oblivious schedule it is the delivery that the dealer's words determine.
+-- The optional event of a turn. Adaptive schedule: the dealer's next word draws it from the pool. Oblivious schedule:
+-- the dealer's words determine the delivery.
 abbrev pub event_of_turn : ScheduleKind → Held → Play → Timed → ChaCha → Option Event
 event_of_turn Adaptive held play timed dealer = draw held (state_of play) (next_word dealer)
 event_of_turn (Oblivious law) held play timed dealer =

@@ -1,4 +1,4 @@
-//! Hooks on each command, before and under the lock.
+//! Hooks for every command, before and under the lock.
 
 /// Hooks that are called before, under and after a match's lock for each submitted command. Tests use them to make
 /// threads wait for each other.

@@ -104,7 +104,7 @@ impl KeptCommand {
     }
 }
 
-// Returns whether these are the texts of a Write.
+// Returns whether a stored Write has these texts.
 fn are_texts(texts: &Option<Box<WriteTexts>>, expect: &str, put: &str) -> bool
     ensures { IsTrue result ↔ (Write expect.now put.now ≡ write_of texts.now) }
 {

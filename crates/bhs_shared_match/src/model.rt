@@ -10,7 +10,7 @@ pub struct Receipt {
     pub reply: Reply,
 }
 
-/// The reply to a command, and its place in the log; None if it was not heard.
+/// A command's reply, with its log place; None for refused commands.
 #[derive(Debug, Drop)]
 pub struct Answer {
     pub place: Option<u32>,
@@ -39,6 +39,6 @@ pub(crate) struct Spare {
     pub(crate) text: Text,
     /// The same for the receipt.
     pub(crate) again: Text,
-    /// The form in which the command will be stored.
+    /// The command's future stored form.
     pub(crate) kept: KeptCommand,
 }

@@ -19,8 +19,8 @@ pub enum Dispute {
     Missing { agent: u16 },
     /// The match has another network or setup than the cell was given.
     World,
-    /// The agent's receipts and stored commands differ from its heard commands in the log. This is the least index at
-    /// which they differ, or the end of one of them. An agent without a pass may have no heard command.
+    /// The agent's receipts and stored commands differ from its heard commands in the log. The index is the first
+    /// difference, possibly the shorter list's end. Without a pass, an agent must have no heard command.
     Differs { agent: u16, receipt: usize },
     /// The arrival at this index of a pass differs from the agent's arrival in the log.
     Arrival { agent: u16, index: usize },
@@ -28,7 +28,7 @@ pub enum Dispute {
     NotClosed,
 }
 
-/// A match that does not settle, with the reason and the parts that were handed in.
+/// An unsettled match: the reason, and all parts for return.
 #[derive(Debug, Drop)]
 pub struct Unsettled {
     pub why: Dispute,

@@ -60,9 +60,9 @@ impl Showcase {
         Some(ShowNote { note: cell.note() })
     }
 
-    /// Shows a verdict on a match unless one is shown already. If the match exists, the note must belong to it, and
-    /// records the verdict that is shown then. A verdict on a match that does not exist, or for which memory runs out,
-    /// is not shown, and the note is unchanged.
+    /// Shows a verdict on a match, unless a verdict is shown already. For an existing match, the note must belong to
+    /// the match, and records the shown verdict. An unknown match, or exhausted memory, shows nothing and leaves the
+    /// note unchanged.
     pub fn show(&self, game: u32, verdict: Verdict, note: &mut ShowNote) -> Result<Show, Memory>
         requires { IsOf self.now game note.old }
         ensures shown { IfOk result (λ show. Shows (slice_get self.now game) verdict note.old show note.new) }

@@ -4,7 +4,7 @@ use Rattle.bhs_model.specs.Runs.{Position, Before, At, Bound, After}
 use Rattle.bhs_state.specs.declared.standings.Standing.{Standing}
 use Rattle.bhs_state.specs.declared.standings.Standing.TheVariants.{Outside, Present, Away, Ended}
 
--- The state of an agent: its position, the commands that it has used of its quota, and whether it is lost.
+-- An agent's state: position, used commands of the quota, and whether it is lost.
 pub record AgentState : Type 0 where
   pub position : Position
   pub used : ℕ

@@ -25,8 +25,8 @@ pub fn controls(character: char) -> bool
     )
 }
 
-/// Lines in which each character that controls a terminal is spelled as JSON may spell it in a string: `\u` and four
-/// hexadecimal digits. So JSON stays the same JSON. All other characters stay as they are, and so do line feeds.
+/// Lines whose terminal control characters are escaped as in JSON strings: `\u` with four hexadecimal digits. JSON
+/// keeps its meaning. All other characters, line feeds included, are unchanged.
 pub fn visible(alloc: Global, text: &str) -> Result<String, AllocError>
     ensures { IfOk result (λ shown. string_bytes shown ≡ visible text.now) }
 {

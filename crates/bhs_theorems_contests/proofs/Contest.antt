@@ -87,7 +87,7 @@ heard_run world state [] all = all
 heard_run world state (event ∷ events) all =
     heard_run world (next world state event) events (heard_next world state event all)
 
--- a session that ended with an accusation is not one that left
+-- a session that ended with an accusation did not leave
 never_left : (quota : ℕ) (view : View) → standing view ≡ Stopped → IsHeard quota (Told view commands.Leave Nothing) → ⊥
 never_left quota view stopped is =
     false≢true (sym (ap (λ (s : Standing). accepts s (nat_lt (used view) quota) commands.Leave) stopped) ∙ is.0)

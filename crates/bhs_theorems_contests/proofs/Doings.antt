@@ -24,8 +24,8 @@ IsBy step (Hears command glance) = step ≡ Says command
 IsBy step (Refuses command) = step ≡ Says command
 IsBy step (Arrives sight) = Unit {0}
 
--- An odd agent: it is on a link and its strategy does not wait, or it is at a node and its strategy has stopped. No
--- schedule of an orderly team that solves leads to one.
+-- An odd agent: on a link its strategy does not wait, or at a node its strategy has stopped. Schedules of an orderly
+-- team that solves lead to no odd agent.
 abbrev pub IsOdd : Standing → Step → Type 0
 IsOdd stands step =
     ((stands ≡ Away) × (step ≢ Stops)) ⊎ ((takes_commands stands ≡ true) × (step ≡ Stops))

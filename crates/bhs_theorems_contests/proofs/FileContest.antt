@@ -32,7 +32,7 @@ at_place : {X Y Z : Type 0} (f : X → Z) (g : Y → Z) (xs : List X) (ys : List
 at_place f g xs ys place same =
     sym (slice_get-map f xs place) ∙ ap (λ zs. slice_get zs place) same ∙ slice_get-map g ys place
 
--- a property of the role at a place is a property of that role in the list of all roles
+-- A property of the role at some place holds of this role in the list of all roles.
 shown_at : {Z : Type 0} (g : Role → Z) (roles : Roles) (place : ℕ) (z : Z) (found : Option Role)
     → slice_get (all_roles roles) place ≡ found → option_map g found ≡ Some z → g (role_at roles place) ≡ z
 shown_at g roles place z None is shown = absurd (cc)

@@ -87,7 +87,7 @@ module _ (trial : Trial) (final : ℕ → View) (orderly : IsOrderly trial) (mov
       (stands_at trial final front agent
       ∙ ap (λ (state : State). standing_at (state.position agent)) (sym (state_is trial final front k))) odd)
 
-  -- ---- up to what stands in the log
+  -- ---- induction on the length of the log's prefix
 
   -- a scene in which the agent's next doing is this meeting, as its strategy says
   record IsReady (front : List Event) (agent : ℕ) (meeting : Meeting) : Type 0 where

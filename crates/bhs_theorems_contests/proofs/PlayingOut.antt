@@ -159,7 +159,7 @@ answer_other limit Outside ports (Write expect put) glance = sight_other limit (
 answer_other limit Present ports (Write expect put) glance = sight_other limit (Write expect put) glance
 answer_other limit Ended ports (Write expect put) glance = sight_other limit (Write expect put) glance
 
--- a reply that equals an answer to a command is not Over
+-- a command's reply differs from Over
 not_over : (reply other : Reply) → IsOther other → reply ≡ other → reply ≡ Over → ⊥
 not_over reply other is same over = subst IsOther (sym same ∙ over) is
 

@@ -72,7 +72,7 @@ open_by world state agent (Deliver traveller) own =
     at After = refl
 open_by world state agent Close own = absurd own
 
--- the action of an agent that is at a node or has not entered
+-- the action of an agent at a node or before entering
 pub says_deed : (held : Held) (wakeups : ℕ) (position : Position) (woken : ℕ) (command : Command) (agent : ℕ)
     → takes_commands (standing_at position) ≡ true
     → action_at held wakeups position woken (Says command) agent ≡ Makes (Tell agent command)

@@ -33,7 +33,7 @@ pub turns-append : (trial : Trial) (scene : Scene) (one two : List ℕ)
 turns-append trial scene [] two = refl
 turns-append trial scene (agent ∷ one) two = turns-append trial (turn trial scene agent) one two
 
--- ---- who has stopped at a node
+-- ---- agents that stopped at a node
 
 pub record HasStopped (trial : Trial) (agent : ℕ) (position : Position) (history : History)
     (scene : Scene) : Type 0 where
@@ -91,7 +91,7 @@ stays trial agent node came history stops = record {
   ];
 }
 
--- ---- and is at a node when the match is judged
+-- ---- and stand at a node when the match is judged
 
 unsolved : (wrong silent unfinished dark : Bool) (guess : Outcome) → unfinished ≡ true
     → (if wrong then Wrong else (if silent then Silent else (if unfinished then Unfinished

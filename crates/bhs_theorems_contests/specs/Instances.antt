@@ -76,9 +76,9 @@ pub record IsSearchedInContests (net : Network) (home : ℕ) : Type 0 where
 abbrev pub MapsSolveContests : Type 0
 MapsSolveContests = (net : Network) (home : ℕ) → IsNetwork net → home < nodes_of net → IsSearchedInContests net home
 
--- Take a network in a contest, with two agents, one black hole and no dark link, and a plan for it. If the contest
--- settled, both agents have ended or are lost, and each was played by a client that follows the plan, then the match is
--- solved within 6 (n - 2) R + 2 (n - 1) moves, one agent lost. Each network of a file has such a plan.
+-- Consider a contest's network with two agents, one black hole and no dark link, and a plan for this network. If the
+-- contest settled, both agents have ended or are lost, and clients that follow the plan played them, then the match is
+-- solved within 6 (n - 2) R + 2 (n - 1) moves, with one agent lost. Every network of a file has such a plan.
 abbrev pub DividersSolveContests : Type 0
 DividersSolveContests = (play : Play) (hole wakeups : ℕ) (plan : Plan) (clients : (agent : ℕ) → Attended)
     → divided.IsSearchedBy (world_in play) (nodes_of play.net) hole plan → 5 ≤ play.setup.board

@@ -129,7 +129,7 @@ pub record Arriving (world : World) (state : State) (agent : ℕ) (position : Po
   pub sight : Sight
   pub past_is : (delivered world state agent position).past agent ≡ Arrived (state.past agent) sight
   pub away : standing_at position ≡ Away
-  -- After its arrival the agent is on no link.
+  -- Arriving ends the agent's travel.
   pub lands : is_bound ((delivered world state agent position).position agent) ≡ false
 
 arriving_at : (world : World) (state : State) (agent : ℕ) (position : Position)

@@ -132,7 +132,7 @@ module _ (world : World) (state : State) (agent : ℕ) (whole : List Kept) (plac
       in subst P (eqb-true agent other own) (tell_own command mark) is_heard answered rest)
       (λ apart. tell_other other command mark apart rest)
 
-  -- a Deliver that is no arrival of this agent
+  -- a Deliver without an arrival of this agent
   arrives_not : (other : ℕ) (mark : Option Mark) → is_arrival agent (Deliver other) mark ≡ false →
       (next world state (Deliver other)).past agent ≡ state.past agent →
       Then (Deliver other) → Now (Deliver other) mark

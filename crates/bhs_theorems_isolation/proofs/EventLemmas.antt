@@ -1,4 +1,4 @@
--- The effect of one command: on its agent, and on all other agents.
+-- Effects of one command: on its own agent, and on all other agents.
 use Rattle.std.proofs.Common.{◌≡◌, ◌≢◌, ◌∙◌, ℕ, ◌<◌, Bool, true, false, not, ◌&&◌, nat_lt, Option, Some, [], ◌∷◌, refl}
 use Rattle.std.proofs.Common.{sym, ap, subst, arith}
 use Rattle.std.proofs.lemmas.Bool.{cond-true, lt-ltb}
@@ -23,7 +23,7 @@ use Rattle.bhs_theorems_isolation.specs.Met.{Meeting, Hears, Refuses, past_after
 use Rattle.bhs_theorems_isolation.specs.Met.{IsDue}
 use Rattle.bhs_model.proofs.LegalLemmas.{either}
 
--- A match with this setup and an agent of it.
+-- A match with this setup, including this agent.
 pub record IsIn (setup : Setup) (agent : ℕ) (game : Game) : Type 0 where
   pub setup_is : game.setup ≡ setup
   pub within : agent < setup.agents
@@ -56,7 +56,7 @@ pub record Answered (setup : Setup) (view new : View) (command : Command) (repli
   pub ends_it : is_last (answer_to setup.board view meeting) ≡ true → takes_commands (standing new) ≡ false
   pub goes_on : is_last (answer_to setup.board view meeting) ≡ false → standing new ≢ Ended
 
--- The position of an agent at a node after a command other than a departure.
+-- Commands other than departures keep an agent at its node, or end it there.
 pub stays_here : (world : World) (limit : ℕ) (standing : Standing) (ports : ℕ) (glance : Glance) (position : Position)
     (command : Command) →
     is_last (answer limit standing ports command glance) ≡ true → is_bound position ≡ false

@@ -56,7 +56,7 @@ arrival game agent comes =
           (state_of-played game (Deliver agent) ∙ next_arrived world state agent comes) ∙ at.past_is;
     }
 
--- An agent that has arrived is on no link.
+-- Arriving ends the agent's travel.
 pub arrived_here : (game : Game) (agent : ℕ) → arrives (world_in game) (state_of game) agent ≡ true
     → is_away (played game (Deliver agent)) agent ≡ false
 arrived_here game agent comes =

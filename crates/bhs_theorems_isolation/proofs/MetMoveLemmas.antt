@@ -102,7 +102,7 @@ module _ (stage : Stage) (mover : ℕ) (connection : Connection) (within : mover
   there_still conn below = subst (λ (count : ℕ). conn < count)
       (sym (length-set stage.connections mover turn.connection)) below
 
-  -- The invariant after a move, for the moving connection and for the others; this text was sent before.
+  -- The invariant after a move, for the moving connection and for all others, given the earlier output.
   pub moved : (conn : ℕ) (text : List ℕ) (input : Fed) (sent : List ℕ) → conn < length stage.connections →
       (conn ≢ mover → IsKnown stage (connection_at stage conn) input sent (connection_at stage conn).seat) →
       (conn ≡ mover → IsReady stage connection input (sent ++ text) connection.seat) →

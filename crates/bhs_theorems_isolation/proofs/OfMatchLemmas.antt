@@ -73,7 +73,7 @@ same_through game one two three first second = record {
       ∙ second.connections conn (sym (plays_in_both game one two first conn) ∙ elsewhere);
 }
 
--- An agent of the match has a seat there.
+-- Agents of the match have seats there.
 seat_by : (game : ℕ) (own : Option (ℕ × ℕ)) → plays_in game (bare own) ≡ true → (agent : ℕ)
     × (own ≡ Some (game, agent))
 seat_by game None here = absurd (cc)

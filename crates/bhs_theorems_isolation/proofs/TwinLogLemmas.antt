@@ -86,7 +86,7 @@ twins-one world other events others agent twins doomed harmless = record {
   other_reveals_nothing = twins.other_reveals_nothing;
 }
 
--- ---- an event that destroys in neither world is kept in both or in neither
+-- ---- events that destroy in neither world: both matches keep the event, or both drop it
 
 kept_by : (closed bound lost there : Bool) →
     ((not closed && (bound && true)) || ((not closed && false) && not lost)) ≡ ((not closed && (bound && true)) ||

@@ -7,7 +7,7 @@ use Rattle.bhs_rehearsal.specs.Stages.{Instruction, Feeds, EndsInput, Draws, Del
 
 -- ---- what it is fed
 
--- the input up to its end, and whether it has ended
+-- the connection's input before its end, with a flag for the end
 pub record Fed : Type 0 where
   pub bytes : List ℕ
   pub has_ended : Bool

@@ -9,7 +9,7 @@ use Rattle.bhs_model.specs.Replying.{answer, here, hears, refusal}
 use Rattle.bhs_session.specs.Texts.{text_of}
 
 pub data Meeting : Type 0 where
-  -- a command that was heard, with what it showed of the node
+  -- a heard command, with the node's answer
   Hears : Command → Glance → Meeting
   -- a command that was refused
   Refuses : Command → Meeting
@@ -60,7 +60,7 @@ bytes limit met = bytes_from limit Start met
 
 -- ---- what can be met
 
--- Whether lines are taken from an agent with this standing: not on a link, and not after its end.
+-- Whether an agent with this standing takes lines: neither on a link nor after its end.
 abbrev pub takes_commands : Standing → Bool
 takes_commands Away = false
 takes_commands Ended = false

@@ -87,7 +87,7 @@ clean_event : (world : World) (state : State) (tainted : ℕ → Bool) (event : 
 clean_event world state tainted None clean = clean
 clean_event world state tainted (Some event) clean = clean
 
--- The invariant after an act that is not chosen.
+-- The invariant after an unchosen act.
 gone_clear : (live : ℕ → Bool) (early : Footprint) (agent : ℕ) (lates : List Footprint) →
     early.who ≡ Some agent → list_any (needs early) lates ≡ false →
     ((other : ℕ) → live other ≡ false → list_any (is_by other) lates ≡ false) →

@@ -17,7 +17,7 @@ use Rattle.bhs_time.specs.TimedRuns.{timed_run_from, timed_events_from, timed_ev
 use Rattle.bhs_time.specs.Laws.{HolesDoNotShowInTime}
 use Rattle.bhs_time.proofs.StampLemmas.{happened_state}
 
--- If neither agent arrives where the other is destroyed, then both arrive or neither does.
+-- Unless one agent arrives where the other is destroyed, their arrivals coincide.
 same_arrival : (could here there : Bool) → (could && not here) && there ≡ false → (could && not there) && here ≡ false →
     (could && not here) ≡ (could && not there)
 same_arrival false here there none none_too = refl

@@ -1,4 +1,4 @@
--- Events that are not observed can be left out.
+-- Unobserved events can be left out.
 use Rattle.std.proofs.Common.{arith, ℕ, ◌≡◌, ◌+◌, Bool, true, false, not, ◌&&◌, ◌==◌, Option, Some, None, List, [], ◌∷◌}
 use Rattle.std.proofs.Common.{nat_lt, refl, sym, ap, ap₂, ◌∙◌, if◌then◌else◌, inl, inr, subst}
 use Rattle.std.proofs.lemmas.Bool.{cond-true, cond-false, true≢false, false≢true}
@@ -150,7 +150,7 @@ module _ (world : World) (live tainted : ℕ → Bool) (here there : TimedState)
       (subst (λ (after : TimedState). AreAlike live tainted here after)
       (sym (cond-false _ _ _ (sym same ∙ unheard))) alike))
 
-  -- a command that is left out
+  -- the case of a dropped command
   left_writes : (writes : ℕ → TimedWrite) (position : Position) (command : Command) (past : TimedView) (node : ℕ) →
       taint tainted (node_written position command) node ≡ false →
       writes_then writes position command past node ≡ writes node

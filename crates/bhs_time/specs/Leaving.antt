@@ -11,7 +11,7 @@ use Rattle.bhs_time.specs.Schedules.{Schedule}
 use Rattle.bhs_time.specs.TimedRuns.{TimedState, timed_initial, TimedAct, Says, Passes, Ends, delivery_now, timed_next}
 use Rattle.bhs_time.specs.TimedRuns.{timed_run}
 
--- an act, and whether it is kept
+-- an act with a keep flag
 pub record Marked : Type 0 where
   pub act : TimedAct
   pub kept : Bool

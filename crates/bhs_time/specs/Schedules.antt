@@ -12,7 +12,7 @@ pub record Schedule : Type 0 where
 abbrev pub releases : Schedule → (agent departed turn : ℕ) → Bool
 releases schedule agent departed turn = agent == schedule.picked turn && schedule.ready agent departed turn
 
--- The random words of a match: one for each turn, and one for each agent and each turn at which it may depart.
+-- A match's random words: one per turn, plus one per agent and possible turn of departure.
 pub record Words : Type 0 where
   pub picks : (turn : ℕ) → ℕ
   pub delays : (agent departed : ℕ) → ℕ

@@ -44,8 +44,8 @@ abbrev pub delivery_if : Held → State → (agent : ℕ) → (is_ready : Bool) 
 delivery_if held state agent true = delivery_to held state (Some agent)
 delivery_if held state agent false = None
 
--- The event of a turn, given the turns of departure: the Deliver of the agent that the schedule picks, if it is due.
--- After the close there is no event.
+-- The event of a turn, given the turns of departure: a Deliver of the agent that the schedule picks, once due. Closed
+-- matches have no further event.
 abbrev pub delivery_in : Held → Schedule → State → (departed : ℕ → ℕ) → (turn : ℕ) → Option Event
 delivery_in held schedule state departed turn =
     let agent = schedule.picked turn in

@@ -11,7 +11,7 @@ use Rattle.bhs_files.specs.declared.faults.FileFault.TheVariants.{KeyTwice}
 use Rattle.bhs_setups.specs.KeyTable.{Seat, same_key, seat_at}
 use Rattle.bhs_tournament.specs.KeyTable.{seats_of_match, seats_from, distinct, key_table, key_of, LetsIn}
 
--- The seat is one of these.
+-- This seat belongs to the list.
 abbrev Has : List Seat → Seat → Type 0
 Has [] seat = ⊥
 Has (x ∷ xs) seat = (x ≡ seat) ⊎ Has xs seat

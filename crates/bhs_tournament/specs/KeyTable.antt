@@ -5,7 +5,7 @@ use Rattle.bhs_setups.specs.KeyTable.{Seat, seat_at, has_key}
 use Rattle.bhs_files.specs.declared.faults.FileFault.{FileFault}
 use Rattle.bhs_files.specs.declared.faults.FileFault.TheVariants.{KeyTwice}
 
--- the keys of a match, from this agent on
+-- the keys of a match, starting at this agent
 abbrev pub seats_of_match : ℕ → ℕ → List (List ℕ) → List Seat
 seats_of_match game agent [] = []
 seats_of_match game agent (key ∷ keys) = (key, (game, agent)) ∷ seats_of_match game (agent + 1) keys

@@ -27,7 +27,7 @@ use Rattle.bhs_files.specs.Reading.{◌>>=◌}
 abbrev pub names_of : List Planned → List (List ℕ)
 names_of matches = first_seen (map (λ planned. planned.network) matches)
 
--- the network whose index is that of the name
+-- the network at the name's index
 abbrev pub network_named : (names : List (List ℕ)) → List Network → (name : List ℕ) → Network
 network_named names networks name = slice_index_or networks (position_or_len (same_name name) names) []
 

@@ -16,7 +16,7 @@ use Rattle.bhs_model.proofs.CutLemmas.{Agree, AgreeOnAll, changed_alike, apart, 
 use Rattle.bhs_model.proofs.CutLemmas.{agree_at_first}
 use Rattle.bhs_model.proofs.KeptLemmas.{first_kept}
 
--- The agent of an event is lost in both matches, or in neither.
+-- An event's agent is lost in both matches, or in neither match.
 abbrev pub LostAlike : (whole part : ℕ → Bool) → Footprint → Type 0
 LostAlike whole part late = (agent : ℕ) → late.who ≡ Some agent → whole agent ≡ part agent
 

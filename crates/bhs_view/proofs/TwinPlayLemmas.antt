@@ -76,7 +76,7 @@ is_free play node fits =
     (first_arrival (world_in play) node (events_of play.log)) fits in
     record { is_node = ltb-true _ _ parts.0; away = parts.1; no_hole = parts.2; unreached = parts.3 }
 
--- a twin, in terms of the match that it was made from
+-- a twin, described by its original match
 pub record IsTwinOf (whole part : Play) (node : ℕ) (holes : List ℕ) (dark : List (ℕ × ℕ))
     (old : Option ℕ) : Type 0 where
   pub moved : HasMoved (world_in whole) holes dark old node

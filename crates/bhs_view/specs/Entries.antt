@@ -6,7 +6,7 @@ use Rattle.bhs_model.specs.declared.replies.Reply.{Reply}
 use Rattle.bhs_model.specs.declared.marks.Kept.{Kept}
 use Rattle.bhs_model.specs.Marks.{read_if}
 
--- an event, with its reply if it got one
+-- an event with its optional reply
 abbrev pub LogEntry : Type 0
 LogEntry = Event × Option Reply
 

@@ -49,8 +49,8 @@ first_accused_from world state [] = None
 first_accused_from world state (event ∷ events) =
     option_or (hole_accused world state event) (first_accused_from world (next world state event) events)
 
--- The black hole that a twin removes: the first that is accused by a link that is not dark; without such an accusation
--- the least; none if there is none.
+-- The black hole that a twin removes: the first one accused by an intact link; otherwise the least black hole; None
+-- without black holes.
 abbrev pub replaced : World → List Event → Option ℕ
 replaced world events =
     option_or (first_accused_from world initial events) (find (is_hole world.holes) (range_with_len 0 world.net.nodes))

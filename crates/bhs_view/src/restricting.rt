@@ -40,8 +40,7 @@ impl From<Memory> for RestrictFault {
     }
 }
 
-/// Replays the events at a closed set of places of the log, followed by a Close. Each event has the reply that it has
-/// in the whole log.
+/// Replays the events at a closed set of log places, then a Close. Every event keeps its reply.
 pub fn restrict(alloc: Global, sealed: &Sealed, places: &[u32]) -> Result<Sealed, RestrictFault>
     ensures played { IfOk result (λ part. IsRestricted sealed.now places.now part) }
     ensures fit { OnOk result (first_fault sealed.now places.now ≡ None) }

@@ -56,10 +56,9 @@ pub struct Twin {
     pub left: Vec<bool>,
 }
 
-/// Returns the twin: a match with a black hole at this node that no agent could tell apart. It removes the black hole
-/// that was first accused by a link that is not dark, without such an accusation the least one, and none if there is
-/// none. It leaves out each Deliver of an agent bound for the removed black hole. Nothing is replayed: the remaining
-/// events keep their replies.
+/// Returns the twin: a match with a black hole at this node, indistinguishable for every agent. It removes the black
+/// hole that an intact link accused first, otherwise the least black hole, where one exists. It drops each Deliver of
+/// an agent bound for the removed black hole. The remaining events keep their replies, without a replay.
 pub fn twin_of(alloc: Global, sealed: &Sealed, node: u16) -> Result<Twin, TwinFault>
     ensures start { IfOk result (λ twin. twin.start
         ≡ record { net = sealed.now.net; setup = twin_setup sealed.now node; log = [] }) }

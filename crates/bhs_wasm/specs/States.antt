@@ -96,7 +96,7 @@ top state = slice_get state.stack (length state.stack - 1)
 abbrev pub below : State → State
 below state = with_stack (take (length state.stack - 1) state.stack) state
 
--- the operand at a depth of the stack, as an i32
+-- the i32 operand at a depth of the stack, where depth 0 is the top
 abbrev pub operand : (depth : ℕ) → State → ℕ
 operand depth state = if nat_lt depth (length state.stack)
     then low (slice_index state.stack (length state.stack - 1 - depth)) else 0
@@ -270,7 +270,7 @@ do_memory_grow max_pages state = given (top state) (λ more.
     then pushed state.pages (record (below state) { pages = state.pages + low more })
     else pushed 0xffff_ffff (below state))
 
--- the bytes from an address on
+-- the bytes starting at an address
 unfoldable pub bytes_at : List ℕ → (at count : ℕ) → List ℕ
 bytes_at memory at zero = []
 bytes_at memory at (suc count) = bytes_at memory at count ++ slice_index memory (at + count) ∷ []
@@ -478,6 +478,6 @@ abbrev pub answered : (parameters value : ℕ) → State → StepResult
 answered parameters value state = checked (nat_le parameters (length state.stack))
     (pushed value (with_stack (take (length state.stack - parameters) state.stack) state))
 
--- the bytes from an address on; None if they do not all lie within the memory
+-- the bytes starting at an address; None beyond the memory's end
 abbrev pub bytes_in : (at count : ℕ) → State → Option (List ℕ)
 bytes_in at count state = if is_within state at count then Some (bytes_at state.memory at count) else None

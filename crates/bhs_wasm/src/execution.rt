@@ -107,7 +107,7 @@ impl Interpreter {
         }
     }
 
-    /// Returns bytes of the memory from an address on, or None if they do not all lie within the memory.
+    /// Returns memory bytes starting at an address, or None beyond the memory's end.
     pub fn bytes(&self, at: u32, count: u32) -> Result<Option<Vec<u8>>, AllocError>
         ensures { IfOk result (λ found. option_map (λ bytes. bytes.items) found
             ≡ specs.bytes_in at count (state_of self.now)) }

@@ -71,9 +71,9 @@ pub enum Instruction {
     MemoryGrow,
     MemoryCopy,
     MemoryFill,
-    /// Continues at the end of an `if`, from the end of its first part.
+    /// Jumps past the `else` part of an `if`, at the end of its first part.
     Jump { to: u32 },
-    /// Continues at the second part of an `if`, or after it, if the value is 0.
+    /// Jumps to the `else` part of an `if`, or past its end, if the value on top of the stack is 0.
     JumpIfZero { to: u32 },
     Branch { to: u32, keep: u32, height: u32 },
     BranchIf { to: u32, keep: u32, height: u32 },

@@ -44,7 +44,7 @@ pub struct Interpreter {
     pub frames: Vec<Frame>,
     pub stack: Vec<u64>,
     pub globals: Vec<u64>,
-    /// The memory up to the last byte that was written. All bytes after it are zero.
+    /// The memory up to the last written byte. Later bytes are zero.
     pub memory: Vec<u8>,
     pub pages: u32,
     pub last_reply: LastReply,

@@ -18,7 +18,7 @@ left-if : {A : Type 0} (b : Bool) (x y : A) → b ≡ false → (if b then x els
 left-if true x y isnt = cc
 left-if false x y isnt = refl
 
--- an instruction other than the last
+-- instructions before the last
 pub goes-on : (most fewer : ℕ) (flow after : Flow) (left rest : List ℕ) (whole : Read Flow) → most ≡ suc fewer
     → instructions most flow left ≡ whole → instruction_of flow left ≡ Ok (after, rest) → after.is_done ≡ false
     → instructions fewer after rest ≡ whole

@@ -232,7 +232,7 @@ branched_out (Some block) flow = Some (branched_to block (arity flow.around bloc
 abbrev pub branched : (depth : ℕ) → Flow → Option Flow
 branched depth flow = branched_out (target depth flow) flow
 
--- Branches if the value is not 0. Flat code has no conditional return, so a jump skips the return.
+-- Branches unless the value is 0. Flat code has no conditional return, so a jump skips the return.
 abbrev pub branched_if_to : BlockKind → (label keep height : ℕ) → Flow → Flow
 branched_if_to kinds.Function label keep height flow = emitted (instruction.Return keep)
     (emitted (instruction.JumpIfZero (length flow.labels)) (with_label (place flow + 2) flow))
@@ -246,7 +246,7 @@ branched_if_out (Some block) flow = let keep = arity flow.around block.kind bloc
 abbrev pub branched_if : (depth : ℕ) → Flow → Option Flow
 branched_if depth flow = branched_if_out (target depth flow) (lowered 1 flow)
 
--- the flow, if there is one, with the bytes after it
+-- an optional flow with the remaining bytes
 abbrev pub with_flow : Option Flow → List ℕ → Read Flow
 with_flow None rest = Err faults.Index
 with_flow (Some flow) rest = Ok (flow, rest)

@@ -24,7 +24,7 @@ place_of (refused.Inside kind at import) = at
 abbrev pub order : List ℕ
 order = 1 ∷ 2 ∷ 3 ∷ 4 ∷ 5 ∷ 6 ∷ 7 ∷ 8 ∷ 9 ∷ 12 ∷ 10 ∷ 11 ∷ []
 
--- the rank of a section in the order, from 1 on
+-- a section's rank in the order, counted from 1
 abbrev pub placed : Option ℕ → Option ℕ
 placed None = None
 placed (Some at) = Some (at + 1)

@@ -6,7 +6,7 @@ use Rattle.bhs_wasm_read.specs.declared.bytes.Bytes.{Bytes}
 use Rattle.bhs_wasm_read.specs.declared.faults.FaultKind.{FaultKind}
 use Rattle.bhs_wasm_read.specs.declared.faults.FaultKind.TheVariants as faults
 
--- a value and the bytes after it, or a fault
+-- a decoded value with the remaining bytes, or a fault
 abbrev pub Read : Type 0 → Type 0
 Read A = Result (A × List ℕ) FaultKind
 
@@ -49,8 +49,8 @@ abbrev pub rest_behind : (left rest : List ℕ) → Read (Unit {0})
 rest_behind [] rest = Ok (tt, rest)
 rest_behind (b ∷ left) rest = Err faults.Section
 
--- Decodes an unsigned LEB128 number below 2^bits. A byte below 2^7 is the last and must be below 2^bits. Any other byte
--- has the lowest seven bits; a number with seven bits fewer follows.
+-- Decodes an unsigned LEB128 number below 2^bits. A byte below 2^7 ends the number and must be below 2^bits. Other
+-- bytes contribute their lowest seven bits; the rest of the number has seven bits fewer.
 unfoldable pub unsigned : List ℕ → (bits : ℕ) → Read ℕ
 unsigned [] bits = Err faults.End
 unsigned (b ∷ rest) bits =

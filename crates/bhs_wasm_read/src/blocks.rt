@@ -22,7 +22,7 @@ pub(crate) struct Context<'m> {
     pub(crate) imports: &'m [HostFunction],
     /// The types of the module's own functions.
     pub(crate) functions: &'m [u32],
-    /// The types of the globals, and whether they are mutable.
+    /// The types of global variables, with their mutability.
     pub(crate) globals: &'m [(ValueType, bool)],
     pub(crate) has_memory: bool,
     pub(crate) has_table: bool,
@@ -35,7 +35,7 @@ pub(crate) enum BlockKind {
     Block,
     /// Branches lead to its first instruction.
     Loop,
-    /// The first part of an `if`. This label names the start of the second part.
+    /// An `if`'s first part. This label names the start of the second part.
     If(u32),
 }
 

@@ -124,7 +124,7 @@ pub told-first_in : (said : Said) (ms : Members) → IsSaidBy said ms → told s
 told-first_in said ms is =
     ap (λ o. told_with o said) is.word ∙ told_with-first_by (text_at (codes "do") (object ms)) said ms is
 
--- ---- a text that is one object, and any other text
+-- ---- a text with exactly one object, and any other text
 
 ends : (j : json.Json) (r : List Token) → first_of_read (of_json j) ≡ Tell Bad
     → first_of_read (whole (Some (j, r))) ≡ Tell Bad
@@ -188,7 +188,7 @@ module _ (ts r : List Token) (is : ts ≡ Token.begin_object ∷ r) where
       let value_read = opened ∙ (ap (parse_map object) read ∙ ap (λ left. Some (object all, left)) some) in
       ap first_of_read (whole_and_more (value 127 ts) (object all) t more value_read)
 
-  -- an object that breaks off inside
+  -- an object without its closing brace
   pub said-refused : converted (λ ms. of_members ms no_members) (members (value 126) (length r) r) ≡ None
       → said_by_tokens ts ≡ Tell Bad
   said-refused none = ap first_of_read (whole_refused (value 127 ts) (opened ∙ ap (parse_map object) none))

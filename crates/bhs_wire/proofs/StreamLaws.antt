@@ -168,7 +168,7 @@ left_at-ended : (held : Option (List ℕ)) → left_at held 10 ≡ Some []
 left_at-ended None = refl
 left_at-ended (Some line) = refl
 
--- The buffer is no longer than a line may be.
+-- The buffer fits within the limit for a line.
 abbrev pub FitsHeld : Option (List ℕ) → Type 0
 FitsHeld held = ForSome held (λ line. length line ≤ MAX_LINE)
 

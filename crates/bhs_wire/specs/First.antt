@@ -16,11 +16,11 @@ use Rattle.bhs_wire.specs.LineKind.{line_kind}
 abbrev pub text_at : List ℕ → Data → Option (List ℕ)
 text_at key value = option_and_then as_str (get key value)
 
--- a number, if it is at most 65,535
+-- a number within the range of ports
 abbrev pub if_port : ℕ → Option ℕ
 if_port number = if nat_lt number (2 ^ 16) then Some number else None
 
--- The integer at a key, if it is in the range of ports; `1.0` is no integer.
+-- The integer at a key, within the range of ports; `1.0` is no integer.
 abbrev pub port_at : List ℕ → Data → Option ℕ
 port_at key value = option_and_then if_port (option_and_then as_u64 (option_and_then as_number (get key value)))
 

@@ -30,7 +30,7 @@ port_in (Text text) = None
 port_in (Port port) = Some port
 port_in Other = None
 
--- the number of a value, if it is in the range of ports
+-- a value's number within the range of ports
 abbrev pub port_from : Data → Option ℕ
 port_from value = option_and_then if_port (option_and_then as_u64 (as_number value))
 
@@ -47,7 +47,7 @@ pub record IsSaidBy (said : Said) (members : Members) : Type 0 where
   pub put : text_in said.put ≡ text_at (codes "put") (object members)
   pub port : port_in said.port ≡ port_at (codes "port") (object members)
 
--- the command of an object, from its word and its other members
+-- the command of an object with this word and these members
 abbrev pub told_with : Option (List ℕ) → Said → First
 told_with None said = Tell Bad
 told_with (Some word) said =

@@ -106,7 +106,7 @@ pub(crate) fn push_lines<'p>(
     Ok(after)
 }
 
-// Adds the result of a line in two parts. A line that is too long is not joined.
+// Adds the result of a line in two parts. Overlong lines are not joined.
 fn push_line<'p>(
     alloc: Global,
     found: &mut VecDeque<Raw<'p>>,

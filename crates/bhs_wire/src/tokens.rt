@@ -6,7 +6,7 @@ ghost use Rattle.json.specs.Token.{key, string, number};
 use bhs_net::Memory;
 use json::Writer;
 
-/// Writes a member with a text value. On `Err`, a part of it may have been written.
+/// Writes a member with a text value. An `Err` may leave a partial member.
 #[inline]
 pub fn write_text(out: &mut Writer, name: &str, text: &str) -> Result<(), Memory>
     ensures ok { OnOk result (out.new.tokens ≡ out.old.tokens ++ key name.now ∷ string text.now ∷ []) }
@@ -16,7 +16,7 @@ pub fn write_text(out: &mut Writer, name: &str, text: &str) -> Result<(), Memory
     Ok(out.string(text)?)
 }
 
-/// Writes a member with a number value. On `Err`, a part of it may have been written.
+/// Writes a member with a number value. An `Err` may leave a partial member.
 #[inline]
 pub fn write_number(out: &mut Writer, name: &str, value: u16) -> Result<(), Memory>
     ensures ok { OnOk result (out.new.tokens ≡ out.old.tokens ++ key name.now ∷ number (decimal value) ∷ []) }

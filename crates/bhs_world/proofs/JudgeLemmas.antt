@@ -50,7 +50,7 @@ link_passes net ends i whole within fit new is =
     new
     ∙ ap (λ before. are_links_fit net before (drop (i + 1) ends)) (sym (take_more ends i (0, 0) within))
 
--- what fits is within the limits
+-- Black holes and dark links that pass the checks are within the limits.
 
 not_true : (b : Bool) → not b ≡ true → b ≡ false
 not_true false is = refl
@@ -92,7 +92,7 @@ links_within net before (end ∷ ends) labelled fit node port is =
       | inr there ↦ links_within net (before ++ end ∷ []) ends labelled parts.1 node port there
     ]
 
--- the normal form of what is within the limits
+-- A setup within the limits has the same black holes and dark links as its normal form.
 
 pub normal_holes : (net : Network) (setup : Setup) → IsWithinLimits net setup → (node : ℕ)
     → is_hole (normal net setup).holes node ≡ is_hole setup.holes node

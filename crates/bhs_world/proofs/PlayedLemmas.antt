@@ -1,4 +1,4 @@
--- The postcondition of a step: for events that are kept, and for events that are not.
+-- The postcondition of a step, with cases for kept and for dropped events.
 use Rattle.std.proofs.Common.{◌≡◌, ℕ, ◌+◌, Bool, true, false, Option, List, [], ◌∷◌}
 use Rattle.std.proofs.Common.{◌++◌, length, refl, sym, ap, ◌∙◌, subst, arith, if◌then◌else◌}
 use Rattle.std.specs.Prelude.{option_and_then}

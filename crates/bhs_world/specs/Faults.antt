@@ -27,8 +27,7 @@ is_within least most n = nat_le least n && nat_le n most
 abbrev pub is_hole_fit : (nodes home hole : ℕ) → Bool
 is_hole_fit nodes home hole = nat_lt hole nodes && not (hole == home)
 
--- whether each of these black holes is a node other than the home base and occurs once, also among the holes before
--- them
+-- Whether each black hole is a node other than the home base and occurs only once, counting the preceding holes too.
 abbrev pub are_holes_fit : (nodes home : ℕ) → (before holes : List ℕ) → Bool
 are_holes_fit nodes home before [] = true
 are_holes_fit nodes home before (hole ∷ holes) =
@@ -44,7 +43,7 @@ are_links_fit net before [] = true
 are_links_fit net before (end ∷ ends) =
     (is_port_of net end && not (is_dark (far_of net) before end.0 end.1)) && are_links_fit net (before ++ end ∷ []) ends
 
--- the first fault of a setup for this network, or None if the setup is within the limits
+-- the first fault of a setup for this network; None within the limits
 abbrev pub first_fault : Network → Setup → Option SetupFault
 first_fault net setup =
     if not (nat_lt setup.home (nodes_of net)) then Some Home

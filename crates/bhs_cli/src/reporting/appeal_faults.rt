@@ -18,8 +18,8 @@ pub enum AppealFault {
     /// There are not as many turns as events.
     #[error("{turns} turns, {events} events")]
     Count { turns: usize, events: usize },
-    /// The turn of the event at this place is out of order: it is less than its predecessor, or an arrival has ended
-    /// it.
+    /// The event at this place has a turn out of order: an earlier turn than its predecessor's, or a turn that an
+    /// arrival ended.
     #[error("turn of place {place}")]
     Early { place: usize },
     /// Before the event at this place this turn delivers this agent, and the replay leaves that out.

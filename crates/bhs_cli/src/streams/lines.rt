@@ -22,8 +22,8 @@ pub enum LineState<'p> {
     Overlong,
 }
 
-/// Appends the piece to a line, up to the first line feed. The line is unchanged if it would be too long, or if memory
-/// runs out.
+/// Appends the piece to a line, up to the first line feed. Leaves the line unchanged if the result would exceed the
+/// length limit, or if memory runs out.
 pub fn take_line<'p>(line: &mut Vec<u8>, piece: &'p [u8]) -> Result<LineState<'p>, Memory>
     ensures taken { IsPart line.old.items → IfOk result (IsTaken line.old.items piece.now line.new.items) }
     ensures part { IsPart line.old.items → IsPart line.new.items }

@@ -132,7 +132,7 @@ fn tell_unknown<E: Write>(alloc: Global, text: &str, game: Option<u32>, errors: 
     let _ = errors.write_all(b"\n");
 }
 
-// Returns the table of a tournament, or of one of its matches.
+// Returns the table of a tournament or of a match.
 fn part_of(file: &Table, game: Option<u32>) -> Option<&Table> {
     match game {
         None => Some(file),

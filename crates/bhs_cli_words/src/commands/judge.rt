@@ -39,6 +39,6 @@ pub(crate) const GAME: Argument = Argument {
     help: "The match's number in the tournament, from 0",
 };
 
-/// The message when only some of the options are given.
+/// The message for an incomplete group of options.
 pub(crate) const TOGETHER: &str =
     "--turns <TURNS>, --tournament <TOURNAMENT> and --match <MATCH> go together";

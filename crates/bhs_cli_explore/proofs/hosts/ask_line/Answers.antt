@@ -7,7 +7,7 @@ use Rattle.bhs_schedules.specs.Dialogues.{item_with, reply_with}
 use Rattle.bhs_cli_explore.specs.HostAnswers.{next_question}
 use Rattle.bhs_cli_explore.proofs.hosts.ask_line.Goals as goal
 
--- the parts of a question, one added after the other
+-- regroups the concatenated parts of a question
 regrouped : (front number more end : List ℕ) → ((front ++ number ++ codes ",") ++ more) ++ end
     ≡ front ++ number ++ codes "," ++ more ++ end
 regrouped front number more end = simp append_assoc
