@@ -71,13 +71,24 @@ the last row. `made.json` has the SHA-256 of all that rows depend on; if one has
     ./arena-lab explore --network ring:3..16 --agent "examples/agents/ring_step.py {nodes}" --workers 4 \
         --out out/rings --bound "2 n log2 n"
 
+--family nodes:5 names all networks of a size, or nodes:3..5 those of several, that no node cuts, each with every home
+base and every black hole. --degree-at-most bounds the links of a node. --ports all takes every numbering of the ports,
+and drawn:K those of the seeds 0 to K - 1, as shuffled:SEED has them. Networks that differ by the numbers of their nodes
+alone are explored once, since agents see ports and no numbers of nodes. Each solved match gets a row in `matches.csv`
+of --out (out/family), and the same command goes on behind the last row. It ends with the most moves of all matches, or
+with the first match that is not solved, which it keeps as any other. More than 7 nodes need Debian's package nauty.
+
+    ./arena-lab explore --family nodes:5 --degree-at-most 3 --ports drawn:4 --agents 4 \
+        --agent "examples/agents/wasm/chart.wasm:{nodes},{links}" --quota 65535 --board 200
+
 A round of turns that may go on for ever is told with the schedule that leads to it. It is fair if each agent that can
 move throughout it has a turn in it; if it is not fair, agents may wait for one that never has a turn. A round in which
 agents use commands ends with their quota, so there the Python model's search takes over.
 """
 import argparse
+import os
 import pathlib
-from typing import List, Optional
+from typing import List, Optional, Union
 
 from arena_lab.commands import explore_samples, explore_program
 from arena_lab.commands.words import (
@@ -87,10 +98,12 @@ from arena_lab.commands.words import (
     games_of,
     not_negative,
     program_of,
+    team_of,
 )
 from arena_lab.play import kept_matches
 from arena_lab.play.parallel import Parallelism
 from arena_lab.play.teams import Game
+from arena_lab.rules import draws, families, networks
 from arena_lab.rules.engines import MODEL, PROGRAM, program_at
 from arena_lab.search.program_search import SampleRequest
 from arena_lab.search.explore import MAX_STATES, check_inside, explore_matches
@@ -99,11 +112,13 @@ from arena_lab.search.driver import CHECKED_SAMPLES
 from arena_lab.support.faults import ArenaError
 from arena_lab.support.missing import check
 from arena_lab.support.progress import bar
+from arena_lab.sweep.families import FamilyFolder, FamilyJob, name_of
 from arena_lab.sweep.grid import BOUNDS
 from arena_lab.sweep.proofs import MATCHES, Folder
 from arena_lab.sweep.tables import alone_in
 
 FOLDER = kept_matches.FOLDER
+FAMILY_FOLDER = pathlib.Path("out/family")
 # schedulers of drawn schedules, and objectives of a hunt
 SCHEDULERS = ("fair", "last-departed", "starved", "slow-agents", "slow-links")
 OBJECTIVES = ("moves", "lost")
@@ -111,7 +126,7 @@ OBJECTIVES = ("moves", "lost")
 
 def add_arguments(parser: argparse.ArgumentParser) -> None:
     """Adds the arguments of `explore`."""
-    add_match(parser, several=True)
+    add_match(parser, several=True, parse_ports=family_ports)
     parser.add_argument(
         "--max-states",
         dest="states",
@@ -171,9 +186,9 @@ def add_arguments(parser: argparse.ArgumentParser) -> None:
         "--workers",
         metavar="N",
         type=at_least_one,
-        default=1,
         help="how many matches of a network "
-        "are tried at a time (1); each takes the memory of its own states",
+        "are tried at a time (1, and of a family as many as there are processors); each takes the memory of "
+        "its own states",
     )
     parser.add_argument(
         "--cluster",
@@ -194,17 +209,49 @@ def add_arguments(parser: argparse.ArgumentParser) -> None:
         action="append",
         help="moves that the plot shows beside, and more " "by more of these",
     )
+    add_family(parser)
     add_engine(parser)
 
 
+def family_ports(word: str) -> Union[families.FamilyPorts, draws.Ports]:
+    """How ports are numbered, of one network or of a family."""
+    try:
+        return families.ports_of(word)
+    except networks.NetworkError as fault:
+        raise argparse.ArgumentTypeError(str(fault)) from None
+
+
+def add_family(parser: argparse.ArgumentParser) -> None:
+    """Adds the options that name a family of networks."""
+    family = parser.add_argument_group(
+        "a family of networks", "These stand in place of the network and its nodes."
+    )
+    family.add_argument(
+        "--family",
+        metavar="nodes:N|nodes:N..M",
+        help="all networks of these sizes, with each home base and each black hole",
+    )
+    family.add_argument(
+        "--degree-at-most",
+        dest="max_degree",
+        metavar="D",
+        type=at_least_one,
+        help="those in which no node has more links",
+    )
+
+
 def run(args: argparse.Namespace) -> int:
+    if args.family:
+        return explore_family(args)
+    if args.max_degree or isinstance(args.ports, families.FamilyPorts):
+        raise ArenaError("--degree-at-most and --ports all|drawn:K need --family")
     games = games_of(args)
     engine = program_of(args)
     draws = draws_of(args)
     check_way(args)
     if (args.search or args.engine) == PROGRAM:
         program = engine or program_at(args.program, args.needs)
-        parallelism = Parallelism(args.workers, args.cluster)
+        parallelism = Parallelism(args.workers or 1, args.cluster)
         states = args.states or states_of(args)
         requests = [
             explore_program.ExploreRequest(
@@ -226,13 +273,96 @@ def run(args: argparse.Namespace) -> int:
     return max(search_by_model(args, game) for game in games)
 
 
+def explore_family(args: argparse.Namespace) -> int:
+    """Tries the schedules of all matches of a family that have no row yet, and reports
+    what the rows come to, or the first match that is not solved."""
+    check_family(args)
+    program = program_of(args) or program_at(args.program, args.needs)
+    workers = args.workers or os.cpu_count() or 1
+    states = args.states or (
+        MAX_STATES if args.cluster else fitting(OF_PROGRAM, workers)
+    )
+    family = families.Family(
+        families.sizes_of(args.family),
+        args.max_degree,
+        args.ports or families.FamilyPorts(),
+    )
+    matches = list(families.matches_of(family))
+    if not matches:
+        raise families.FamilyError(
+            "no network is in this family: raise --degree-at-most"
+        )
+    settings = Game(
+        args.family,
+        matches[0].network,
+        team_of(args),
+        quota=args.quota,
+        board=args.board,
+        naps=args.naps,
+        limit=args.limit,
+    )
+    job = FamilyJob(settings, program, states, args.check)
+    out = args.out or FAMILY_FOLDER
+    print(f"{len(matches)} matches, whose rows are in {out}", flush=True)
+    with alone_in(out):
+        folder = FamilyFolder(out, job, matches)
+        failing_match = folder.explore(Parallelism(workers, args.cluster))
+        if failing_match is None:
+            return report_family(folder)
+    print(f"{name_of(failing_match)} is not solved; it is tried once more:", flush=True)
+    request = explore_program.ExploreRequest(
+        job.game(failing_match),
+        program,
+        program_of(args),
+        states,
+        args.check,
+        args.keep,
+    )
+    status = explore_program.run([request])
+    if status == 0:
+        raise ArenaError(
+            "an agent may use more commands than its quota, of which the program finds nothing, and rows are of "
+            "what it finds alone: give a larger --quota"
+        )
+    return status
+
+
+def report_family(folder: FamilyFolder) -> int:
+    """Prints what the rows of a family come to."""
+    totals = folder.totals()
+    print(
+        f"{totals.matches} matches: every schedule solves each; {totals.states} states, most moves {totals.moves}, "
+        f"most agents lost {totals.lost}"
+    )
+    return 0
+
+
+def check_family(args: argparse.Namespace) -> None:
+    """Refuses options that name one network or its nodes, and other searches."""
+    for option, value in (
+        ("--network", args.networks),
+        ("--tournament", args.tournament),
+        ("--home", args.home != 0),
+        ("--hole", args.hole),
+        ("--dark", args.dark),
+        ("--draws", args.draws),
+        ("--bound", args.bound),
+    ):
+        if value:
+            raise ArenaError(f"--family names all matches: leave {option} out")
+    if not isinstance(args.ports, (families.FamilyPorts, type(None))):
+        raise ArenaError("the --ports of a family are all or drawn:K")
+    if (args.search or args.engine) == MODEL:
+        raise ArenaError("--family needs the program's search: give no {MODEL}")
+
+
 def states_of(args: argparse.Namespace) -> int:
     """Returns how many states of a match are visited at most, if no number is named.
     Workers elsewhere have other memory, and drawn schedules take none for their
     turns."""
     if args.draws is not None or args.cluster:
         return MAX_STATES
-    return fitting(OF_PROGRAM, args.workers)
+    return fitting(OF_PROGRAM, args.workers or 1)
 
 
 def check_way(args: argparse.Namespace) -> None:
@@ -240,7 +370,7 @@ def check_way(args: argparse.Namespace) -> None:
     is_model = (args.search or args.engine) == MODEL
     if args.out and args.draws is not None:
         raise ArenaError("--out is for all schedules: leave --draws out")
-    if is_model and (args.out or args.cluster or args.workers > 1):
+    if is_model and (args.out or args.cluster or (args.workers or 1) > 1):
         raise ArenaError(
             "--workers, --cluster and --out need the program's search: give no --search model"
         )

@@ -3,7 +3,7 @@ how many processes."""
 import argparse
 import os
 import re
-from typing import Any, List, Optional, Set
+from typing import Any, Callable, List, Optional, Set
 
 from arena_lab.play.agent_files import AgentError
 from arena_lab.play.bounds import LIMIT
@@ -65,13 +65,16 @@ def home(word: str) -> Optional[int]:
 
 
 def add_ports(
-    parser: "argparse._ActionsContainer", default: str = draws.GIVEN, each: str = ""
+    parser: "argparse._ActionsContainer",
+    default: str = draws.GIVEN,
+    each: str = "",
+    parse: Callable[[str], Any] = ports,
 ) -> None:
     """The option that numbers ports."""
     parser.add_argument(
         "--ports",
         metavar="given|drawn|shuffled:SEED",
-        type=ports,
+        type=parse,
         default=draws.ports_of(default),
         help="the numbers of ports: as the network has them, or drawn anew"
         f"{each}, or by this seed ({default})",
@@ -108,7 +111,11 @@ def add_timeout(parser: Any) -> None:
     )
 
 
-def add_match(parser: argparse.ArgumentParser, several: bool = False) -> None:
+def add_match(
+    parser: argparse.ArgumentParser,
+    several: bool = False,
+    parse_ports: Callable[[str], Any] = ports,
+) -> None:
     """The words that name a match and its team, or the matches on several networks."""
     match = parser.add_argument_group("the match", networks.__doc__)
     match.add_argument(
@@ -138,7 +145,7 @@ def add_match(parser: argparse.ArgumentParser, several: bool = False) -> None:
             default=NETWORK,
             help=f"the network ({NETWORK})",
         )
-    add_ports(match, each=" for each seed")
+    add_ports(match, each=" for each seed", parse=parse_ports)
     match.add_argument(
         "--home",
         metavar="V|drawn",
