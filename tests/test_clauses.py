@@ -146,7 +146,7 @@ class ClausesTest(unittest.TestCase):
             )
         }
         self.assertLessEqual(
-            {"Connection::new", "Guest::let_in", "Incoming::read"}, names
+            {"Connection::new", "PendingClient::let_in", "Incoming::read"}, names
         )
 
 
@@ -173,7 +173,9 @@ class ContractsTest(InTemporary):
 
     def test_types_that_hold_a_fault_of_memory_can_say_it(self) -> None:
         types = contracts.memory_types()
-        self.assertLessEqual({"NetFault", "RehearsalFault", "Ended", "Lack"}, types)
+        self.assertLessEqual(
+            {"NetFault", "RehearsalFault", "Ended", "StartError"}, types
+        )
         self.assertLessEqual({"EndedSession", "Served"}, types)
         self.assertNotIn("Command", types)
 
@@ -203,7 +205,7 @@ class ContractsTest(InTemporary):
         for head in (
             "`contests::equal_pasts_are_sent_equal_bytes` (-)",
             "`Net::try_new` (made, count, refused)",
-            "| `bhs_shared_match` | `Hall::told` | yes | no | `self`, `pass` | memory, wanting, failed |",
+            "| `bhs_shared_match` | `LockedMatch::submit` | yes | no | `self`, `pass` | memory, wanting, failed |",
             "| `bhs_rehearsal` | `Rehearsal::feed_copied` | yes |",
             "| `bhs_view` | `cut_and_looks` | yes |",
             "| `bhs_replay` | `read_part` | yes |",

@@ -19,7 +19,7 @@ pub enum Scout {
     LooksAgain,
     /// It goes to the black hole.
     IsLost,
-    /// It goes to node 1 and back, again and again.
+    /// The scout moves to node 1 and back for ever.
     Shuttles,
 }
 
@@ -105,9 +105,9 @@ pub fn drawn(
     Ok(explorer.draw(&mut team, draws(objective))?)
 }
 
-/// A team of agents that write at the home base. If agent 0 is the first, or is patient, it goes on as `Scout::Solves`
-/// does, or else it leaves, as all others do in any case. A memory is a place of `stages`: how far an agent is, and 10
-/// more for those others.
+/// A team of agents that write at the home base. Agent 0 continues as `Scout::Solves` if it is the first to write, or
+/// patient; otherwise it leaves. All other agents leave. A memory is an index of `stages`: the agent's stage, plus 10
+/// for the other agents.
 #[derive(Drop)]
 pub struct Rivals {
     pub alloc: Global,

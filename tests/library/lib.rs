@@ -3,12 +3,11 @@
 #![tactic(auto)]
 
 mod boards;
-mod cells;
 mod draws;
 mod explorations;
-mod halls;
 mod limits;
 mod lines;
+mod locked_matches;
 mod locks;
 mod matches;
 mod memory;
@@ -25,6 +24,7 @@ mod searchers;
 mod sending;
 mod servers;
 mod sessions;
+mod shared_matches;
 mod showcases;
 mod standings;
 mod streams;

@@ -20,7 +20,7 @@ const SEEN: &str = r#"0 {"board":"","from":null,"ok":"here","ports":2}
 0 {"board":"","from":0,"ok":"here","ports":2}
 "#;
 
-/// A run on streams that may fail, and what comes of it.
+/// A run on streams that may fail, with its expected exit status and output.
 #[derive(Clone, Copy)]
 struct Case<'a> {
     words: &'a [&'static str],

@@ -5,7 +5,7 @@ use std::test::Fail;
 
 const PART: [u8; 20_000] = [b'a'; 20_000];
 
-/// What is told of a line.
+/// Returns the bytes of a line, or `over` for a line that is too long.
 fn told<'a>(line: &'a Raw<'_>) -> &'a [u8] {
     match line {
         Raw::Whole(bytes) => bytes,

@@ -2,9 +2,9 @@
 
 mod under;
 
-use super::cells::cell;
+use super::shared_matches::shared_match;
 use bhs_deliveries::{Dealer, Drawn};
-use bhs_shared_match::{Cell, Dispute, Gate, Open, Pass, settle};
+use bhs_shared_match::{SharedMatch, Dispute, LockHooks, NoHooks, Pass, settle};
 use bhs_model::{Command, Reply, Text, Why};
 use std::alloc::Global;
 use std::process::Abort;
@@ -15,8 +15,8 @@ use std::thread;
 use std::thread::Threads;
 use std::time::{Clock, Duration};
 
-fn claimed<R: Abort + Wait>(rt: &R, cell: &Cell, agent: u16) -> Pass {
-    cell.claim(rt, agent).expect(rt, "a pass is claimed once")
+fn claimed<R: Abort + Wait>(rt: &R, shared_match: &SharedMatch, agent: u16) -> Pass {
+    shared_match.claim(rt, agent).expect(rt, "a pass is claimed once")
 }
 
 fn write(alloc: Global, expect: &str, put: &str) -> Command {
@@ -49,8 +49,8 @@ fn seen(pass: &Pass) -> &str {
 }
 
 /// The kind of the reply to a command.
-fn tell<R: Wait>(rt: &R, cell: &Cell, pass: &mut Pass, command: Command) -> &'static str {
-    match cell.submit(rt, &Open, pass, command) {
+fn tell<R: Wait>(rt: &R, shared_match: &SharedMatch, pass: &mut Pass, command: Command) -> &'static str {
+    match shared_match.submit(rt, &NoHooks, pass, command) {
         Ok(answer) => kind(&answer.reply),
         Err(_) => "memory",
     }
@@ -58,11 +58,11 @@ fn tell<R: Wait>(rt: &R, cell: &Cell, pass: &mut Pass, command: Command) -> &'st
 
 /// How many events the log has, why the match does not settle, and how many passes come back: those that were handed
 /// in, and those that are left, claimed or not.
-fn outcome(cell: Cell, passes: Vec<Pass>) -> (usize, Option<Dispute>, usize, usize) {
-    match settle(cell, passes) {
+fn outcome(shared_match: SharedMatch, passes: Vec<Pass>) -> (usize, Option<Dispute>, usize, usize) {
+    match settle(shared_match, passes) {
         Ok(settlement) => (settlement.sealed.log().len(), None, 0, 0),
         Err(unsettled) => (
-            unsettled.hall.state().log().len(),
+            unsettled.inner.state().log().len(),
             Some(unsettled.why),
             unsettled.passes.len(),
             unsettled.left.len(),
@@ -76,24 +76,24 @@ const fn settled(events: usize) -> (usize, Option<Dispute>, usize, usize) {
 }
 
 /// Whether an agent enters, writes and looks, and sees what it wrote.
-fn writes_and_looks<R: Wait>(rt: &R, alloc: Global, cell: &Cell, pass: &mut Pass) -> bool {
-    tell(rt, cell, pass, Command::Enter) == "here"
-        && tell(rt, cell, pass, write(alloc, "", "a")) == "written"
-        && tell(rt, cell, pass, Command::Look) == "here"
+fn writes_and_looks<R: Wait>(rt: &R, alloc: Global, shared_match: &SharedMatch, pass: &mut Pass) -> bool {
+    tell(rt, shared_match, pass, Command::Enter) == "here"
+        && tell(rt, shared_match, pass, write(alloc, "", "a")) == "written"
+        && tell(rt, shared_match, pass, Command::Look) == "here"
         && seen(pass) == "a"
 }
 
 /// Whether an agent enters and looks, and sees what another may have written.
-fn enters_and_looks<R: Wait>(rt: &R, cell: &Cell, pass: &mut Pass) -> bool {
-    tell(rt, cell, pass, Command::Enter) == "here"
-        && tell(rt, cell, pass, Command::Look) == "here"
+fn enters_and_looks<R: Wait>(rt: &R, shared_match: &SharedMatch, pass: &mut Pass) -> bool {
+    tell(rt, shared_match, pass, Command::Enter) == "here"
+        && tell(rt, shared_match, pass, Command::Look) == "here"
         && (seen(pass) == "" || seen(pass) == "a")
 }
 
 #[test]
 fn two_threads_share_a_match(rt: HostRuntime) -> Result<(), Fail> {
     let alloc = rt.alloc();
-    let shared = cell(alloc, 0, 2, 10)?;
+    let shared = shared_match(alloc, 0, 2, 10)?;
     let mut first = claimed(&rt, &shared, 0);
     let mut second = claimed(&rt, &shared, 1);
     assert!(rt; shared.claim(&rt, 1).is_none() && shared.claim(&rt, 2).is_none());
@@ -109,9 +109,9 @@ fn two_threads_share_a_match(rt: HostRuntime) -> Result<(), Fail> {
     Ok(())
 }
 
-/// A cell on which both agents entered, and their passes.
-fn entered<R: Abort + Wait>(rt: &R, alloc: Global) -> Result<(Cell, Vec<Pass>), Fail> {
-    let shared = cell(alloc, 0, 2, 10)?;
+/// A shared match on which both agents entered, and their passes.
+fn entered<R: Abort + Wait>(rt: &R, alloc: Global) -> Result<(SharedMatch, Vec<Pass>), Fail> {
+    let shared = shared_match(alloc, 0, 2, 10)?;
     let mut passes = Vec::with_capacity(alloc, 2)?;
     for agent in 0..2 {
         let mut pass = claimed(rt, &shared, agent);
@@ -144,7 +144,7 @@ fn what_does_not_settle_is_told(rt: HostRuntime) -> Result<(), Fail> {
 #[test]
 fn a_pass_of_another_match_is_no_agent(rt: HostRuntime) -> Result<(), Fail> {
     let alloc = rt.alloc();
-    let other = cell(alloc, 1, 2, 10)?;
+    let other = shared_match(alloc, 1, 2, 10)?;
     let (_shared, passes) = entered(&rt, alloc)?;
     for mut pass in passes {
         assert_eq!(rt; tell(&rt, &other, &mut pass, Command::Look), "no agent");
@@ -155,7 +155,7 @@ fn a_pass_of_another_match_is_no_agent(rt: HostRuntime) -> Result<(), Fail> {
 #[test]
 fn a_pass_of_another_match_differs(rt: HostRuntime) -> Result<(), Fail> {
     let alloc = rt.alloc();
-    let unused = cell(alloc, 0, 2, 10)?;
+    let unused = shared_match(alloc, 0, 2, 10)?;
     unused.close(&rt);
     let (_shared, mut passes) = entered(&rt, alloc)?;
     passes.truncate(1);
@@ -170,7 +170,7 @@ fn a_pass_of_another_match_differs(rt: HostRuntime) -> Result<(), Fail> {
 #[test]
 fn a_turn_brings_news(rt: HostRuntime) -> Result<(), Fail> {
     let alloc = rt.alloc();
-    let shared = cell(alloc, 0, 2, 10)?;
+    let shared = shared_match(alloc, 0, 2, 10)?;
     let mut mine = claimed(&rt, &shared, 0);
     assert_eq!(rt; tell(&rt, &shared, &mut mine, Command::Enter), "here");
     assert_eq!(rt;
@@ -194,7 +194,7 @@ fn a_turn_brings_news(rt: HostRuntime) -> Result<(), Fail> {
 #[test]
 fn an_arrival_is_told_after_the_close_too(rt: HostRuntime) -> Result<(), Fail> {
     let alloc = rt.alloc();
-    let shared = cell(alloc, 0, 2, 10)?;
+    let shared = shared_match(alloc, 0, 2, 10)?;
     let mut mine = claimed(&rt, &shared, 0);
     tell(&rt, &shared, &mut mine, Command::Enter);
     tell(&rt, &shared, &mut mine, Command::Depart { port: 0 });
@@ -206,14 +206,14 @@ fn an_arrival_is_told_after_the_close_too(rt: HostRuntime) -> Result<(), Fail> {
 }
 
 /// The kind of an agent's news.
-fn news<R: Wait>(rt: &R, cell: &Cell, pass: &mut Pass) -> &'static str {
-    match cell.news(rt, pass) {
+fn news<R: Wait>(rt: &R, shared_match: &SharedMatch, pass: &mut Pass) -> &'static str {
+    match shared_match.news(rt, pass) {
         Ok(reply) => kind(&reply),
         Err(_) => "memory",
     }
 }
 
-/// The place of the one arrival of a pass, and the label of its link.
+/// Returns the log place of a pass's only arrival, and its arrival label.
 fn arrived(pass: &Pass) -> Option<(u32, Option<u16>)> {
     match pass.arrivals() {
         [only] => match only.reply {
@@ -250,7 +250,7 @@ impl<C: Clock> Crossing<'_, C> {
     }
 }
 
-impl<C: Clock> Gate for Crossing<'_, C> {
+impl<C: Clock> LockHooks for Crossing<'_, C> {
     fn asked(&self, game: u32, _agent: u16) {
         if game == 1 {
             self.waits_for(&self.is_first_locked);
@@ -271,18 +271,18 @@ impl<C: Clock> Gate for Crossing<'_, C> {
     }
 }
 
-/// Whether an agent enters, through a gate.
-fn enters<R: Wait, G: Gate>(rt: &R, gate: &G, cell: &Cell, pass: &mut Pass) -> bool {
-    cell.submit(rt, gate, pass, Command::Enter).is_ok()
+/// Whether an agent enters, through a hooks.
+fn enters<R: Wait, G: LockHooks>(rt: &R, lock_hooks: &G, shared_match: &SharedMatch, pass: &mut Pass) -> bool {
+    shared_match.submit(rt, lock_hooks, pass, Command::Enter).is_ok()
 }
 
 #[test]
 fn matches_share_no_lock(rt: HostRuntime) -> Result<(), Fail> {
     let alloc = rt.alloc();
-    let cells = [cell(alloc, 0, 1, 10)?, cell(alloc, 1, 1, 10)?];
-    let mut first = claimed(&rt, &cells[0], 0);
-    let mut second = claimed(&rt, &cells[1], 0);
-    let gate = Crossing {
+    let shared_matches = [shared_match(alloc, 0, 1, 10)?, shared_match(alloc, 1, 1, 10)?];
+    let mut first = claimed(&rt, &shared_matches[0], 0);
+    let mut second = claimed(&rt, &shared_matches[1], 0);
+    let lock_hooks = Crossing {
         clock: &rt,
         is_first_locked: AtomicBool::new(false),
         is_second_answered: AtomicBool::new(false),
@@ -290,37 +290,37 @@ fn matches_share_no_lock(rt: HostRuntime) -> Result<(), Fail> {
     };
     let (one, two) = thread::join(
         &rt,
-        || enters(&rt, &gate, &cells[0], &mut first),
-        || enters(&rt, &gate, &cells[1], &mut second),
+        || enters(&rt, &lock_hooks, &shared_matches[0], &mut first),
+        || enters(&rt, &lock_hooks, &shared_matches[1], &mut second),
     );
-    assert!(rt; one && two && !gate.gave_up.load(Ordering::SeqCst));
+    assert!(rt; one && two && !lock_hooks.gave_up.load(Ordering::SeqCst));
     Ok(())
 }
 
 /// A pass after this many commands: an Enter, then Writes and Looks in turn.
-fn played<R: Wait>(rt: &R, alloc: Global, cell: &Cell, mut pass: Pass, commands: u32) -> Pass {
-    tell(rt, cell, &mut pass, Command::Enter);
+fn played<R: Wait>(rt: &R, alloc: Global, shared_match: &SharedMatch, mut pass: Pass, commands: u32) -> Pass {
+    tell(rt, shared_match, &mut pass, Command::Enter);
     for place in 1..commands {
         let command = if place % 2 == 0 {
             Command::Look
         } else {
             write(alloc, seen(&pass), "b")
         };
-        tell(rt, cell, &mut pass, command);
+        tell(rt, shared_match, &mut pass, command);
     }
     pass
 }
 
-/// The passes of all agents of a cell.
+/// The passes of all agents of a shared match.
 fn all_claimed<R: Abort + Wait>(
     rt: &R,
     alloc: Global,
-    cell: &Cell,
+    shared_match: &SharedMatch,
     agents: u16,
 ) -> Result<Vec<Pass>, Fail> {
     let mut passes = Vec::with_capacity(alloc, usize::from(agents))?;
     for agent in 0..agents {
-        passes.push(claimed(rt, cell, agent))?;
+        passes.push(claimed(rt, shared_match, agent))?;
     }
     Ok(passes)
 }
@@ -328,7 +328,7 @@ fn all_claimed<R: Abort + Wait>(
 #[test]
 fn sixteen_threads_share_a_match(rt: HostRuntime) -> Result<(), Fail> {
     let alloc = rt.alloc();
-    let shared = cell(alloc, 0, 16, 1000)?;
+    let shared = shared_match(alloc, 0, 16, 1000)?;
     let passes = all_claimed(&rt, alloc, &shared, 16)?;
     let passes = thread::map_vec(&rt, passes, &|pass| played(&rt, alloc, &shared, pass, 2000))?;
     shared.close(&rt);
@@ -336,34 +336,34 @@ fn sixteen_threads_share_a_match(rt: HostRuntime) -> Result<(), Fail> {
     Ok(())
 }
 
-/// Plays an agent on the cell of this place.
+/// Plays an agent on the shared match of this place.
 fn played_there<R: Abort + Wait>(
     rt: &R,
     alloc: Global,
-    cells: &[Cell],
+    shared_matches: &[SharedMatch],
     place: usize,
     agent: u16,
 ) -> Pass {
-    let cell = cells.get(place).expect(rt, "a cell of this place");
-    played(rt, alloc, cell, claimed(rt, cell, agent), 11)
+    let shared_match = shared_matches.get(place).expect(rt, "a shared_match of this place");
+    played(rt, alloc, shared_match, claimed(rt, shared_match, agent), 11)
 }
 
-/// Plays agent 0 on the cell of this place, and agent 1 on the next of 64.
-fn on_two<R: Abort + Wait>(rt: &R, alloc: Global, cells: &[Cell], place: usize) -> (Pass, Pass) {
+/// Plays agent 0 on the shared match of this place, and agent 1 on the next of 64.
+fn on_two<R: Abort + Wait>(rt: &R, alloc: Global, shared_matches: &[SharedMatch], place: usize) -> (Pass, Pass) {
     (
-        played_there(rt, alloc, cells, place, 0),
-        played_there(rt, alloc, cells, (place % 64 + 1) % 64, 1),
+        played_there(rt, alloc, shared_matches, place, 0),
+        played_there(rt, alloc, shared_matches, (place % 64 + 1) % 64, 1),
     )
 }
 
 #[test]
 fn sixty_four_threads_play_sixty_four_matches(rt: HostRuntime) -> Result<(), Fail> {
     let alloc = rt.alloc();
-    let mut cells = Vec::with_capacity(alloc, 64)?;
+    let mut shared_matches = Vec::with_capacity(alloc, 64)?;
     for game in 0..64 {
-        cells.push(cell(alloc, game, 2, 10)?)?;
+        shared_matches.push(shared_match(alloc, game, 2, 10)?)?;
     }
-    let pairs = thread::map_indices(&rt, alloc, 64, &|place| on_two(&rt, alloc, &cells, place))?;
+    let pairs = thread::map_indices(&rt, alloc, 64, &|place| on_two(&rt, alloc, &shared_matches, place))?;
     let mut firsts = Vec::with_capacity(alloc, 64)?;
     let mut seconds = Vec::with_capacity(alloc, 64)?;
     for (first, second) in pairs {
@@ -373,7 +373,7 @@ fn sixty_four_threads_play_sixty_four_matches(rt: HostRuntime) -> Result<(), Fai
     if let Some(last) = seconds.pop() {
         seconds.insert(0, last)?;
     }
-    for ((shared, first), second) in cells.into_iter().zip(firsts).zip(seconds) {
+    for ((shared, first), second) in shared_matches.into_iter().zip(firsts).zip(seconds) {
         shared.close(&rt);
         let passes = vec![in alloc; first, second]?;
         assert_eq!(rt; outcome(shared, passes), settled(23));
@@ -384,37 +384,37 @@ fn sixty_four_threads_play_sixty_four_matches(rt: HostRuntime) -> Result<(), Fai
 #[test]
 fn a_match_is_gathered_and_decided(rt: HostRuntime) -> Result<(), Fail> {
     let alloc = rt.alloc();
-    let cell = cell(alloc, 0, 2, 10)?;
-    let mut first = claimed(&rt, &cell, 0);
-    let mut second = claimed(&rt, &cell, 1);
-    tell(&rt, &cell, &mut second, Command::Enter);
-    assert!(rt; !cell.is_gathered(&rt));
-    tell(&rt, &cell, &mut first, Command::Enter);
-    assert!(rt; cell.is_gathered(&rt) && !cell.is_decided(&rt));
-    tell(&rt, &cell, &mut first, Command::Leave);
-    tell(&rt, &cell, &mut second, Command::Depart { port: 1 });
-    assert!(rt; !cell.is_decided(&rt));
-    cell.turn(&rt, &mut Dealer::new([0; 32], 0));
-    assert!(rt; cell.is_decided(&rt) && cell.is_gathered(&rt));
+    let shared_match = shared_match(alloc, 0, 2, 10)?;
+    let mut first = claimed(&rt, &shared_match, 0);
+    let mut second = claimed(&rt, &shared_match, 1);
+    tell(&rt, &shared_match, &mut second, Command::Enter);
+    assert!(rt; !shared_match.is_gathered(&rt));
+    tell(&rt, &shared_match, &mut first, Command::Enter);
+    assert!(rt; shared_match.is_gathered(&rt) && !shared_match.is_decided(&rt));
+    tell(&rt, &shared_match, &mut first, Command::Leave);
+    tell(&rt, &shared_match, &mut second, Command::Depart { port: 1 });
+    assert!(rt; !shared_match.is_decided(&rt));
+    shared_match.turn(&rt, &mut Dealer::new([0; 32], 0));
+    assert!(rt; shared_match.is_decided(&rt) && shared_match.is_gathered(&rt));
     Ok(())
 }
 
 #[test]
 fn what_a_match_has_kept_is_copied_in_parts(rt: HostRuntime) -> Result<(), Fail> {
     let alloc = rt.alloc();
-    let cell = cell(alloc, 0, 1, 10)?;
-    let mut pass = claimed(&rt, &cell, 0);
-    tell(&rt, &cell, &mut pass, Command::Enter);
-    tell(&rt, &cell, &mut pass, write(alloc, "", "a"));
-    tell(&rt, &cell, &mut pass, Command::Look);
-    let copied = cell.copies(&rt, alloc, 1, 5)?;
+    let shared_match = shared_match(alloc, 0, 1, 10)?;
+    let mut pass = claimed(&rt, &shared_match, 0);
+    tell(&rt, &shared_match, &mut pass, Command::Enter);
+    tell(&rt, &shared_match, &mut pass, write(alloc, "", "a"));
+    tell(&rt, &shared_match, &mut pass, Command::Look);
+    let copied = shared_match.copies(&rt, alloc, 1, 5)?;
     let kinds = [copied.first(), copied.get(1), copied.get(2)].map(|one| one
         .and_then(|one| one.reply.as_ref())
         .map_or("none", kind));
     assert_eq!(rt; kinds.as_slice(), ["written", "here", "none"].as_slice());
-    assert_eq!(rt; cell.copies(&rt, alloc, 0, 2)?.len(), 2);
+    assert_eq!(rt; shared_match.copies(&rt, alloc, 0, 2)?.len(), 2);
     assert!(rt;
-        cell.copies(&rt, alloc, 3, 2)?.is_empty() && cell.copies(&rt, alloc, 9, 2)?.is_empty()
+        shared_match.copies(&rt, alloc, 3, 2)?.is_empty() && shared_match.copies(&rt, alloc, 9, 2)?.is_empty()
     );
     Ok(())
 }

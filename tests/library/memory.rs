@@ -1,6 +1,6 @@
 //! Requests for memory that are refused. Here each is granted; `tests/hostile/refusals.py` runs these tests again, each
 //! time with another request refused. Two marks stand round each call that is tested: if a request between them is
-//! refused, the test passes. Before and behind them it may want memory.
+//! refused, the test passes. A test may allocate before the first mark and after the second one.
 
 mod again;
 mod commands;

@@ -8,7 +8,7 @@ use bhs_wasm_read::{FaultKind, ModuleFault, module_of};
 use std::alloc::Global;
 use std::test::Fail;
 
-// A module with one function, which has one local.
+// Returns a module whose only function has one local variable.
 fn module(alloc: Global, code: &[Instruction]) -> Result<Module, Fail> {
     let mut functions = Vec::new(alloc);
     functions.push(Function {

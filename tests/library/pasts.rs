@@ -137,7 +137,7 @@ fn reply_at(sealed: &Sealed, place: usize) -> Result<Option<Reply>, Fail> {
     }
 }
 
-/// Whether the agent's past has all its events, and by itself is answered as it was.
+/// Returns whether the agent's causal past contains all its events, and gets the same replies when played alone.
 fn is_past_told(alloc: Global, whole: &Sealed, agent: u16) -> Result<bool, Fail> {
     let past = cut_of(alloc, whole, agent)?;
     let own = whole
@@ -222,7 +222,7 @@ fn first_arrival(sealed: &Sealed, node: u16) -> Option<u32> {
     None
 }
 
-/// Why there is no twin with a black hole at a node.
+/// Returns the expected reason why no twin has its black hole at a node.
 fn refusal(sealed: &Sealed, node: u16) -> Option<TwinFault> {
     if node >= sealed.net().nodes() {
         return Some(TwinFault::Node);
@@ -237,7 +237,8 @@ fn refusal(sealed: &Sealed, node: u16) -> Option<TwinFault> {
     Some(TwinFault::Reached { place })
 }
 
-/// Whether the twin is refused as it should be, or has its black hole at the node and each agent was answered the same.
+/// Returns whether the twin is refused as expected, or has its black hole at the node and gives each agent the same
+/// replies.
 fn is_twin_alike(alloc: Global, whole: &Sealed, node: u16) -> Result<bool, Fail> {
     let twin = match twin_of(alloc, whole, node) {
         Ok(twin) => twin,

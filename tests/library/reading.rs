@@ -64,7 +64,7 @@ fn only_a_failing_read_is_the_fault_read(rt: HostRuntime) -> Result<(), Fail> {
     Ok(())
 }
 
-/// An input of its own, which is no `Read`.
+/// An input that does not implement `Read`.
 #[derive(Drop)]
 struct Dead {
     asked: u64,

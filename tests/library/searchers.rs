@@ -12,7 +12,7 @@ use std::test::Fail;
 #[derive(Clone, Copy, Debug, PartialEq, Eq, Drop)]
 enum Place {
     Node(u16, Option<u16>),
-    /// The link to a node, and the port by which the agent will arrive.
+    /// On the link to a node, with the arrival port there.
     Link(u16, u16),
     Ended,
 }

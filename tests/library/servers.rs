@@ -2,18 +2,18 @@
 
 mod clients;
 mod contests;
-mod gates;
+mod lock_hooks;
 mod logs;
 
-use bhs_shared_match::{Cell, Gate, Open};
-use bhs_server::{Blind, Contest, Lack, Limits, Outside, Served, Strays, Watch, run_server};
+use bhs_shared_match::{SharedMatch, LockHooks, NoHooks};
+use bhs_server::{Blind, Contest, StartError, Limits, Outside, Served, Strays, Watch, run_server};
 use bhs_session::Ended;
 use clients::{
     ACCUSE, BYE, COME, Client, DEPART, DEPART_TO_THE_HOLE, GONE, HERE, LEAVE, LOOK, NOTED, OVER,
     STRANGE, TAKEN, UNKNOWN,
 };
 use contests::{Patience, contest};
-use gates::{Counted, Turnstile};
+use lock_hooks::{Counted, Turnstile};
 use logs::{all_sealed, lengths, log_of, played_by};
 use std::alloc::Global;
 use std::net::{Ipv4Addr, Net, SocketAddr, TcpListener, TcpStream};
@@ -44,12 +44,12 @@ fn served_beside<R, G, T>(
     contest: Contest,
     sessions: u32,
     pace: &Patience<'_, R>,
-    gate: &G,
+    lock_hooks: &G,
     clients: impl FnOnce(&Client<'_, R>) -> T + Send,
 ) -> Result<(Served, T), Fail>
 where
     R: Threads + Wait + Clock + Net<Listener = TcpListener, Stream = TcpStream> + Sync,
-    G: Gate + Sync,
+    G: LockHooks + Sync,
     T: Send + Drop,
 {
     let listener = listener(rt)?;
@@ -63,7 +63,7 @@ where
             contest,
             limits(sessions),
             pace,
-            gate,
+            lock_hooks,
             &Blind,
         ),
         || clients(&client),
@@ -72,7 +72,7 @@ where
 }
 
 /// The contest, if it lacked nothing.
-fn begun(served: Result<Served, Lack>) -> Result<Served, Fail> {
+fn begun(served: Result<Served, StartError>) -> Result<Served, Fail> {
     served.map_err(|_| Fail::from("memory or threads ran out"))
 }
 
@@ -99,7 +99,7 @@ fn two_enter_and_leave(rt: HostRuntime) -> Result<(), Fail> {
         contest,
         2,
         &pace,
-        &Open,
+        &NoHooks,
         |client| two_visits(client, &pace),
     )?;
     let visit = format!(in alloc; "{HERE}{BYE}")?;
@@ -122,7 +122,7 @@ fn two_enter_and_leave(rt: HostRuntime) -> Result<(), Fail> {
 fn sessions_are_served_beside_each_other(rt: HostRuntime) -> Result<(), Fail> {
     let alloc = rt.alloc();
     let pace = Patience::new(&rt, 0, 1);
-    let gate = Turnstile::new(&rt);
+    let lock_hooks = Turnstile::new(&rt);
     let contest = contest(alloc, 1, 2)?;
     let (served, heard) = served_beside(
         &rt,
@@ -130,7 +130,7 @@ fn sessions_are_served_beside_each_other(rt: HostRuntime) -> Result<(), Fail> {
         contest,
         2,
         &pace,
-        &gate,
+        &lock_hooks,
         |client| two_visits(client, &pace),
     )?;
     assert!(rt; heard.is_ok());
@@ -138,7 +138,7 @@ fn sessions_are_served_beside_each_other(rt: HostRuntime) -> Result<(), Fail> {
         lengths(alloc, &all_sealed(alloc, served.settled)?)?.as_slice(),
         [5].as_slice()
     );
-    assert!(rt; !pace.gave_up() && !gate.gave_up());
+    assert!(rt; !pace.gave_up() && !lock_hooks.gave_up());
     Ok(())
 }
 
@@ -239,7 +239,7 @@ fn sixty_four_sessions_play_eight_matches(rt: HostRuntime) -> Result<(), Fail> {
         contest,
         64,
         &pace,
-        &Open,
+        &NoHooks,
         |client| thread::map_indices(
             &rt,
             alloc,
@@ -259,8 +259,8 @@ fn sixty_four_sessions_play_eight_matches(rt: HostRuntime) -> Result<(), Fail> {
     Ok(())
 }
 
-/// What clients hear that come one after the other: one that says nothing, one with a key of nobody, one that enters
-/// and leaves, and one with its key.
+/// Returns the lines that four clients hear one after the other: a silent client, one with an unknown key, one that
+/// enters and leaves, and one with the same key.
 fn four_visits<R: Net<Listener = TcpListener, Stream = TcpStream> + Clock>(
     client: &Client<'_, R>,
     pace: &Patience<'_, R>,
@@ -285,14 +285,14 @@ fn four_come_one_after_the_other(rt: HostRuntime) -> Result<(), Fail> {
         contest,
         4,
         &pace,
-        &Open,
+        &NoHooks,
         |client| four_visits(client, &pace, alloc),
     )?;
     let expected = format!(in alloc; "{UNKNOWN}{HERE}{BYE}{TAKEN}")?;
     assert_eq!(rt; heard?.as_str(), expected.as_str());
     let Served { settled, ended } = served;
     let sealed = all_sealed(alloc, settled)?;
-    // those who were not let in are no sessions
+    // clients that were not let in have no session
     assert_eq!(rt; ended.as_slice(), [Ended::Bye].as_slice());
     assert_eq!(rt; sealed.len(), 1);
     assert_eq!(rt; log_of(alloc, &sealed[0])?.as_str(), "0enter 0leave close ");
@@ -321,7 +321,7 @@ fn a_client_is_gone_at_once(rt: HostRuntime) -> Result<(), Fail> {
         contest,
         1,
         &pace,
-        &Open,
+        &NoHooks,
         |client| is_gone(client, &pace),
     )?;
     assert!(rt; gone.is_ok());
@@ -371,7 +371,7 @@ fn sessions_are_cut_off_after_the_grace_period(rt: HostRuntime) -> Result<(), Fa
         contest,
         3,
         &pace,
-        &Open,
+        &NoHooks,
         |client| hold_on(client, &pace),
     )?;
     assert!(rt; held.is_ok());
@@ -397,7 +397,7 @@ fn an_accept_that_fails_is_no_session(rt: HostRuntime) -> Result<(), Fail> {
         ready,
         limits(2),
         &pace,
-        &Open,
+        &NoHooks,
         &Blind,
     ))?;
     let sealed = all_sealed(alloc, settled)?;
@@ -425,9 +425,9 @@ impl<C: Clock> Watch for Late<'_, C> {
 
     fn left_outside(&self, _session: u32, _why: Outside) {}
 
-    fn closed(&self, _game: u32, _turns: u32, _cell: &Cell) {}
+    fn closed(&self, _game: u32, _turns: u32, _shared_match: &SharedMatch) {}
 
-    fn look(&self, _cells: &[Cell]) {}
+    fn look(&self, _shared_matches: &[SharedMatch]) {}
 }
 
 #[test]
@@ -446,7 +446,7 @@ fn a_session_that_begins_after_the_grace_period_is_cut_off(rt: HostRuntime) -> R
             ready,
             limits(1),
             &pace,
-            &Open,
+            &NoHooks,
             &Late { clock: &rt },
         ),
         || -> io::Result<String> { io::read_to_string(alloc, &client.says("")?) },

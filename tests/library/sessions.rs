@@ -222,7 +222,7 @@ It may run out at the news.
 ? key ka, news, leave
 ! Memory"#;
 
-/// A port that gives its answers one by one, and writes down what it was asked.
+/// A port that returns scripted answers in order and records the calls.
 #[derive(Drop)]
 struct Script<'a> {
     alloc: Global,
@@ -276,7 +276,8 @@ impl Port for Script<'_> {
     }
 }
 
-// H- and H0 are Here without a label, and with the label 0. Any other word is refused for want of memory.
+// Parses a word of a script: H- is Here without an arrival label, H0 is Here with label 0. Any other word is a memory
+// fault.
 fn reply_of(alloc: Global, word: &str) -> Result<Reply, Memory> {
     let came = match word {
         "gone" => return Ok(Reply::Gone),
@@ -294,7 +295,7 @@ fn reply_of(alloc: Global, word: &str) -> Result<Reply, Memory> {
     })
 }
 
-/// A session, and what it comes to.
+/// A session's input and its expected output and ending.
 #[derive(Drop)]
 struct Row<'a> {
     input: String,

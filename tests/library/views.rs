@@ -54,7 +54,7 @@ fn closed_sets(rt: HostRuntime) -> Result<(), Fail> {
     Ok(())
 }
 
-/// What is answered to the events of a part of a row, one after the other, none to its close.
+/// Returns the answers to the events of a row's part, in order; None for the close.
 fn answers(alloc: Global, row: &str, places: &[u32]) -> Result<Vec<Option<Reply>>, Fail> {
     let sealed = played(alloc, 3, &[2], &[], row)?;
     let part = match restrict(alloc, &sealed, places) {
@@ -109,7 +109,7 @@ struct Shown {
     events: usize,
 }
 
-/// The twin of a row with a black hole at this node, or why there is none.
+/// Returns the twin of a row with the black hole at this node, or the reason why no twin exists.
 fn twin(
     alloc: Global,
     nodes: u16,

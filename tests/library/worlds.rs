@@ -1,4 +1,4 @@
-//! Worlds: how a setup is judged, and what events are answered one after the other.
+//! Worlds: validation of setups, and the answers to sequences of events.
 
 use super::matches::here;
 use super::triangle::{network, setup};

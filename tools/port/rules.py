@@ -55,7 +55,7 @@ LEFT_OUT: Dict[str, Tuple[str, Tuple[str, ...]]] = {
     ),
     "bhs_standings": (
         "what a contest on sockets writes down",
-        ("notes.rt", "showing.rt"),
+        ("notes.rt", "showcase.rt"),
     ),
     "bhs_cli_run": ("Rust's std gives the words of the command line", ("words.rt",)),
 }
@@ -136,7 +136,7 @@ RULES: Dict[str, Tuple[Rule, ...]] = {
     ),
     "bhs_wasm_team": (
         Rule(
-            "saving.rt",
+            "memory_table.rt",
             r"\(number % 0x1_0000_0000\)",
             "(number as u64 % 0x1_0000_0000)",
             POINTER,
@@ -144,15 +144,15 @@ RULES: Dict[str, Tuple[Rule, ...]] = {
     ),
     "bhs_explore": (
         Rule(
-            "interning.rt",
+            "intern_table.rt",
             r"\bcells\.get\(at as usize\)",
             "cells.get(usize::try_from(at).unwrap_or(usize::MAX))",
             POINTER,
         ),
     ),
     "bhs_standings": (
-        Rule("lib.rt", r"mod (notes|showing);\n", "", SOCKETS),
-        Rule("lib.rt", r"pub use (notes|showing)::[^;]*;\n", "", SOCKETS),
+        Rule("lib.rt", r"mod (notes|showcase);\n", "", SOCKETS),
+        Rule("lib.rt", r"pub use (notes|showcase)::[^;]*;\n", "", SOCKETS),
     ),
     "bhs_cli_run": (
         Rule("lib.rt", r"mod words;\n", "", LEFT_OUT["bhs_cli_run"][0]),

@@ -8,7 +8,7 @@ mod orders;
 mod report;
 mod run;
 mod stages;
-mod submitting;
+mod submissions;
 mod torus;
 mod workload;
 

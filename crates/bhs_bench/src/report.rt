@@ -2,7 +2,7 @@
 
 use crate::faults::BenchFault;
 use crate::stages::{BenchMatch, EACH_ROUND};
-use crate::submitting::{Measured, Sharing};
+use crate::submissions::{Measured, Sharing};
 use crate::workload::Counts;
 use bhs_stream::send;
 use std::alloc::Global;

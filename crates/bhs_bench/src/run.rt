@@ -4,7 +4,7 @@ use crate::faults::BenchFault;
 use crate::orders::{BenchOrder, USAGE, order_of};
 use crate::report::{print_counts, print_run, print_stage, print_time};
 use crate::stages::{STAGES, lasted};
-use crate::submitting::{Measured, RUNS, run_once};
+use crate::submissions::{Measured, RUNS, run_once};
 use crate::workload::{Counts, Workload};
 use bhs_stream::{finish, send};
 use std::alloc::Global;

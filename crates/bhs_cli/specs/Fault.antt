@@ -2,8 +2,8 @@
 use Rattle.std.specs.Prelude.{◌≡◌, ℕ}
 use Rattle.std.specs.declared.io.ErrorKind.{ErrorKind}
 use Rattle.std.specs.declared.io.ErrorKind.TheVariants.{OutOfMemory}
-use Rattle.bhs_stream.specs.declared.reading.ReadFault.{ReadFault}
-use Rattle.bhs_stream.specs.declared.reading.ReadFault.TheVariants as reads
+use Rattle.bhs_stream.specs.declared.reader.ReadFault.{ReadFault}
+use Rattle.bhs_stream.specs.declared.reader.ReadFault.TheVariants as reads
 use Rattle.bhs_files.specs.declared.faults.FileFault.{FileFault}
 use Rattle.bhs_files.specs.declared.faults.FileFault.TheVariants as files
 use Rattle.bhs_script.specs.declared.faults.ScriptFault.{ScriptFault}

@@ -27,6 +27,6 @@ pub use reporting::statuses::{
 };
 pub use streams::line_by_line::passed_on;
 pub use streams::lines::{LineState, MAX_READS, take_line};
-pub use streams::showing::{show_made, show_text};
+pub use streams::output::{show_made, show_text};
 pub use tournaments::built_in_tournament::built_in;
-pub use tournaments::checking::{check, lineup_of, told_lineup_of};
+pub use tournaments::check::{check, lineup_of, told_lineup_of};

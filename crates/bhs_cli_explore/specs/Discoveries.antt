@@ -14,7 +14,7 @@ use Rattle.bhs_schedules.specs.declared.results.Finding.{Finding}
 use Rattle.bhs_schedules.specs.declared.results.Finding.TheVariants.{Solves, Comes, Fails, Breaks, Endless, Exceeds}
 use Rattle.bhs_schedules.specs.declared.results.Failure.{Failure}
 use Rattle.bhs_schedules.specs.declared.results.Failure.TheVariants as failures
-use Rattle.bhs_explore.specs.declared.sampling.SampleResult.{SampleResult}
+use Rattle.bhs_explore.specs.declared.sampler.SampleResult.{SampleResult}
 use Rattle.bhs_explore.specs.declared.explorers.Explored.{Explored}
 use Rattle.bhs_explore.specs.Answers.{Knowledge, is_held}
 use Rattle.bhs_explore.specs.Counting.{is_excess, is_failure}

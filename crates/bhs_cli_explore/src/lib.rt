@@ -2,13 +2,13 @@
 #![tactic(auto)]
 
 mod discoveries;
-mod exploring;
+mod explore;
 mod holes;
 mod hosts;
 mod links;
 mod modules;
 mod worlds;
 
-pub use exploring::explore_named;
+pub use explore::explore_named;
 pub use holes::explore_holes_named;
 pub use modules::explore_modules_named;

@@ -18,7 +18,7 @@ ghost use Rattle.bhs_wasm.specs.Contents.{contents_of};
 ghost use Rattle.bhs_wasm_read.specs.Modules.{module_in};
 
 use crate::discoveries::{Discovery, found_of, numbers, status_of, text_of};
-use crate::exploring::draws_of;
+use crate::explore::draws_of;
 use crate::links::held_links;
 use crate::worlds::world_of;
 use bhs_cli::{DONE, Fault, Shown, lineup_of, report, report_with_cause, show_text};

@@ -4,7 +4,7 @@ use Rattle.std.proofs.Common.{◌++◌, length, Bool, true, false, append-nil, a
 use Rattle.std.proofs.Common.{IfErr, OnOk, Result, Ok, Err, length-take-le, take}
 use Rattle.std.proofs.lemmas.Bool.{le-ltb, lt-ltb}
 use Rattle.bhs_stream.specs.Reading.{IsPiece}
-use Rattle.bhs_stream.specs.declared.reading.TheConstants.{BUFFER}
+use Rattle.bhs_stream.specs.declared.reader.TheConstants.{BUFFER}
 use Rattle.bhs_stream.specs.Streams.{Bytes, Chunk, End, WriteAnswer}
 use Rattle.bhs_stream.specs.Sending.{PutsAll, PutsPart}
 use Rattle.bhs_rehearsal.specs.Stages.{Stage}

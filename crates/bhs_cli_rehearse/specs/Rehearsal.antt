@@ -7,8 +7,8 @@ use Rattle.bhs_stream.specs.Streams.{Chunk, End, WriteAnswer}
 use Rattle.bhs_stream.specs.Reading.{Closes}
 use Rattle.bhs_stream.specs.Reading as reading
 use Rattle.bhs_stream.specs.Sending.{PutsAll}
-use Rattle.bhs_stream.specs.declared.reading.ReadFault.{ReadFault}
-use Rattle.bhs_stream.specs.declared.reading.ReadFault.TheVariants as reads
+use Rattle.bhs_stream.specs.declared.reader.ReadFault.{ReadFault}
+use Rattle.bhs_stream.specs.declared.reader.ReadFault.TheVariants as reads
 use Rattle.bhs_setups.specs.declared.lineups.Lineup.{Lineup}
 use Rattle.bhs_setups.specs.Lineups.{Contest, contest}
 use Rattle.bhs_rehearsal.specs.Games.{Game}

@@ -12,7 +12,7 @@ ghost use Rattle.bhs_cli_rehearse.specs.Interactive.{Answers, BreaksAt, BreaksWi
 ghost use Rattle.bhs_cli_rehearse.specs.Interactive.{InteractionStops};
 ghost use Rattle.bhs_cli_rehearse.specs.Interactive.{ended};
 
-use crate::playing::obey_lent;
+use crate::play::obey_lent;
 use bhs_cli::{Fault, LineState, take_line};
 use bhs_model::MAX_TEXT;
 use bhs_net::Memory;

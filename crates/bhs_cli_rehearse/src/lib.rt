@@ -3,13 +3,13 @@
 
 mod interactive;
 mod laws;
-mod playing;
-mod rehearsing;
+mod play;
 mod whole_interactive;
 mod whole_rehearsals;
+mod whole_script;
 
 pub use interactive::rehearse_interactively;
 pub use laws::{answers_are_transcripts, known_answers};
-pub use rehearsing::rehearse;
 pub use whole_interactive::rehearse_interactively_named;
 pub use whole_rehearsals::rehearse_named;
+pub use whole_script::rehearse;

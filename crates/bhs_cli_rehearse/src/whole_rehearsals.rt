@@ -8,7 +8,7 @@ ghost use Rattle.bhs_cli.specs.Showing.{Rests};
 ghost use Rattle.bhs_cli_rehearse.specs.RehearsedTournaments.{RehearsesEither};
 ghost use Rattle.bhs_cli.specs.declared.reporting.statuses.TheConstants.{NO_MEMORY};
 
-use crate::rehearsing::rehearse;
+use crate::whole_script::rehearse;
 use bhs_cli::{DONE, Fault, built_in, lineup_of, report, write_replays};
 use bhs_model::{MAX_TURNS, Text};
 use bhs_setups::{Lineup, Ready};

@@ -12,7 +12,7 @@ use Rattle.bhs_view.specs.declared.twins.TwinFault.{TwinFault}
 use Rattle.bhs_view.specs.declared.twins.TwinFault.TheVariants as twins
 use Rattle.bhs_cli.specs.declared.reporting.faults.Fault.TheVariants.{Twin}
 use Rattle.bhs_cli.specs.declared.reporting.faults.Fault.TheVariants.{Memory}
-use Rattle.bhs_cli_results.specs.declared.explaining.OutputKind.{OutputKind}
+use Rattle.bhs_cli_results.specs.declared.explain.OutputKind.{OutputKind}
 use Rattle.bhs_cli.specs.Fault.{of_twin, status}
 use Rattle.bhs_standings.specs.declared.rows.Row.{Row}
 use Rattle.bhs_cli_words.specs.declared.orders.TableEntry.{TableEntry}

@@ -19,8 +19,8 @@ use Rattle.bhs_view.specs.declared.twins.TwinFault.{TwinFault}
 use Rattle.bhs_cli_words.specs.declared.orders.TableEntry.{TableEntry}
 use Rattle.bhs_cli.specs.Fault.{status}
 use Rattle.bhs_cli.specs.declared.reporting.faults.Fault.TheVariants.{Twin}
-use Rattle.bhs_cli_results.specs.declared.explaining.OutputKind.{OutputKind}
-use Rattle.bhs_cli_results.specs.declared.explaining.OutputKind.TheVariants.{Plain, Terminal}
+use Rattle.bhs_cli_results.specs.declared.explain.OutputKind.{OutputKind}
+use Rattle.bhs_cli_results.specs.declared.explain.OutputKind.TheVariants.{Plain, Terminal}
 use Rattle.bhs_cli.specs.Filing.{IsReplayed}
 
 -- ---- the verdict

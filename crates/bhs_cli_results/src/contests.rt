@@ -7,7 +7,7 @@ ghost use Rattle.bhs_cli_results.specs.ContestTables.{row_in, status_in};
 ghost use Rattle.bhs_cli.specs.Fault.{IsOfFault};
 ghost use Rattle.bhs_cli.specs.Showing.{Prints, Reports};
 
-use crate::appealing::is_same_match;
+use crate::appeal::is_same_match;
 use bhs_cli::{
     AppealFault, DONE, Fault, file_name, first_status, lineup_of, read_match, report, show_made,
 };

@@ -7,7 +7,7 @@ ghost use Rattle.bhs_cli.specs.Fault.{IsOfFault};
 ghost use Rattle.bhs_cli_results.specs.Recovery.{AreSavedTurns, AreTurnsBy, all_turns, case_of, next_turn};
 ghost use Rattle.bhs_cli.specs.declared.reporting.statuses.TheConstants.{DONE};
 
-use crate::appealing::compared;
+use crate::appeal::compared;
 use crate::contests::MatchFileName;
 use bhs_cli::{
     DONE, Fault, is_free, read_part_of_turns, report, turns_name, turns_part_name, write_turns,

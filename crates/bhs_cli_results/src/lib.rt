@@ -2,20 +2,20 @@
 //! `recover` of a contest.
 #![tactic(auto)]
 
-mod appealing;
+mod appeal;
 mod contests;
-mod explaining;
+mod explain;
 mod held_links;
-mod judging;
+mod judge;
 mod left_turns;
-mod recovering;
-mod tabling;
-mod twinning;
+mod recover;
+mod table;
+mod twin;
 
-pub use appealing::print_appealed_verdict;
+pub use appeal::print_appealed_verdict;
 pub use contests::print_contest_table;
-pub use explaining::{OutputKind, print_past};
-pub use judging::{print_verdict, verdict_line};
-pub use recovering::recover_matches;
-pub use tabling::print_table;
-pub use twinning::print_twin;
+pub use explain::{OutputKind, print_past};
+pub use judge::{print_verdict, verdict_line};
+pub use recover::recover_matches;
+pub use table::print_table;
+pub use twin::print_twin;

@@ -2,8 +2,8 @@
 use Rattle.std.proofs.Common.{◌≡◌, inl, inr, refl, ℕ, List, Option, None, Some, Bool, true, false, Result, Ok, Err}
 use Rattle.bhs_standings.specs.declared.rows.Row.{Row}
 use Rattle.std.specs.Prelude.{◌==◌, if◌then◌else◌}
-use Rattle.bhs_shared_match.specs.declared.settling.Settlement.{Settlement}
-use Rattle.bhs_server.specs.declared.settling.Refused.{Refused}
+use Rattle.bhs_shared_match.specs.declared.settlement.Settlement.{Settlement}
+use Rattle.bhs_server.specs.declared.settlement.Refused.{Refused}
 use Rattle.bhs_setups.specs.declared.lineups.Lineup.{Lineup}
 use Rattle.bhs_setups.specs.declared.lineups.Ready.{Ready}
 use Rattle.bhs_time.specs.declared.kinds.ScheduleKind.{ScheduleKind}

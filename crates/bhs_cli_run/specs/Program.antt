@@ -19,7 +19,7 @@ use Rattle.bhs_cli_results.specs.Recovery.{RecoversContest}
 use Rattle.bhs_cli_results.specs.Reports.{IsJudgement, IsTable, IsPast, IsTwinReplay, HasNoTwin}
 use Rattle.bhs_cli.specs.Showing.{Prints, PrintsByLine, Reports}
 use Rattle.bhs_cli.specs.Summary.{IsSummary}
-use Rattle.bhs_cli_results.specs.declared.explaining.OutputKind.{OutputKind}
+use Rattle.bhs_cli_results.specs.declared.explain.OutputKind.{OutputKind}
 use Rattle.bhs_cli.specs.declared.reporting.statuses.TheConstants.{DONE, FAILING, NO_MEMORY, REFUSED_WORDS}
 use Rattle.bhs_cli_serve.specs.Contests.{Serves}
 

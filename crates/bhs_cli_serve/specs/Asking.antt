@@ -2,8 +2,8 @@
 use Rattle.std.specs.Prelude.{ℕ, List, codes, bytes_eq, take, drop, nat_lt, Option, Some, None, option_and_then}
 use Rattle.std.specs.Prelude.{if◌then◌else◌}
 use Rattle.bhs_script.specs.Number.{number}
-use Rattle.bhs_cli_serve.specs.declared.asking.OperatorRequest.{OperatorRequest}
-use Rattle.bhs_cli_serve.specs.declared.asking.OperatorRequest.TheVariants as asked
+use Rattle.bhs_cli_serve.specs.declared.requests.OperatorRequest.{OperatorRequest}
+use Rattle.bhs_cli_serve.specs.declared.requests.OperatorRequest.TheVariants as asked
 
 -- the request to close the match with this number, if it exists
 abbrev pub closes_one : (matches : ℕ) → (game : ℕ) → Option OperatorRequest

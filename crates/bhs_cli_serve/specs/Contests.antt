@@ -6,9 +6,9 @@ use Rattle.bhs_time.specs.declared.kinds.ScheduleKind.{ScheduleKind}
 use Rattle.bhs_time.specs.declared.kinds.ScheduleKind.TheVariants.{Adaptive, Oblivious}
 use Rattle.bhs_setups.specs.declared.lineups.Ready.{Ready}
 use Rattle.bhs_setups.specs.declared.lineups.Lineup.{Lineup}
-use Rattle.bhs_shared_match.specs.declared.settling.Settlement.{Settlement}
+use Rattle.bhs_shared_match.specs.declared.settlement.Settlement.{Settlement}
 use Rattle.bhs_replay.specs.Replay.{replay_of}
-use Rattle.bhs_server.specs.declared.settling.Refused.{Refused}
+use Rattle.bhs_server.specs.declared.settlement.Refused.{Refused}
 use Rattle.bhs_server.specs.Settling.{HaveFared}
 use Rattle.bhs_contest.specs.Hosting.{IsStandings, dealers_of, givens_of}
 use Rattle.bhs_cli.specs.Fault.{status}

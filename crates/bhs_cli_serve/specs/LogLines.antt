@@ -4,10 +4,10 @@ use Rattle.bhs_session.specs.declared.endings.Ended.{Ended}
 use Rattle.bhs_session.specs.declared.endings.Ended.TheVariants as endings
 use Rattle.bhs_wire.specs.declared.denials.Denial.{Denial}
 use Rattle.bhs_wire.specs.declared.denials.Denial.TheVariants as denials
-use Rattle.bhs_server.specs.declared.unserved.Unserved.{Unserved}
-use Rattle.bhs_server.specs.declared.unserved.Unserved.TheVariants as unserved
-use Rattle.bhs_server.specs.declared.watching.Outside.{Outside}
-use Rattle.bhs_server.specs.declared.watching.Outside.TheVariants as outside
+use Rattle.bhs_server.specs.declared.rejections.Rejection.{Rejection}
+use Rattle.bhs_server.specs.declared.rejections.Rejection.TheVariants as rejection
+use Rattle.bhs_server.specs.declared.watch.Outside.{Outside}
+use Rattle.bhs_server.specs.declared.watch.Outside.TheVariants as outside
 use Rattle.bhs_referee.specs.declared.verdicts.Verdict.{Verdict}
 use Rattle.bhs_cli_results.specs.Reports.{verdict_line}
 
@@ -49,15 +49,15 @@ denied_words denials.Key = codes "it was denied, since no agent has its key"
 denied_words denials.Taken = codes "it was denied, since its key was used before"
 
 -- why a client was not served, in words
-abbrev pub unserved_words : Unserved → List ℕ
-unserved_words unserved.Full = codes "it was not served, since as many sessions go on as may"
-unserved_words unserved.Late = codes "it was cut off, since its first line did not come in time"
-unserved_words unserved.Memory = codes "it was not served, since memory or threads ran out"
+abbrev pub rejection_words : Rejection → List ℕ
+rejection_words rejection.Full = codes "it was not served, since as many sessions go on as may"
+rejection_words rejection.Late = codes "it was cut off, since its first line did not come in time"
+rejection_words rejection.Memory = codes "it was not served, since memory or threads ran out"
 
 -- why an agent has not entered, in words
 abbrev pub outside_words : Outside → List ℕ
 outside_words (outside.Denied denial) = denied_words denial
-outside_words (outside.Unserved why) = unserved_words why
+outside_words (outside.Rejection why) = rejection_words why
 outside_words (outside.Ended ended) = ended_words ended
 
 -- a client is gone whose agent has not entered

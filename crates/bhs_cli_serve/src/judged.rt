@@ -4,7 +4,7 @@ use bhs_match::Match;
 use bhs_model::Event;
 use bhs_net::Memory;
 use bhs_referee::{Verdict, judge};
-use bhs_shared_match::Cell;
+use bhs_shared_match::SharedMatch;
 use std::alloc::Global;
 use std::sync::Wait;
 
@@ -20,16 +20,20 @@ pub(crate) const TIMES: usize = 131_073;
 pub(crate) fn judged<R: Wait>(
     rt: &R,
     alloc: Global,
-    cell: &Cell,
+    shared_match: &SharedMatch,
 ) -> Result<Option<(usize, Verdict)>, Memory> {
-    let copy = copied(rt, alloc, cell)?;
+    let copy = copied(rt, alloc, shared_match)?;
     let events = copy.log().len();
     Ok(copy.sealed().ok().map(|sealed| (events, judge(&sealed))))
 }
 
 /// The verdict on a match if it were closed now, on a copy as well.
-pub(crate) fn judged_now<R: Wait>(rt: &R, alloc: Global, cell: &Cell) -> Result<Verdict, Memory> {
-    let mut copy = copied(rt, alloc, cell)?;
+pub(crate) fn judged_now<R: Wait>(
+    rt: &R,
+    alloc: Global,
+    shared_match: &SharedMatch,
+) -> Result<Verdict, Memory> {
+    let mut copy = copied(rt, alloc, shared_match)?;
     copy.apply(Event::Close);
     match copy.sealed() {
         Ok(sealed) => Ok(judge(&sealed)),
@@ -37,11 +41,11 @@ pub(crate) fn judged_now<R: Wait>(rt: &R, alloc: Global, cell: &Cell) -> Result<
     }
 }
 
-// A copy of the match of a cell.
-fn copied<R: Wait>(rt: &R, alloc: Global, cell: &Cell) -> Result<Match, Memory> {
-    let mut copy = blank(alloc, cell)?;
+// Returns a copy of a shared match. Holds the lock only while copying a few events at a time.
+fn copied<R: Wait>(rt: &R, alloc: Global, shared_match: &SharedMatch) -> Result<Match, Memory> {
+    let mut copy = blank(alloc, shared_match)?;
     for _ in 0..TIMES {
-        let found = cell.copies(rt, alloc, copy.log().len(), FEW)?;
+        let found = shared_match.copies(rt, alloc, copy.log().len(), FEW)?;
         if found.is_empty() {
             break;
         }
@@ -52,10 +56,10 @@ fn copied<R: Wait>(rt: &R, alloc: Global, cell: &Cell) -> Result<Match, Memory> 
     Ok(copy)
 }
 
-// The match of a cell before its first event.
-fn blank(alloc: Global, cell: &Cell) -> Result<Match, Memory> {
-    let net = cell.net().try_clone(alloc)?;
-    let setup = cell.setup().try_clone()?;
+// Returns a match with a shared match's network and setup, and an empty log.
+fn blank(alloc: Global, shared_match: &SharedMatch) -> Result<Match, Memory> {
+    let net = shared_match.net().try_clone(alloc)?;
+    let setup = shared_match.setup().try_clone()?;
     match Match::new(alloc, net, setup) {
         Ok(blank) => Ok(blank),
         Err(_) => Err(Memory),

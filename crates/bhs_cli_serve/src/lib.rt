@@ -2,30 +2,30 @@
 //! told. A contest that did not come to its end is recovered from its parts.
 #![tactic(auto)]
 
-mod asking;
 mod console;
-mod finishing;
-mod hosting;
+mod contest_host;
 mod judged;
-mod keeping;
 mod line_files;
+mod locked_files;
 mod log;
 mod log_lines;
 mod machines;
-mod manners;
 mod operator;
+mod options;
 mod parts;
-mod recording;
-mod recovering;
-mod serving;
-mod standing;
+mod recorder;
+mod recover;
+mod requests;
+mod results;
+mod serve;
+mod statuses;
 
 pub use console::{Console, ConsoleInput};
-pub use hosting::{ContestFiles, host};
-pub use keeping::Keep;
+pub use contest_host::{ContestFiles, host};
+pub use locked_files::Keep;
 pub use log::Log;
 pub use machines::Machine;
-pub use manners::{Manner, manner_of};
+pub use options::{ServeOptions, options_of};
 pub use parts::PartFiles;
-pub use recovering::recover_named;
-pub use serving::serve_named;
+pub use recover::recover_named;
+pub use serve::serve_named;

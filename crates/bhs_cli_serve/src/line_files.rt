@@ -1,6 +1,6 @@
 //! Files that are written on by whole lines while a contest goes on.
 
-use crate::keeping::Keep;
+use crate::locked_files::Keep;
 use bhs_cli::Fault;
 use std::fs::File;
 use std::io::Write;

@@ -3,7 +3,7 @@
 ghost use Rattle.std.specs.Prelude.{◌≡◌, ◌/◌, ◌%◌, IfOk, string_bytes};
 ghost use Rattle.bhs_cli_serve.specs.LogLines.{ended_words, plays_line, played_line, unplayed_line};
 ghost use Rattle.bhs_cli_serve.specs.LogLines.{judged_line, unjudged_line, sessions_line, strays_line};
-ghost use Rattle.bhs_cli_serve.specs.LogLines.{denied_words, outside_words, unserved_words, outsiders_line};
+ghost use Rattle.bhs_cli_serve.specs.LogLines.{denied_words, outside_words, rejection_words, outsiders_line};
 ghost use Rattle.bhs_cli_serve.specs.LogLines.{unread_line};
 ghost use Rattle.bhs_cli_serve.specs.LogLines.{part_waits_line, part_goes_on_line};
 ghost use Rattle.bhs_cli_serve.specs.LogLines.{open_line, closed_line, missing_line, numbers, number_after_space};
@@ -14,7 +14,7 @@ use bhs_cli_results::verdict_line;
 use bhs_model::MAX_LINE;
 use bhs_net::Memory;
 use bhs_referee::Verdict;
-use bhs_server::{Outside, Unserved};
+use bhs_server::{Outside, Rejection};
 use bhs_session::Ended;
 use bhs_terminal::visible;
 use bhs_wire::Denial;
@@ -100,7 +100,7 @@ fn outside_words(why: Outside) -> &'static str
 {
     match why {
         Outside::Denied(denial) => denied_words(denial),
-        Outside::Unserved(unserved) => unserved_words(unserved),
+        Outside::Rejection(rejection) => rejection_words(rejection),
         Outside::Ended(ended) => ended_words(ended),
     }
 }
@@ -117,13 +117,13 @@ fn denied_words(denial: Denial) -> &'static str
 }
 
 // Why a client was not served, in words.
-fn unserved_words(why: Unserved) -> &'static str
-    ensures { result.now ≡ unserved_words why }
+fn rejection_words(why: Rejection) -> &'static str
+    ensures { result.now ≡ rejection_words why }
 {
     match why {
-        Unserved::Full => "it was not served, since as many sessions go on as may",
-        Unserved::Late => "it was cut off, since its first line did not come in time",
-        Unserved::Memory => "it was not served, since memory or threads ran out",
+        Rejection::Full => "it was not served, since as many sessions go on as may",
+        Rejection::Late => "it was cut off, since its first line did not come in time",
+        Rejection::Memory => "it was not served, since memory or threads ran out",
     }
 }
 

@@ -1,7 +1,7 @@
 //! What the program needs of the machine.
 
 use crate::console::Console;
-use crate::keeping::Keep;
+use crate::locked_files::Keep;
 use std::io::Eprint;
 use std::rt::Files;
 use std::sync::Wait;

@@ -1,10 +1,10 @@
 //! The operator of a contest, who closes matches and asks how they stand, by lines on standard input. A thread of its
 //! own hears them, and nothing waits for it.
 
-use crate::asking::{OperatorRequest, asked_in};
 use crate::console::{Console, ConsoleInput};
 use crate::log::Log;
 use crate::log_lines::{all_closing_line, closing_line};
+use crate::requests::{OperatorRequest, asked_in};
 use bhs_contest::Progress;
 use bhs_net::Memory;
 use std::alloc::Global;

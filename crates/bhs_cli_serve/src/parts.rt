@@ -7,8 +7,8 @@ ghost use Rattle.bhs_cli.specs.Fault.{IsOfFault};
 ghost use Rattle.bhs_cli_serve.specs.Recording.{full_end_line, full_line, lines_of};
 
 use crate::judged::{FEW, TIMES};
-use crate::keeping::Keep;
 use crate::line_files::LineFile;
+use crate::locked_files::Keep;
 use crate::log::Log;
 use crate::log_lines::{part_goes_on_line, part_waits_line};
 use bhs_cli::{
@@ -19,7 +19,7 @@ use bhs_net::Memory;
 use bhs_replay::{head_of, line_of};
 use bhs_server::Settled;
 use bhs_setups::{Lineup, Ready};
-use bhs_shared_match::{Cell, Copied};
+use bhs_shared_match::{Copied, SharedMatch};
 use bhs_time::ScheduleKind;
 use std::alloc::Global;
 use std::io::Write;
@@ -178,18 +178,18 @@ impl PartFiles {
         &self,
         rt: &R,
         alloc: Global,
-        cells: &[Cell],
+        shared_matches: &[SharedMatch],
         log: &Log,
     ) {
         let mut guard = self.all.lock(rt);
         let parts = &mut *guard;
-        for (part, cell) in parts.iter_mut().zip(cells) {
-            part.write_turns_on(rt, alloc, cell, log);
+        for (part, shared_match) in parts.iter_mut().zip(shared_matches) {
+            part.write_turns_on(rt, alloc, shared_match, log);
         }
         for _ in 0..TIMES {
             let mut is_done = true;
-            for (part, cell) in parts.iter_mut().zip(cells) {
-                let has_more = part.write_on(rt, alloc, cell, log);
+            for (part, shared_match) in parts.iter_mut().zip(shared_matches) {
+                let has_more = part.write_on(rt, alloc, shared_match, log);
                 is_done = is_done && !has_more;
             }
             if is_done {
@@ -224,8 +224,14 @@ impl PartFiles {
 impl Part {
     // Writes a few events that its match has newly kept. A failure is reported, once, and it is tried again at the next
     // look. Answers whether the match may have more.
-    fn write_on<R: Wait + Clock>(&mut self, rt: &R, alloc: Global, cell: &Cell, log: &Log) -> bool {
-        match self.appended(rt, alloc, cell) {
+    fn write_on<R: Wait + Clock>(
+        &mut self,
+        rt: &R,
+        alloc: Global,
+        shared_match: &SharedMatch,
+        log: &Log,
+    ) -> bool {
+        match self.appended(rt, alloc, shared_match) {
             Ok(0) => false,
             Ok(_) => {
                 self.goes_on(rt, alloc, log);
@@ -240,9 +246,15 @@ impl Part {
 
     // Writes the turns of what its match has newly kept, and sees that they are on the disk. So whenever the server
     // ends, each event of the part has its turn.
-    fn write_turns_on<R: Wait + Clock>(&mut self, rt: &R, alloc: Global, cell: &Cell, log: &Log) {
+    fn write_turns_on<R: Wait + Clock>(
+        &mut self,
+        rt: &R,
+        alloc: Global,
+        shared_match: &SharedMatch,
+        log: &Log,
+    ) {
         if let Some(turns) = &mut self.turns {
-            if add_turns(rt, alloc, cell, turns).is_err() {
+            if add_turns(rt, alloc, shared_match, turns).is_err() {
                 self.fails(rt, alloc, log);
             }
         }
@@ -256,13 +268,18 @@ impl Part {
     }
 
     // Appends a few events that the match has kept since, each with its turn. Returns their number.
-    fn appended<R: Wait>(&mut self, rt: &R, alloc: Global, cell: &Cell) -> Result<usize, Fault> {
+    fn appended<R: Wait>(
+        &mut self,
+        rt: &R,
+        alloc: Global,
+        shared_match: &SharedMatch,
+    ) -> Result<usize, Fault> {
         let events = self.events.events();
         let most = match &self.turns {
             Some(turns) => FEW.min(turns.synced().saturating_sub(events)),
             None => FEW,
         };
-        let found = cell.copies(rt, alloc, events, most)?;
+        let found = shared_match.copies(rt, alloc, events, most)?;
         if found.is_empty() {
             return Ok(0);
         }
@@ -348,11 +365,11 @@ impl Part {
 fn add_turns<R: Wait>(
     rt: &R,
     alloc: Global,
-    cell: &Cell,
+    shared_match: &SharedMatch,
     file: &mut LineFile,
 ) -> Result<(), Fault> {
     for _ in 0..TIMES {
-        let found = cell.turns(rt, alloc, file.events(), FEW)?;
+        let found = shared_match.turns(rt, alloc, file.events(), FEW)?;
         if found.is_empty() {
             break;
         }

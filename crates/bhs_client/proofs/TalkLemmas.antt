@@ -5,8 +5,8 @@ use Rattle.bhs_model.specs.declared.replies.Reply.{Reply}
 use Rattle.bhs_schedules.specs.declared.answers.Step.{Step}
 use Rattle.bhs_schedules.specs.declared.answers.Step.TheVariants as steps
 use Rattle.bhs_schedules.specs.Strategies.{History, Observation, Strategy}
-use Rattle.bhs_client.specs.declared.playing.PlayFault.{PlayFault}
-use Rattle.bhs_client.specs.declared.playing.PlayFault.TheVariants as fault
+use Rattle.bhs_client.specs.declared.player.PlayFault.{PlayFault}
+use Rattle.bhs_client.specs.declared.player.PlayFault.TheVariants as fault
 use Rattle.bhs_client.specs.declared.searchers.SearcherFault.{SearcherFault}
 use Rattle.bhs_client.specs.declared.searchers.SearcherFault.TheVariants as searcher_fault
 use Rattle.bhs_client.specs.Searchers.{KeepsTo}

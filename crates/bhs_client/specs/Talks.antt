@@ -9,11 +9,11 @@ use Rattle.bhs_wire.specs.Lines.{is_line_feed}
 use Rattle.bhs_schedules.specs.declared.answers.Step.{Step}
 use Rattle.bhs_schedules.specs.declared.answers.Step.TheVariants as step
 use Rattle.bhs_schedules.specs.Strategies.{History, Observation, Heard, Woke, Strategy}
-use Rattle.bhs_client.specs.declared.playing.PlayEnd.{PlayEnd}
-use Rattle.bhs_client.specs.declared.playing.PlayEnd.TheVariants.{Accused}
-use Rattle.bhs_client.specs.declared.playing.PlayEnd.TheVariants as ended
-use Rattle.bhs_client.specs.declared.playing.PlayFault.{PlayFault}
-use Rattle.bhs_client.specs.declared.playing.PlayFault.TheVariants as fault
+use Rattle.bhs_client.specs.declared.player.PlayEnd.{PlayEnd}
+use Rattle.bhs_client.specs.declared.player.PlayEnd.TheVariants.{Accused}
+use Rattle.bhs_client.specs.declared.player.PlayEnd.TheVariants as ended
+use Rattle.bhs_client.specs.declared.player.PlayFault.{PlayFault}
+use Rattle.bhs_client.specs.declared.player.PlayFault.TheVariants as fault
 use Rattle.bhs_client.specs.declared.searchers.SearcherFault.{SearcherFault}
 use Rattle.bhs_client.specs.declared.searchers.SearcherFault.TheVariants as searcher_fault
 use Rattle.bhs_client.specs.CommandLines.{meant}

@@ -7,7 +7,7 @@ ghost use Rattle.bhs_client.specs.Searchers.{observation_of};
 
 use crate::searchers::{AgentNews, Searcher, SearcherFault};
 use bhs_model::Reply;
-use bhs_protocols_charts::charting::{after, after_waking, does};
+use bhs_protocols_charts::agent::{after, after_waking, does};
 use bhs_protocols_charts::memories::{Memory, NetworkFacts};
 use bhs_schedules::Step;
 use std::alloc::Global;

@@ -4,7 +4,7 @@ use Rattle.rand_chacha.specs.ChaCha.{ChaCha}
 use Rattle.bhs_match.specs.Matches.{Play}
 use Rattle.bhs_time.specs.declared.kinds.ScheduleKind.{ScheduleKind}
 use Rattle.bhs_setups.specs.declared.lineups.Ready.{Ready}
-use Rattle.bhs_shared_match.specs.Cells.{Given}
+use Rattle.bhs_shared_match.specs.SharedMatches.{Given}
 use Rattle.bhs_deliveries.specs.Dealer.{dealer_at}
 use Rattle.bhs_referee.specs.Verdicts.{verdict_of}
 use Rattle.bhs_referee.specs.declared.verdicts.Verdict.{Verdict}
@@ -16,7 +16,7 @@ use Rattle.bhs_standings.specs.Tables.{table_of}
 abbrev pub number_at : (place : ℕ) → ℕ
 number_at place = min place (2 ^ 32 - 1)
 
--- what the cell of the match at this place is given: its number, its network, its setup, its held links, and the
+-- the parameters of the shared match at this place: its number, its network, its setup, its held links, and the
 -- schedule of the tournament
 abbrev pub given_of : ScheduleKind → (place : ℕ) → Ready → Given
 given_of schedule place ready = record {
@@ -27,7 +27,7 @@ given_of schedule place ready = record {
   schedule = schedule;
 }
 
--- what the cells of matches are given of which the first stands at this place
+-- the parameters of the shared matches from this place on
 abbrev pub givens_of : ScheduleKind → (place : ℕ) → List Ready → List Given
 givens_of schedule place [] = []
 givens_of schedule place (ready ∷ others) = given_of schedule place ready ∷ givens_of schedule (place + 1) others

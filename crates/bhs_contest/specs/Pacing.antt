@@ -1,7 +1,7 @@
 -- How a match's turns are spread.
 use Rattle.std.specs.Prelude.{ℕ, ◌≡◌, ◌⊎◌, nat_lt, if◌then◌else◌}
-use Rattle.bhs_server.specs.declared.pacing.PaceStep.{PaceStep}
-use Rattle.bhs_server.specs.declared.pacing.PaceStep.TheVariants.{Turn, Close}
+use Rattle.bhs_server.specs.declared.pace.PaceStep.{PaceStep}
+use Rattle.bhs_server.specs.declared.pace.PaceStep.TheVariants.{Turn, Close}
 
 -- how many turns are taken, and how many milliseconds pass before each
 pub record Beat : Type 0 where

@@ -1,13 +1,13 @@
 //! A contest: the matches of a tournament under locks, the pace of their turns, and the table of their verdicts.
 #![tactic(auto)]
 
-mod hosting;
-mod judging;
-mod pacing;
+mod contest;
+mod pace;
 mod progress;
-mod tabling;
+mod table;
+mod verdicts;
 
-pub use hosting::{Hosted, contest_of};
-pub use pacing::Steady;
+pub use contest::{Hosted, contest_of};
+pub use pace::Steady;
 pub use progress::Progress;
-pub use tabling::{standings, table_by};
+pub use table::{standings, table_by};

@@ -4,7 +4,7 @@ ghost use Rattle.std.specs.Prelude.{◌≡◌, ◌⊎◌, ℕ, IfOk, OnOk, IfErr
 ghost use Rattle.bhs_deliveries.specs.Links.{first_strange, held_in};
 
 use crate::faults::HeldFault;
-use crate::marking::{check, marks};
+use crate::marks::{check, marks};
 use bhs_model::is_port_marked;
 use bhs_net::Net;
 use std::alloc::Global;

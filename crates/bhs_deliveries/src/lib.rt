@@ -7,7 +7,7 @@ mod draws;
 mod faults;
 mod held;
 mod laws;
-mod marking;
+mod marks;
 mod picks;
 mod timeliness;
 mod turns;

@@ -11,7 +11,7 @@ ghost use Rattle.bhs_deliveries.specs.Timeliness.{dues_after, late_in, untimely,
 
 use crate::dealers::Dealer;
 use crate::held::Held;
-use crate::marking::is_port;
+use crate::marks::is_port;
 use bhs_match::{Sealed, Site};
 use bhs_model::{Command, Event, Kept};
 use bhs_net::{Memory, Net};

@@ -3,7 +3,7 @@
 ghost use Rattle.std.specs.Prelude.{◌≡◌, IsTrue, false};
 ghost use Rattle.bhs_explore.specs.Counting.{AreUpTo, GoesWith, IsWorst, is_excess, is_failure};
 
-use crate::sampling::{SampleRequest, SampleResult};
+use crate::sampler::{SampleRequest, SampleResult};
 use bhs_model::Objective;
 use bhs_schedules::Finding;
 

@@ -26,9 +26,9 @@ ghost use Rattle.bhs_match.specs.Decided.{is_done, is_done_at};
 use crate::answers::Answer;
 use crate::news::{News, no_news, note, places};
 use crate::pools::{Bound, link, link_by, settle};
-use crate::reading;
 use crate::seals::Sealed;
 use crate::sites::{Site, site_of};
+use crate::texts;
 use bhs_model::{Command, Event, Kept, Mark, Reply, Setup, Text, read, text_shared};
 use bhs_net::{Memory, Net};
 use bhs_state::{Agent, Standing};
@@ -227,7 +227,7 @@ impl Match {
     pub fn text(&self, mark: &Mark) -> &str
         ensures { result.now ≡ text_at self.now.log (board_of mark.now) }
     {
-        reading::text(&self.log, mark)
+        texts::text(&self.log, mark)
     }
 
     /// Returns the reply that a mark of this log stands for.

@@ -7,9 +7,9 @@ mod games;
 pub mod laws;
 mod news;
 mod pools;
-mod reading;
 mod seals;
 mod sites;
+mod texts;
 
 pub use answers::Answer;
 pub use arenas::{Arena, ArenaFault};

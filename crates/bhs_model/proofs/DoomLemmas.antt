@@ -7,7 +7,7 @@ use Rattle.std.proofs.lemmas.List.{length-replicate}
 use Rattle.bhs_net.specs.Network.{Network, nodes_of, degree_of, far_of, HasPort}
 use Rattle.bhs_model.specs.Worlds.{names, is_dark}
 use Rattle.bhs_model.specs.PortMarks.{marked_at, row_at, unmarked, HasMoreRoom}
-use Rattle.bhs_model.specs.Dooms.{Signs, no_signs, AreSignsOf}
+use Rattle.bhs_model.specs.Destroyers.{Signs, no_signs, AreSignsOf}
 use Rattle.bhs_model.proofs.PortMarkLemmas.{node_of_port, unset, none_at, mark_after, length_after}
 
 pub no_signs_are : (net : Network) → AreSignsOf net [] [] (no_signs net)

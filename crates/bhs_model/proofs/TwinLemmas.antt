@@ -93,10 +93,10 @@ strike_is world other state (event ∷ events) reveals_nothing =
     unread false replied others silent = refl
 
 -- the same world with other links that destroy
-abbrev pub with_dooms : World → World → World
-with_dooms world other = record world { holes = other.holes; dark = other.dark }
+abbrev pub with_destroyers : World → World → World
+with_destroyers world other = record world { holes = other.holes; dark = other.dark }
 
-pub other_world : (world other : World) → SameButDoom world other → with_dooms world other ≡ other
+pub other_world : (world other : World) → SameButDoom world other → with_destroyers world other ≡ other
 other_world world other same i = record {
   net = same.net i;
   home = same.home i;
@@ -108,40 +108,41 @@ other_world world other same i = record {
 }
 
 -- where neither world destroys, both let through
-pub same_through : (world : World) (dooms : World) (position : Position) →
-    (is_doomed world position || is_doomed (with_dooms world dooms) position) ≡ false →
-    is_let_through world position ≡ is_let_through (with_dooms world dooms) position
-same_through world dooms position unstruck =
+pub same_through : (world : World) (destroyers : World) (position : Position) →
+    (is_doomed world position || is_doomed (with_destroyers world destroyers) position) ≡ false →
+    is_let_through world position ≡ is_let_through (with_destroyers world destroyers) position
+same_through world destroyers position unstruck =
     let parts = or_parts (is_doomed world position) _ unstruck in
     ap (λ (destroyed : Bool). is_bound position && not destroyed) (parts.0 ∙ sym parts.1)
 
-pub delivered_alike : (world : World) (dooms : World) (state : State) (agent : ℕ) (position : Position) →
-    delivered world state agent position ≡ delivered (with_dooms world dooms) state agent position
-delivered_alike world dooms state agent (Bound node port) = refl
-delivered_alike world dooms state agent Before = refl
-delivered_alike world dooms state agent (At node came) = refl
-delivered_alike world dooms state agent After = refl
+pub delivered_alike : (world : World) (destroyers : World) (state : State) (agent : ℕ) (position : Position) →
+    delivered world state agent position ≡ delivered (with_destroyers world destroyers) state agent position
+delivered_alike world destroyers state agent (Bound node port) = refl
+delivered_alike world destroyers state agent Before = refl
+delivered_alike world destroyers state agent (At node came) = refl
+delivered_alike world destroyers state agent After = refl
 
 -- an event that is not struck does the same in both worlds, and is answered alike
-pub next_alike : (world : World) (dooms : World) (state : State) (event : Event) →
-    is_struck world (with_dooms world dooms) state event ≡ false →
-    next world state event ≡ next (with_dooms world dooms) state event
-next_alike world dooms state (Tell agent command) unstruck = refl
-next_alike world dooms state (Deliver agent) unstruck =
+pub next_alike : (world : World) (destroyers : World) (state : State) (event : Event) →
+    is_struck world (with_destroyers world destroyers) state event ≡ false →
+    next world state event ≡ next (with_destroyers world destroyers) state event
+next_alike world destroyers state (Tell agent command) unstruck = refl
+next_alike world destroyers state (Deliver agent) unstruck =
     ap₂ (λ (through : Bool) (there : State). if not state.closed && through then there else state)
-    (same_through world dooms (state.position agent) unstruck)
-    (delivered_alike world dooms state agent (state.position agent))
-next_alike world dooms state Close unstruck = refl
+    (same_through world destroyers (state.position agent) unstruck)
+    (delivered_alike world destroyers state agent (state.position agent))
+next_alike world destroyers state Close unstruck = refl
 
-pub reply_alike : (world : World) (dooms : World) (state : State) (event : Event) →
-    is_struck world (with_dooms world dooms) state event ≡ false →
-    reply world state event ≡ reply (with_dooms world dooms) state event
-reply_alike world dooms state (Tell agent command) unstruck = refl
-reply_alike world dooms state (Deliver agent) unstruck =
+pub reply_alike : (world : World) (destroyers : World) (state : State) (event : Event) →
+    is_struck world (with_destroyers world destroyers) state event ≡ false →
+    reply world state event ≡ reply (with_destroyers world destroyers) state event
+reply_alike world destroyers state (Tell agent command) unstruck = refl
+reply_alike world destroyers state (Deliver agent) unstruck =
     ap₂ (λ (through : Bool) (there : State). if not state.closed && through then rep world.board
     (there.past agent) else None)
-    (same_through world dooms (state.position agent) unstruck) (next_alike world dooms state (Deliver agent) unstruck)
-reply_alike world dooms state Close unstruck = refl
+    (same_through world destroyers (state.position agent) unstruck)
+    (next_alike world destroyers state (Deliver agent) unstruck)
+reply_alike world destroyers state Close unstruck = refl
 
 pub next_twin : (world other : World) (state : State) (event : Event) → SameButDoom world other →
     is_struck world other state event ≡ false → next world state event ≡ next other state event
@@ -156,19 +157,21 @@ pub record RunAlike (world other : World) (state : State) (events : List Event) 
   pub ends : run_from world state events ≡ run_from other state events
   pub replies : (agent : ℕ) → replies_to_from world state agent events ≡ replies_to_from other state agent events
 
-pub run_alike_but_dooms : (world : World) (dooms : World) (state : State) (events : List Event) →
-    NoneStruck world (with_dooms world dooms) state events → RunAlike world (with_dooms world dooms) state events
-run_alike_but_dooms world dooms state [] none = record { ends = refl; replies = λ agent. refl }
-run_alike_but_dooms world dooms state (event ∷ events) none =
-    let same = run_alike_but_dooms world dooms (next world state event) events none.1 in
-    let there = next_alike world dooms state event none.0 in
+pub run_alike_but_dooms : (world : World) (destroyers : World) (state : State) (events : List Event) →
+    NoneStruck world (with_destroyers world destroyers) state events
+    → RunAlike world (with_destroyers world destroyers) state events
+run_alike_but_dooms world destroyers state [] none = record { ends = refl; replies = λ agent. refl }
+run_alike_but_dooms world destroyers state (event ∷ events) none =
+    let same = run_alike_but_dooms world destroyers (next world state event) events none.1 in
+    let there = next_alike world destroyers state event none.0 in
     record {
-      ends = same.ends ∙ ap (λ (start : State). run_from (with_dooms world dooms) start events) there;
+      ends = same.ends ∙ ap (λ (start : State). run_from (with_destroyers world destroyers) start events) there;
       replies = λ agent.
           ap₂ (λ (replied : Option Reply) (read : List Reply).
           (if is_of agent event then option_to_list replied else []) ++ read)
-          (reply_alike world dooms state event none.0)
-          (same.replies agent ∙ ap (λ (start : State). replies_to_from (with_dooms world dooms) start agent events)
+          (reply_alike world destroyers state event none.0)
+          (same.replies agent ∙ ap
+          (λ (start : State). replies_to_from (with_destroyers world destroyers) start agent events)
           there);
     }
 

@@ -18,5 +18,5 @@ pub mod Marks
 pub mod Setups
 pub mod Small
 pub mod PortMarks
-pub mod Dooms
+pub mod Destroyers
 pub mod Sites

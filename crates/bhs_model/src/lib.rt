@@ -5,7 +5,7 @@
 mod clones;
 mod commands;
 mod dark_links;
-mod dooms;
+mod destroyers;
 mod events;
 mod holes;
 pub mod laws;
@@ -20,7 +20,7 @@ mod small;
 pub use bhs_text::Text;
 pub use commands::Command;
 pub use dark_links::DarkLinks;
-pub use dooms::Dooms;
+pub use destroyers::Destroyers;
 pub use events::Event;
 pub use holes::Holes;
 pub use limits::{

@@ -10,7 +10,7 @@ ghost use Rattle.bhs_net.specs.Network.{network_of, IsPortLabelled, IsNetwork};
 ghost use Rattle.bhs_net.specs.declared.depth_first_search.TheConstants.{NODES};
 ghost use Rattle.bhs_net.specs.DepthFirst.{LeadsOn};
 
-use crate::listing::End;
+use crate::link_rows::End;
 
 /// The size of tables indexed by node: the largest number of nodes, a power of two.
 pub const NODES: usize = 4096;

@@ -2,11 +2,11 @@
 #![tactic(auto)]
 
 mod depth_first_search;
+mod fast_rows;
 mod faults;
-mod filling;
 mod laws;
+mod link_rows;
 mod links;
-mod listing;
 mod network;
 mod search;
 mod trees;

@@ -5,8 +5,8 @@ ghost use Rattle.bhs_net.specs.Network.{nodes_of, degree_of, far_of, ports_of, I
 ghost use Rattle.bhs_net.specs.Faults.{Refuses};
 
 use crate::faults::NetFault;
+use crate::link_rows::{End, listed};
 use crate::links::Link;
-use crate::listing::{End, listed};
 use crate::search::check_paths;
 use std::alloc::{AllocError, Global};
 use std::marker::Model;

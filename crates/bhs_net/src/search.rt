@@ -10,7 +10,7 @@ ghost use Rattle.bhs_net.specs.Trees.{IsTree};
 
 use crate::depth_first_search::{DepthFirst, depth_first, order_of};
 use crate::faults::NetFault;
-use crate::listing::End;
+use crate::link_rows::End;
 use std::alloc::{AllocError, Global};
 
 // Marks the nodes to which paths lead from `start` that keep off the node `removed`.

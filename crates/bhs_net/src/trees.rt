@@ -9,7 +9,7 @@ ghost use Rattle.bhs_net.specs.DepthFirst.{place_in};
 ghost use Rattle.bhs_net.specs.Trees.{HasHead, Hangs, IsTree, LeadsPast, AllLeadPast};
 
 use crate::depth_first_search::DepthFirst;
-use crate::listing::End;
+use crate::link_rows::End;
 
 // Returns the table's entry for a node.
 fn entry(table: &[u16], node: usize) -> usize

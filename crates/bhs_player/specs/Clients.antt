@@ -4,7 +4,7 @@ use Rattle.bhs_stream.specs.Reading.{Gathers}
 use Rattle.bhs_stream.specs.Sending.{PutsAll}
 use Rattle.bhs_stream.specs.Streams.{Chunk, WriteAnswer}
 use Rattle.bhs_schedules.specs.Strategies.{Strategy}
-use Rattle.bhs_client.specs.declared.playing.PlayEnd.{PlayEnd}
+use Rattle.bhs_client.specs.declared.player.PlayEnd.{PlayEnd}
 use Rattle.bhs_client.specs.Talks.{Ends}
 use Rattle.bhs_client.specs.Transcripts.{Transcript, unused, Writes, Reads}
 use Rattle.bhs_player.specs.declared.wire.Wire.{Wire}

@@ -4,7 +4,7 @@
 
 pub mod agents;
 pub mod laws;
-pub mod playing;
+pub mod play;
 pub mod rejections;
 pub mod wire;
 pub mod words;
@@ -12,7 +12,7 @@ pub mod words;
 use agents::{PlayedAgent, agent_of, failure_of};
 use bhs_client::{PlayEnd, PlayFault};
 use bhs_stream::{Input, Output};
-use playing::played;
+use play::played;
 use rejections::Rejection;
 use std::fmt::Display;
 use std::net::TcpStream;

@@ -2,8 +2,8 @@
 
 #![tactic(auto)]
 
-pub mod charting;
+pub mod agent;
 pub mod charts;
-pub mod deciding;
+pub mod decisions;
 pub mod laws;
 pub mod memories;

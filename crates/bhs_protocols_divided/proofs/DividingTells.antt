@@ -1,14 +1,14 @@
 -- Turns of an agent at an unmarked link: it accuses the link or writes a division, and the invariant is preserved.
-use Rattle.std.proofs.Common.{ℕ, zero, suc, ◌+◌, ◌-◌, ◌*◌, ◌/◌, ◌<◌, ◌≤◌, ◌≡◌, true, false, ◌==◌}
-use Rattle.std.proofs.Common.{Some, List, ◌∷◌, length, refl, sym, ap, ◌∙◌, subst, inl, inr, arith}
+use Rattle.std.proofs.Common.{ℕ, ◌+◌, ◌-◌, ◌*◌, ◌/◌, ◌<◌, ◌≤◌, ◌≡◌, true, false, ◌==◌}
+use Rattle.std.proofs.Common.{Some, List, length, refl, sym, ap, ◌∙◌, subst, inl, inr, arith}
 use Rattle.std.specs.Prelude.{◌≢◌, bytes_eq}
 use Rattle.std.proofs.lemmas.Bool.{cond-true, cond-false, ne_eqb}
 use Rattle.std.proofs.lemmas.Bool.Decides.{eqb_tells}
 use Rattle.std.proofs.lemmas.Slice.Eq.{bytes_eq-Decides}
-use Rattle.bhs_model.proofs.StepLemmas.{by_cases, changed_same}
+use Rattle.bhs_model.proofs.StepLemmas.{by_cases}
 use Rattle.bhs_model.specs.declared.commands.Command.TheVariants.{Write}
 use Rattle.bhs_model.specs.declared.replies.Reply.TheVariants.{Written, Changed, Noted}
-use Rattle.bhs_model.specs.Runs.{At, After as Ended, changed}
+use Rattle.bhs_model.specs.Runs.{At, After as Ended}
 use Rattle.bhs_schedules.specs.declared.answers.Step.TheVariants.{Says}
 use Rattle.bhs_schedules.specs.Strategies.{Heard}
 use Rattle.bhs_schedules.specs.Schedules.{Trial}
@@ -19,23 +19,19 @@ use Rattle.bhs_protocols.specs.Shuttle.{other_in}
 use Rattle.bhs_protocols.specs.Halves.{own_in}
 use Rattle.bhs_protocols_divided.specs.Plans.{Itinerary, Divisions, IsStage, IsItinerary, IsDivided, Explores, IsLeft}
 use Rattle.bhs_protocols_divided.specs.Plans.{news, explored, count_at, left_at}
-use Rattle.bhs_protocols_divided.specs.Dividing.{Memory, Phase, Begins, GoesOut, Leaves, Tries, Turns, Returns, Writes}
-use Rattle.bhs_protocols_divided.specs.Dividing.{Follows}
-use Rattle.bhs_protocols_divided.specs.Dividing.{Passes, Tells, Ends, own_of, others_of, does_in, after_in, sees, told}
+use Rattle.bhs_protocols_divided.specs.Dividing.{Memory, Phase, GoesOut, Turns}
+use Rattle.bhs_protocols_divided.specs.Dividing.{Tells, Ends, own_of, others_of, does_in, after_in, sees, told}
 use Rattle.bhs_protocols_divided.specs.Dividing.{told_in}
-use Rattle.bhs_protocols_divided.proofs.NewsLemmas.{news_below, news_few, below_by_news, same_by_news, walked}
-use Rattle.bhs_protocols_divided.proofs.NewsLemmas.{walked_few}
-use Rattle.bhs_protocols_divided.proofs.StageLemmas.{stacked, stacked_on, explored_own, explored_other}
-use Rattle.bhs_protocols_divided.proofs.StageLemmas.{explored_stacked}
+use Rattle.bhs_protocols_divided.proofs.NewsLemmas.{news_below, news_few, below_by_news, same_by_news}
+use Rattle.bhs_protocols_divided.proofs.StageLemmas.{explored_own, explored_other}
 use Rattle.bhs_protocols_divided.proofs.StageLemmas.{IsAsAt, divided_at, stage_counts, stage_some, total}
 use Rattle.bhs_protocols_divided.proofs.DividingDues.{Seat, Purse, done, done_by, spent, paces, tasks, miss, share}
-use Rattle.bhs_protocols_divided.proofs.DividingDues.{reach}
-use Rattle.bhs_protocols_divided.proofs.DividingState.{Game, Setting, setting, IsOut, IsTrying, IsPlaced, IsAtNode}
-use Rattle.bhs_protocols_divided.proofs.DividingState.{IsDue, Fit, IsHidden, Inv, assembled, around, seat, stale}
+use Rattle.bhs_protocols_divided.proofs.DividingState.{Game, Setting, setting, IsAtNode}
+use Rattle.bhs_protocols_divided.proofs.DividingState.{Fit, IsHidden, Inv, assembled, around, seat, stale}
 use Rattle.bhs_protocols_divided.proofs.DividingState.{trial as trial_of}
-use Rattle.bhs_protocols_divided.proofs.DividingLemmas.{own_written, other_written, told_written, text_fits, other_is}
+use Rattle.bhs_protocols_divided.proofs.DividingLemmas.{own_written, other_written, text_fits, other_is}
 use Rattle.bhs_protocols_divided.proofs.DividingKeeps.{Turn, M, O, held, placed_as, due_as, paced_by}
-use Rattle.bhs_protocols_divided.proofs.DividingFacts.{first_is, plan_is, share_other, share_own}
+use Rattle.bhs_protocols_divided.proofs.DividingFacts.{plan_is}
 use Rattle.bhs_protocols_divided.proofs.DividingTurns.{room}
 use Rattle.bhs_protocols_divided.proofs.DividingAfter.{goes_after, other_below, roots}
 use Rattle.bhs_protocols_divided.proofs.DividingArrivals.{others_show, others_hidden}
@@ -43,50 +39,10 @@ use Rattle.bhs_protocols_divided.proofs.DividingFollows.{Goes, theirs_is, spot_t
 use Rattle.bhs_protocols_divided.proofs.DividingWrites.{rewritten, stale_few}
 use Rattle.bhs_protocols.proofs.HalvingLemmas.{rounds_half, rounds_within}
 use Rattle.bhs_protocols.proofs.TurnLemmas.{accuses, writes, writes_not}
-
-pub spent_few : (phase : Phase) → spent phase ≤ 2
-spent_few Begins = omega arith
-spent_few GoesOut = omega arith
-spent_few Leaves = omega arith
-spent_few Tries = omega arith
-spent_few Turns = omega arith
-spent_few Returns = omega arith
-spent_few Writes = omega arith
-spent_few Follows = omega arith
-spent_few Passes = omega arith
-spent_few Tells = omega arith
-spent_few Ends = omega arith
-
-times_more : (a b c : ℕ) → a * (b + c) ≡ a * b + a * c
-times_more a b c = grind arith
-
-times_one : (a : ℕ) → a * 1 ≡ a
-times_one a = grind arith
-
--- one round more is paid
-pub round_paid : (a r most coming : ℕ) → r + 1 ≤ most → a * most ≤ coming → a * r + a ≤ coming
-round_paid a r most coming less paid =
-    let rest : ℕ = most - (r + 1) in
-    let is : a * (r + 1 + rest) ≡ a * (r + 1) + a * rest = times_more a (r + 1) rest in
-    let one : a * (r + 1) ≡ a * r + a * 1 = times_more a r 1 in
-    let unit : a * 1 ≡ a = times_one a in
-    let same : a * (r + 1 + rest) ≡ a * most = ap (λ (k : ℕ). a * k) (omega (arith, less)) in
-    omega (arith, is, one, unit, same, paid)
-
--- both agents together owe three ways around
-pub both_shares : (all side lost : ℕ) → side < 2 → lost < 2 → share all side lost + share all (1 - side) lost ≡ 3 * all
-both_shares all side lost below below_too = elim (eqb_tells lost side) [
-  | inl h ↦
-      let mine : share all side lost ≡ all = share_own all side lost h.1 in
-      let theirs : share all (1 - side) lost ≡ 2 * all =
-      share_other all (1 - side) lost (λ e. omega (arith, e, h.1, below)) in
-      omega (arith, mine, theirs)
-  | inr h ↦
-      let mine : share all side lost ≡ 2 * all = share_other all side lost h.1 in
-      let theirs : share all (1 - side) lost ≡ all =
-      share_own all (1 - side) lost (omega (arith, h.1, below, below_too)) in
-      omega (arith, mine, theirs)
-]
+use Rattle.bhs_protocols_divided.proofs.DividingShares.{spent_few, round_paid, both_shares}
+use Rattle.bhs_protocols_divided.proofs.DividingPlacing.{text as text_of, shown as shown_of, next as next_of}
+use Rattle.bhs_protocols_divided.proofs.DividingPlacing.{text_told as told_of}
+use Rattle.bhs_protocols_divided.proofs.DividingPlacing.{q_by as purse_of, placing}
 
 module _ {game : Game} (on : Turn game) where
   open game use {world, n, hole, wakeups, plan}
@@ -206,13 +162,13 @@ module _ {game : Game} (on : Turn game) where
     module _ (none : (left_there == 1) ≡ false) (not_one : left_there ≢ 1)
         (alike : bytes_eq (configuration.shown node) m.seen ≡ true) where
       abbrev text : List ℕ
-      text = told m
+      text = text_of on
 
       abbrev shown : ℕ → List ℕ
-      shown = changed configuration.shown node text
+      shown = shown_of on
 
       abbrev next : Divisions
-      next = (1 - m.side, m.step) ∷ m.divisions
+      next = next_of on
 
       was_seen : configuration.shown node ≡ m.seen
       was_seen = (bytes_eq-Decides (configuration.shown node) m.seen).0 alike
@@ -228,8 +184,7 @@ module _ {game : Game} (on : Turn game) where
           ∙ other_is m.side m.seen inv.state.below ∙ ap (own_in (1 - m.side)) (sym was_seen)
 
       text_told : told_in text ≡ length m.divisions + 1
-      text_told = told_written m.side (own_in m.side m.seen) (other_in m.side m.seen) (length m.divisions + 1)
-          inv.state.below
+      text_told = told_of on
 
       stage : IsStage plan m.divisions
       stage = subst (IsStage plan) placed.0.knows inv.state.stage
@@ -320,220 +275,8 @@ module _ {game : Game} (on : Turn game) where
         at = 0;
       }
 
-      others_count : ℕ → ℕ
-      others_count zero = 1
-      others_count (suc count) = suc (suc count)
-
-      abbrev q_by : (count at : ℕ) → Purse
-      q_by count at = record {
-        ways = inv.q.ways + share (around game) (O on).side spot.side;
-        trips = inv.q.trips - 2 * total plan next m.side;
-        marks = inv.q.marks - total plan next m.side;
-        count = count;
-        at = at;
-      }
-
       abbrev e : Setting game
       e = setting game next (done plan m) spot.side shown configuration.reached
-
-      abbrev OutThere : Type 0
-      OutThere = IsOut game (setting game inv.now (done plan m) lost configuration.shown configuration.reached) inv.q
-          (O on)
-          (configuration.accused o)
-
-      abbrev o_own : Itinerary
-      o_own = own_of plan (O on)
-
-      -- the partner, by the number of divisions that it has not read
-      record Told : Type 0 where
-        count : ℕ
-        at : ℕ
-        out : IsOut game e (q_by count at) (O on) (configuration.accused o)
-        owed : walked o_own (reach count at) ≤ walked o_own (reach inv.q.count inv.q.at) + around game
-
-      told_by : (count at : ℕ) → inv.now ≡ stacked (O on).side count at (O on).divisions → (O on).step ≤ at
-          → news o_own at ≡ news o_own (O on).step → (it : OutThere)
-          → done plan (O on) ≡ explored plan (O on).divisions (O on).side + news o_own (O on).step
-          → count ≡ inv.q.count → at ≡ inv.q.at → Told
-      told_by zero at behind far same it doing count_is at_is =
-          let same_way : (O on).divisions ≡ m.divisions = sym behind ∙ placed.0.knows in
-          let way : o_own ≡ theirs = λ i. plan.itinerary (same_way i) (inv.state.apart i) in
-          let explored_is : explored plan (O on).divisions (O on).side ≡ explored plan m.divisions (1 - m.side) =
-          λ i. explored plan (same_way i) (inv.state.apart i) in
-          let news_are : news o_own m.step ≡ news theirs m.step = λ i. news (way i) m.step in
-          let is_new : o_own.is_new m.step ≡ true = ap (λ (w : Itinerary). w.is_new m.step) way ∙ placed.1 in
-          let same_news : news o_own m.step ≡ news o_own (O on).step =
-          omega (arith, doing, others_done, explored_is, news_are) in
-          let o_node : o_own.node m.step ≡ node = ap (λ (w : Itinerary). w.node m.step) way in
-          let within : m.step < theirs.steps = placed.0.within in
-          let steps_are : o_own.steps ≡ theirs.steps = ap (λ (w : Itinerary). w.steps) way in
-          let few : walked o_own m.step ≤ around game = walked_few o_own world.net n m.step
-          (subst (λ (w : Itinerary). IsItinerary world.net n w) (sym way) (theirs_is on placed.0))
-          (omega (arith, within, steps_are)) in
-          record {
-            count = 1;
-            at = m.step;
-            out = record {
-              within = it.within;
-              behind = λ i. (sym inv.state.apart i, m.step) ∷ sym same_way i;
-              far = below_by_news o_own (O on).step m.step is_new (omega (arith, same_news));
-              same = same_news;
-              clear = it.clear;
-              heard = λ h. ap (λ (k : ℕ). told_in (shown k)) o_node
-                  ∙ ap told_in (changed_same configuration.shown node text) ∙ text_told ∙ (omega arith);
-              none = it.none;
-            };
-            owed = omega (arith, few);
-          }
-      told_by (suc count) at behind far same it doing count_is at_is =
-          let begins : IsAsAt (plan.itinerary inv.now (O on).side) o_own at =
-          first_is game inv.now (O on) inv.state.stage
-          (subst (λ (k : ℕ). k < 2) (sym inv.state.apart) (other_below m.side))
-          count at behind in
-          let way : plan.itinerary inv.now (O on).side ≡ theirs =
-          λ i. plan.itinerary (placed.0.knows i) (inv.state.apart i) in
-          let explored_is : explored plan inv.now (O on).side ≡ explored plan m.divisions (1 - m.side) =
-          λ i. explored plan (placed.0.knows i) (inv.state.apart i) in
-          let explored_too : explored plan inv.now (O on).side
-          ≡ explored plan (O on).divisions (O on).side + news o_own at =
-          ap (λ (d : Divisions). explored plan d (O on).side) behind
-          ∙ explored_stacked plan (O on).side count at (O on).divisions in
-          let is_new : theirs.is_new 0 ≡ true = ap (λ (w : Itinerary). w.is_new 0) (sym way) ∙ begins.is_new in
-          let low : m.step ≤ 0 = below_by_news theirs m.step 0 is_new
-          (omega (arith, doing, others_done, explored_is, explored_too, same)) in
-          let zero_is : m.step ≡ 0 = omega (arith, low) in
-          let o_node : o_own.node at ≡ node =
-          sym begins.node ∙ ap (λ (w : Itinerary). w.node 0) way ∙ ap theirs.node (sym zero_is) in
-          let next_is : next ≡ stacked (O on).side (suc (suc count)) at (O on).divisions =
-          (λ i. (sym inv.state.apart i, zero_is i) ∷ (sym placed.0.knows ∙ behind) i)
-          ∙ stacked_on (O on).side count at (O on).divisions in
-          record {
-            count = suc (suc count);
-            at = at;
-            out = record {
-              within = it.within;
-              behind = next_is;
-              far = far;
-              same = same;
-              clear = it.clear;
-              heard = λ h. ap (λ (k : ℕ). told_in (shown k)) o_node
-                  ∙ ap told_in (changed_same configuration.shown node text) ∙ text_told ∙ (omega arith);
-              none = it.none;
-            };
-            owed = let same_reach : walked o_own at ≡ walked o_own (reach inv.q.count inv.q.at) =
-                ap (walked o_own) (λ i. reach (count_is i) (at_is i)) in omega (arith, same_reach);
-          }
-
-      from_out : OutThere → done plan (O on) ≡ explored plan (O on).divisions (O on).side + news o_own (O on).step
-          → Told
-      from_out it doing = told_by inv.q.count inv.q.at it.behind it.far it.same it doing refl refl
-
-      lost_there : lost ≡ (O on).side
-      lost_there = placed.0.lost_is ∙ sym inv.state.apart
-
-      their_share : share (around game) (O on).side lost ≡ around game
-      their_share = share_own (around game) (O on).side lost lost_there
-
-      no_both : lost ≡ 1 - (O on).side → ⊥
-      no_both h =
-          let there : lost ≡ (O on).side = lost_there in
-          let small : lost < 2 = inv.state.spot.is.below in
-          omega (arith, h, there, small)
-
-      -- where the other one is
-      record Placing (phase : Phase) : Type 0 where
-        count : ℕ
-        at : ℕ
-        placed : IsPlaced game e (q_by count at) (O on) phase (configuration.position o) (configuration.accused o)
-        due : IsDue game spot.side (q_by count at) (O on) phase
-
-      due_by : (it : Told) (extra : ℕ)
-          → walked o_own (reach inv.q.count inv.q.at) + share (around game) (O on).side lost
-          ≤ inv.q.ways + walked o_own (O on).step + extra
-          → walked o_own (reach it.count it.at) + share (around game) (O on).side spot.side
-          ≤ inv.q.ways + share (around game) (O on).side spot.side + walked o_own (O on).step + extra
-      due_by it extra due =
-          let owed : walked o_own (reach it.count it.at) ≤ walked o_own (reach inv.q.count inv.q.at) + around game =
-          it.owed in
-          omega (arith, due, owed, their_share)
-
-      abbrev WasPlaced : Phase → Type 0
-      WasPlaced phase = IsPlaced game (setting game inv.now (done plan m) lost configuration.shown
-          configuration.reached)
-          inv.q (O on) phase (configuration.position o) (configuration.accused o)
-
-      trying_too : IsTrying game (setting game inv.now (done plan m) lost configuration.shown configuration.reached)
-          (O on)
-          → IsTrying game e (O on)
-      trying_too it = record { is_new = it.is_new; safe = it.safe; come = it.come }
-
-      placing : (phase : Phase) → (O on).phase ≡ phase → WasPlaced phase → IsDue game lost inv.q (O on) phase
-          → Placing phase
-      placing Begins is it due =
-          let told_it = from_out it.0 (ap (done_by plan (O on)) is) in
-          let owes = due_by told_it 0 (omega (arith, due)) in
-          record {
-            count = told_it.count;
-            at = told_it.at;
-            placed = (told_it.out, it.1, it.2, it.3);
-            due =
-                omega (arith, owes);
-          }
-      placing GoesOut is it due =
-          let told_it = from_out it.0 (ap (done_by plan (O on)) is) in
-          let owes = due_by told_it 0 (omega (arith, due)) in
-          record { count = told_it.count; at = told_it.at; placed = (told_it.out, it.1); due = omega (arith, owes) }
-      placing Leaves is it due =
-          let told_it = from_out it.0 (ap (done_by plan (O on)) is) in
-          let owes = due_by told_it 1 (omega (arith, due)) in
-          record {
-            count = told_it.count;
-            at = told_it.at;
-            placed = (told_it.out, it.1, it.2);
-            due =
-                omega (arith, owes);
-          }
-      placing Tries is it due =
-          let told_it = from_out it.0 (ap (done_by plan (O on)) is) in
-          let owes = due_by told_it 0 (omega (arith, due)) in
-          record {
-            count = told_it.count;
-            at = told_it.at;
-            placed = (told_it.out, it.1, it.2);
-            due =
-                omega (arith, owes);
-          }
-      placing Turns is it due =
-          let told_it = from_out it.0 (ap (done_by plan (O on)) is) in
-          let owes = due_by told_it 0 (omega (arith, due)) in
-          record {
-            count = told_it.count;
-            at = told_it.at;
-            placed = (told_it.out, trying_too it.1, it.2);
-            due = omega (arith, owes);
-          }
-      placing Returns is it due =
-          let told_it = from_out it.0 (ap (done_by plan (O on)) is) in
-          let owes = due_by told_it 0 (omega (arith, due)) in
-          record {
-            count = told_it.count;
-            at = told_it.at;
-            placed = (told_it.out, trying_too it.1, it.2);
-            due = omega (arith, owes);
-          }
-      placing Writes is it due =
-          let told_it = from_out it.0 (ap (done_by plan (O on)) is) in
-          let owes = due_by told_it 0 (omega (arith, due)) in
-          record {
-            count = told_it.count;
-            at = told_it.at;
-            placed = (told_it.out, trying_too it.1, it.2, it.3);
-            due = omega (arith, owes);
-          }
-      placing Follows is it due = absurd (no_both it.0.lost_is)
-      placing Passes is it due = absurd (no_both it.0.lost_is)
-      placing Tells is it due = absurd (no_both it.0.lost_is)
-      placing Ends is it due = absurd (no_both it.1)
 
       -- ---- the new stage
 
@@ -608,8 +351,9 @@ module _ {game : Game} (on : Turn game) where
       divide_turn : GoesOn (Inv game s o) left (turn_in trial configuration s)
       divide_turn =
           let state = inv.state in
-          let it = placing (O on).phase refl state.other.placed state.other.ways in
-          let q : Purse = q_by it.count it.at in
+          let it = placing on spot.side placed.0 placed.1 others_done (O on).phase refl state.other.placed
+          state.other.ways in
+          let q : Purse = purse_of on spot.side it.count it.at in
           let small : m.side < 2 = state.below in
           let sides : (O on).side ≡ 1 - m.side = state.apart in
           let explored_is : explored plan inv.now (O on).side ≡ explored plan m.divisions (1 - m.side) =

@@ -25,7 +25,7 @@ use Rattle.bhs_protocols_divided.proofs.DividingState.{Game, Fit, IsHidden, Inv,
 use Rattle.bhs_protocols_divided.proofs.DividingState.{moves_left, commands_due, trial as trial_of}
 use Rattle.bhs_protocols_divided.proofs.DividingLemmas.{either}
 use Rattle.bhs_protocols_divided.proofs.DividingFacts.{plan_is}
-use Rattle.bhs_protocols_divided.proofs.DividingTells.{both_shares}
+use Rattle.bhs_protocols_divided.proofs.DividingShares.{both_shares}
 use Rattle.bhs_protocols_divided.proofs.DividingRest.{any_turn}
 use Rattle.bhs_protocols_divided.proofs.DividingVerdict.{at_rest, at_turn}
 use Rattle.bhs_protocols.proofs.HalvingLemmas.{rounds_half, rounds_within}

@@ -10,6 +10,8 @@ pub mod DividingAfter
 pub mod DividingArrivals
 pub mod DividingFollows
 pub mod DividingWrites
+pub mod DividingShares
+pub mod DividingPlacing
 pub mod DividingTells
 pub mod DividingRest
 pub mod DividingVerdict

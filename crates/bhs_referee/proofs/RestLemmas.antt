@@ -119,17 +119,17 @@ kempt_arrival world state marks agent (Bound node port) passes own kempt other =
   | inr h ↦ rw h.0 (kempt other)
 ]
   where
-    safe : (is_lost dooms : Bool) → (is_lost ≡ true → dooms ≡ true) → dooms ≡ false → is_lost ≡ false
-    safe true dooms implies harmless = absurd (true≢false (sym (implies refl) ∙ harmless))
-    safe false dooms implies harmless = refl
+    safe : (is_lost destroyers : Bool) → (is_lost ≡ true → destroyers ≡ true) → destroyers ≡ false → is_lost ≡ false
+    safe true destroyers implies harmless = absurd (true≢false (sym (implies refl) ∙ harmless))
+    safe false destroyers implies harmless = refl
 kempt_arrival world state marks agent After passes own kempt other = kempt other
 
 -- A destroyed agent was on a link that destroys.
 kempt_destroyed : (world : World) (state : State) (marks : ℕ → Bool) (agent : ℕ)
     → is_doomed world (state.position agent) ≡ true → AllKempt world state marks
     → AllKempt world state (changed marks agent true)
-kempt_destroyed world state marks agent dooms kempt other = elim (eqb_tells other agent) [
-  | inl h ↦ rw h.0 (rw h.1 (at (state.position agent) dooms (kempt agent)))
+kempt_destroyed world state marks agent destroyers kempt other = elim (eqb_tells other agent) [
+  | inl h ↦ rw h.0 (rw h.1 (at (state.position agent) destroyers (kempt agent)))
   | inr h ↦ rw h.0 (kempt other)
 ]
   where
@@ -161,10 +161,10 @@ all_kempt_next world state marks (Deliver agent) legal kempt =
     (λ spared. kempt))
   where
     apart : (position : Position) → is_let_through world position ≡ true → is_doomed world position ≡ true → ⊥
-    apart Before passes dooms = false≢true passes
-    apart (At node came) passes dooms = false≢true passes
-    apart (Bound node port) passes dooms = true≢false (sym dooms ∙ not-true (doomed world node port) passes)
-    apart After passes dooms = false≢true passes
+    apart Before passes destroyers = false≢true passes
+    apart (At node came) passes destroyers = false≢true passes
+    apart (Bound node port) passes destroyers = true≢false (sym destroyers ∙ not-true (doomed world node port) passes)
+    apart After passes destroyers = false≢true passes
 all_kempt_next world state marks Close legal kempt = kempt
 
 all_kempt_run : (world : World) (state : State) (marks : ℕ → Bool) (events : List Event) → AllLegal world state

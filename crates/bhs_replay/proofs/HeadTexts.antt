@@ -53,14 +53,14 @@ pub gathered : (version : Version) (net : Network) (setup : Setup) (a : List Tok
     → i ≡ h ++ member_tokens (codes "quota") setup.quota → j ≡ i ++ member_tokens (codes "replay")
     (version_number version) → k ≡ j ++ Token.end_object ∷ []
     → k ≡ a ++ data_tokens (head_data version net setup)
-gathered version net setup a {b} {c} {d} {e} {f} {g} {h} {i} {j} {k} begun agents board dooms home links nodes
+gathered version net setup a {b} {c} {d} {e} {f} {g} {h} {i} {j} {k} begun agents board destroyers home links nodes
     quota replay ended =
     let rest_1 = joined i j k _ _ replay ended in
     let rest_2 = joined h i k _ _ quota rest_1 in
     let rest_3 = joined g h k _ _ nodes rest_2 in
     let rest_4 = joined f g k _ _ links rest_3 in
     let rest_5 = joined e f k _ _ home rest_4 in
-    let rest_6 = joined d e k _ _ dooms rest_5 in
+    let rest_6 = joined d e k _ _ destroyers rest_5 in
     let rest_7 = joined c d k _ _ board rest_6 in
     let rest_8 = joined b c k _ _ agents rest_7 in
     let all = joined a b k _ _ begun rest_8 in

@@ -8,8 +8,8 @@ ghost use Rattle.bhs_replay.specs.HeadReading.{setup_with, holes_in, dark_in, ea
 ghost use Rattle.bhs_replay.specs.HeadReading.{pair_in, link_in};
 ghost use Rattle.bhs_replay.specs.HeadSeen.{seen};
 
+use crate::event_reader::port_of;
 use crate::heads::Version;
-use crate::reading::port_of;
 use bhs_model::{DarkLinks, Holes, Setup};
 use bhs_net::{Link, Memory};
 use serde_json::Value;

@@ -2,21 +2,22 @@
 #![tactic(auto)]
 
 mod beginnings;
+mod event_reader;
 mod events;
 mod faults;
+mod first_line;
 mod head_parts;
 mod heads;
 mod laws;
 mod lines;
 mod links;
-mod opening;
 mod read;
 mod reader;
-mod reading;
 mod sights;
 mod steps;
-mod writing;
+mod writer;
 
+pub use event_reader::reply_in;
 pub use events::each_event_is_typed;
 pub use faults::{ReplayFault, WritingFault};
 pub use heads::{Version, head_of};
@@ -26,5 +27,4 @@ pub use laws::{
 };
 pub use lines::{event_line, line_of};
 pub use read::{read_part, read_replay};
-pub use reading::reply_in;
-pub use writing::{write_part, write_replay};
+pub use writer::{write_part, write_replay};

@@ -8,7 +8,7 @@ ghost use Rattle.bhs_replay.specs.Parts.{IsClosedAt, closed_events};
 ghost use Rattle.bhs_replay.specs.Readers.{Stands, stage_by, stage_in, stage_at, finished_by, finished, Holds, IsPast};
 
 use crate::faults::ReplayFault;
-use crate::opening::opened;
+use crate::first_line::opened;
 use crate::steps::play_line;
 use bhs_match::{Match, Sealed};
 use bhs_model::Event;

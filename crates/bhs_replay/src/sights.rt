@@ -12,7 +12,7 @@ ghost use Rattle.bhs_replay.specs.EventLine.{answered, event_line, reply_part, s
 ghost use Rattle.bhs_replay.specs.Sights.{command_of, event_of};
 
 use crate::beginnings::{after, seen_number, seen_text};
-use crate::reading::why_by;
+use crate::event_reader::why_by;
 use bhs_model::{Command, Event, Text};
 use bhs_net::Memory;
 use bhs_wire::LentReply;

@@ -11,12 +11,12 @@ ghost use Rattle.bhs_wire.specs.LentReply.{reply_of};
 ghost use Rattle.bhs_replay.specs.Spelling.{spelled};
 ghost use Rattle.bhs_replay.specs.Reading.{stage_of};
 
+use crate::event_reader::{read_event, spells};
 use crate::events::{each_event_is_typed, each_reply_is_typed};
 use crate::faults::ReplayFault;
 use crate::lines::lent;
-use crate::reading::{read_event, spells};
 use crate::sights::seen;
-use crate::writing::end_line;
+use crate::writer::end_line;
 use bhs_match::Match;
 use bhs_model::{Event, Mark};
 use bhs_net::Memory;

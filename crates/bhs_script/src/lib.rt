@@ -5,12 +5,12 @@ mod faults;
 mod instructions;
 mod meanings;
 mod numbers;
-mod printing;
+mod output;
 mod script;
 
 pub use faults::ScriptFault;
 pub use instructions::{CONNECTIONS, Instruction};
 pub use meanings::Meaning;
 pub use numbers::number_of;
-pub use printing::push_printed;
+pub use output::push_printed;
 pub use script::{instructions_in, meaning_of};

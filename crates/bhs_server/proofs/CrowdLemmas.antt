@@ -1,7 +1,7 @@
 -- Loop invariant: counting the waiting clients in order.
 use Rattle.std.proofs.Common.{arith, ℕ, zero, suc, ◌≡◌, ◌≤◌, Some, List, [], ◌∷◌, length}
 use Rattle.std.proofs.Common.{refl, ap}
-use Rattle.bhs_server.specs.declared.waiting.Known.{Known}
+use Rattle.bhs_server.specs.declared.queue.Known.{Known}
 use Rattle.bhs_server.specs.Waiting.{cut_at}
 
 -- nobody stands at a place behind all

@@ -1,4 +1,4 @@
--- A session on a cell's port: its commands with their answers, and what it wrote to its client.
+-- A session over a port to a shared match: its commands with their answers, and what it wrote to its client.
 use Rattle.std.proofs.Common.{◌≡◌, ◌∙◌, ℕ, zero, suc, inl, inr, Option, Some, None, List, [], ◌∷◌, ◌++◌, map, take}
 use Rattle.std.proofs.Common.{drop, length, get_or, ◌<◌, arith, Result, Ok, Err, IfOk, OnErr}
 use Rattle.std.proofs.Common.{true, false, option_to_list, refl, sym, ap, ap₂, subst, append_assoc, append-nil}
@@ -16,7 +16,7 @@ use Rattle.bhs_stream.specs.Streams.{WriteAnswer}
 use Rattle.bhs_shared_match.specs.declared.model.Receipt.{Receipt}
 use Rattle.bhs_shared_match.specs.Passes.{Passed, tally_in}
 use Rattle.bhs_shared_match.specs.Recording.{is_unheard, refusal_by, IsSubmitted}
-use Rattle.bhs_shared_match.specs.Cells.{Given, GainsArrival, IsNews}
+use Rattle.bhs_shared_match.specs.SharedMatches.{Given, GainsArrival, IsNews}
 use Rattle.bhs_session.specs.declared.endings.Ended.{Ended as Ending}
 use Rattle.bhs_session.specs.declared.endings.Ended.TheVariants as endings
 use Rattle.bhs_session.specs.Phase.{Phase, Fresh, Ready, Awaits, Owes, Leaves, Finished, answered_by, stopped}
@@ -27,7 +27,7 @@ use Rattle.bhs_session.specs.Session.{TakesLines}
 use Rattle.bhs_session.specs.Answering.{IsLastLine, MayLack, IsUnwritten}
 use Rattle.bhs_session.proofs.LackLemmas.{lacks_none}
 use Rattle.bhs_server.specs.declared.ports.SessionAgent.{SessionAgent}
-use Rattle.bhs_server.specs.Ports.{Seated, IsOfCell, IsNewsIn, IsToldBy, Calls}
+use Rattle.bhs_server.specs.Ports.{Seated, IsOfSharedMatch, IsNewsIn, IsToldBy, Calls}
 use Rattle.bhs_server.specs.Exchanges.{Exchange, Took, Refused, Came, reply_in, text_if}
 use Rattle.bhs_server.specs.Exchanges.{session_text, commands_in, receipts_in, kept_in, arrivals_in, phase_after}
 use Rattle.bhs_server.specs.Exchanges.{phase_from, IsInTurn, AreInTurn}
@@ -115,8 +115,8 @@ Known written taken phase (Some played) = Talks written taken phase played.pass
 
 -- The session's pass belongs to the match that it plays on.
 abbrev pub IsPlayedOn : List Given → Option SessionAgent → Type 0
-IsPlayedOn cells None = Unit {0}
-IsPlayedOn cells (Some played) = IsOfCell cells played.game played.pass
+IsPlayedOn shared_matches None = Unit {0}
+IsPlayedOn shared_matches (Some played) = IsOfSharedMatch shared_matches played.game played.pass
 
 -- between two answers: all is written, and every line taken was answered
 pub record Answered (written : List ℕ) (taken : List Line) (now : Phase) (pass : Passed) : Type 0 where
@@ -285,25 +285,27 @@ of_news : (given : Given) (pass pass' : Passed) (reply : Reply) → IsNews given
     PassNews pass reply pass'
 of_news given pass pass' reply is = grind arith
 
-pub pass_news : (cells : List Given) (game : ℕ) (pass pass' : Passed) (reply : Reply)
-    → IsNewsIn cells game pass reply pass' → PassNews pass reply pass'
+pub pass_news : (shared_matches : List Given) (game : ℕ) (pass pass' : Passed) (reply : Reply)
+    → IsNewsIn shared_matches game pass reply pass' → PassNews pass reply pass'
 pass_news [] game pass pass' reply is = subst (λ (said : Reply). PassNews pass said pass') (sym is.0) is.1
-pass_news (given ∷ cells) zero pass pass' reply is = of_news given pass pass' reply is
-pass_news (given ∷ cells) (suc game) pass pass' reply is = pass_news cells game pass pass' reply is
+pass_news (given ∷ shared_matches) zero pass pass' reply is = of_news given pass pass' reply is
+pass_news (given ∷ shared_matches) (suc game) pass pass' reply is = pass_news shared_matches game pass pass' reply is
 
 -- Case analysis: the number belongs to a match of the list.
-news_at : (cells : List Given) (game : ℕ) (pass pass' : Passed) (given : Given) → game < length cells
-    → given ≡ get_or cells game given → (reply : Reply) → IsNews given pass reply pass'
-    → IsNewsIn cells game pass reply pass'
+news_at : (shared_matches : List Given) (game : ℕ) (pass pass' : Passed) (given : Given) → game < length shared_matches
+    → given ≡ get_or shared_matches game given → (reply : Reply) → IsNews given pass reply pass'
+    → IsNewsIn shared_matches game pass reply pass'
 news_at [] game pass pass' given below there reply is = absurd (omega (arith, below))
-news_at (first ∷ cells) zero pass pass' given below there reply is =
+news_at (first ∷ shared_matches) zero pass pass' given below there reply is =
     subst (λ (one : Given). IsNews one pass reply pass') there is
-news_at (first ∷ cells) (suc game) pass pass' given below there reply is =
-    news_at cells game pass pass' given (omega (arith, below)) there reply is
+news_at (first ∷ shared_matches) (suc game) pass pass' given below there reply is =
+    news_at shared_matches game pass pass' given (omega (arith, below)) there reply is
 
 pub news_called : (inside old : Seated) (played : SessionAgent) (pass' : Passed) (given : Given)
-    (result : Result Reply AllocError) → inside ≡ old → inside.played ≡ Some played → played.game < length inside.cells
-    → given ≡ get_or inside.cells played.game given → IfOk result (λ reply. IsNews given played.pass reply pass')
+    (result : Result Reply AllocError) → inside ≡ old → inside.played ≡ Some played
+    → played.game < length inside.shared_matches
+    → given ≡ get_or inside.shared_matches played.game given
+    → IfOk result (λ reply. IsNews given played.pass reply pass')
     → OnErr result (pass' ≡ played.pass) →
     Calls old News (answered result) (record inside { played = Some (record played { pass = pass' }) })
 news_called inside old played pass' given result same plays below there news failed =
@@ -314,7 +316,7 @@ news_called inside old played pass' given result same plays below there news fai
         → OnErr result (pass' ≡ played.pass) →
         Calls inside News (answered result) (record inside { played = Some (record played { pass = pass' }) })
     by_result (Ok reply) news failed =
-        rw plays (pass', news_at inside.cells played.game played.pass pass' given below there reply news, refl)
+        rw plays (pass', news_at inside.shared_matches played.game played.pass pass' given below there reply news, refl)
     by_result (Err error) news failed = rw (failed, plays) refl
 
 -- the answer to news

@@ -6,11 +6,11 @@ use Rattle.std.proofs.lemmas.Bool.{cond-true, cond-false, eq-eqb}
 use Rattle.std.proofs.lemmas.Bool.Decides.{eqb_tells}
 use Rattle.std.proofs.lemmas.List.{append-nil, length_push}
 use Rattle.rand_chacha.specs.ChaCha.{ChaCha}
-use Rattle.bhs_shared_match.specs.Cells.{Given}
+use Rattle.bhs_shared_match.specs.SharedMatches.{Given}
 use Rattle.bhs_shared_match.specs.Passes.{Passed}
-use Rattle.bhs_shared_match.specs.declared.settling.Settlement.{Settlement}
+use Rattle.bhs_shared_match.specs.declared.settlement.Settlement.{Settlement}
 use Rattle.bhs_server.specs.declared.sessions.Session.{Session}
-use Rattle.bhs_server.specs.declared.settling.Refused.{Refused}
+use Rattle.bhs_server.specs.declared.settlement.Refused.{Refused}
 use Rattle.bhs_server.specs.Settling.{AreSettledBy, HasFared, HaveFared, IsSettledBy, at_start, others_than, passes_in}
 use Rattle.bhs_server.proofs.SealLemmas.{HaveFared-snoc, fared_later}
 
@@ -116,21 +116,22 @@ passes_of_others game other (session ∷ sessions) differ =
 
 -- ---- a match more
 
-settled_more : (game : ℕ) (cells : List Given) (sessions : List Session) (settled : List (Result Settlement Refused))
-    (given : Given) (one : Result Settlement Refused) → AreSettledBy game cells sessions settled →
+settled_more : (game : ℕ) (shared_matches : List Given) (sessions : List Session)
+    (settled : List (Result Settlement Refused))
+    (given : Given) (one : Result Settlement Refused) → AreSettledBy game shared_matches sessions settled →
     IsSettledBy given (passes_in (game + length settled) sessions) one →
-    AreSettledBy game (cells ++ given ∷ []) sessions (settled ++ one ∷ [])
+    AreSettledBy game (shared_matches ++ given ∷ []) sessions (settled ++ one ∷ [])
 settled_more game [] sessions [] given one all is =
     let same : game + 0 ≡ game = omega arith in
     (subst (λ (n : ℕ). IsSettledBy given (passes_in n sessions) one) same is, tt)
-settled_more game (first ∷ cells) sessions (before ∷ settled) given one all is =
+settled_more game (first ∷ shared_matches) sessions (before ∷ settled) given one all is =
     let same : game + length (before ∷ settled) ≡ suc game + length settled = omega arith in (
       all.0,
-      settled_more (suc game) cells sessions settled given one all.1
+      settled_more (suc game) shared_matches sessions settled given one all.1
           (subst (λ (n : ℕ). IsSettledBy given (passes_in n sessions) one) same is),
     )
 settled_more game [] sessions (before ∷ settled) given one all is = absurd all
-settled_more game (first ∷ cells) sessions [] given one all is = absurd all
+settled_more game (first ∷ shared_matches) sessions [] given one all is = absurd all
 
 -- what is left of sessions whose matches have these results: those of later matches have all their passes
 abbrev pub AreLeft : (all left : List Session) → List (Result Settlement Refused) → Type 0
@@ -145,19 +146,20 @@ left_behind all left others number settled one place is same game behind =
     ap (passes_in game) is ∙ passes_of_others game number left differ ∙ same game (omega (arith, longer, behind))
 
 -- The results of the matches settled so far, each with the dealer of its number and with the passes of its sessions.
-abbrev pub AreDone : (cells rest : List Given) → List ChaCha → (all left : List Session)
+abbrev pub AreDone : (shared_matches rest : List Given) → List ChaCha → (all left : List Session)
     → List (Result Settlement Refused) → Type 0
-AreDone cells rest dealers all left settled = (done : List Given) × (cells ≡ done ++ rest)
+AreDone shared_matches rest dealers all left settled = (done : List Given) × (shared_matches ≡ done ++ rest)
     × HaveFared done dealers settled × AreSettledBy 0 done all settled × AreLeft all left settled
 
--- Settling the next of the remaining cells preserves the invariant.
-pub next_settled : (cells rest others : List Given) (dealers : List ChaCha) (given : Given)
+-- Settling the next of the remaining shared matches preserves the invariant.
+pub next_settled : (shared_matches rest others : List Given) (dealers : List ChaCha) (given : Given)
     (settled : List (Result Settlement Refused)) (one : Result Settlement Refused) (all left behind : List Session)
-    (own : List Passed) (number : ℕ) → rest ≡ given ∷ others → AreDone cells rest dealers all left settled →
+    (own : List Passed) (number : ℕ) → rest ≡ given ∷ others → AreDone shared_matches rest dealers all left settled →
     HasFared given (option_map at_start (slice_get dealers (length settled))) one → number ≡ length settled →
     own ≡ passes_in number left → behind ≡ others_than number left → IsSettledBy given own one →
-    AreDone cells others dealers all behind (settled ++ one ∷ [])
-next_settled cells rest others dealers given settled one all left behind own number next before is place parts rests
+    AreDone shared_matches others dealers all behind (settled ++ one ∷ [])
+next_settled shared_matches rest others dealers given settled one all left behind own number next before is place parts
+    rests
     by =
     let done : List Given = before.0 in
     let none : length settled ≡ 0 + length settled = omega arith in

@@ -6,10 +6,10 @@ use Rattle.rand_chacha.specs.ChaCha.{ChaCha}
 use Rattle.bhs_time.specs.declared.kinds.ScheduleKind.{ScheduleKind}
 use Rattle.bhs_time.specs.declared.kinds.ScheduleKind.TheVariants.{Adaptive, Oblivious}
 use Rattle.bhs_match.specs.Matches.{Play}
-use Rattle.bhs_shared_match.specs.Cells.{Given}
-use Rattle.bhs_shared_match.specs.declared.settling.Settlement.{Settlement}
-use Rattle.bhs_server.specs.declared.settling.Refused.{Refused}
-use Rattle.bhs_server.specs.declared.settling.Refused.TheVariants.{Unsettled, Untimely}
+use Rattle.bhs_shared_match.specs.SharedMatches.{Given}
+use Rattle.bhs_shared_match.specs.declared.settlement.Settlement.{Settlement}
+use Rattle.bhs_server.specs.declared.settlement.Refused.{Refused}
+use Rattle.bhs_server.specs.declared.settlement.Refused.TheVariants.{Unsettled, Untimely}
 use Rattle.bhs_deliveries.specs.declared.timeliness.Untimely.{Untimely as Why}
 use Rattle.bhs_server.specs.Settling.{HaveFared, HasFared, IsTimely, IsAstray, at_start}
 
@@ -49,17 +49,17 @@ other_copies [] = refl
 other_copies (dealer ∷ dealers) = refl
 
 -- what came of matches by copies of dealers came of them by these dealers
-pub all_later : (cells : List Given) (dealers : List ChaCha) (settled : List Fared) →
-    HaveFared cells (map at_start dealers) settled → HaveFared cells dealers settled
+pub all_later : (shared_matches : List Given) (dealers : List ChaCha) (settled : List Fared) →
+    HaveFared shared_matches (map at_start dealers) settled → HaveFared shared_matches dealers settled
 all_later [] dealers [] all = tt
-all_later (given ∷ cells) dealers (one ∷ settled) all = (
+all_later (given ∷ shared_matches) dealers (one ∷ settled) all = (
   fared_later given (slice_get dealers 0) one
       (subst (λ (dealer : Option ChaCha). HasFared given dealer one) (first_copy dealers) all.0),
-  all_later cells (drop 1 dealers) settled
-      (subst (λ (left : List ChaCha). HaveFared cells left settled) (other_copies dealers) all.1),
+  all_later shared_matches (drop 1 dealers) settled
+      (subst (λ (left : List ChaCha). HaveFared shared_matches left settled) (other_copies dealers) all.1),
 )
 all_later [] dealers (one ∷ settled) all = absurd all
-all_later (given ∷ cells) dealers [] all = absurd all
+all_later (given ∷ shared_matches) dealers [] all = absurd all
 
 -- ---- one more match
 
@@ -68,14 +68,15 @@ get_later [] n = refl
 get_later (dealer ∷ dealers) n = refl
 
 -- one more match that is settled, by the dealer of its number
-pub HaveFared-snoc : (cells : List Given) (dealers : List ChaCha) (settled : List Fared) (given : Given) (one : Fared) →
-    HaveFared cells dealers settled → HasFared given (slice_get dealers (length settled)) one →
-    HaveFared (cells ++ given ∷ []) dealers (settled ++ one ∷ [])
+pub HaveFared-snoc : (shared_matches : List Given) (dealers : List ChaCha) (settled : List Fared) (given : Given)
+    (one : Fared) →
+    HaveFared shared_matches dealers settled → HasFared given (slice_get dealers (length settled)) one →
+    HaveFared (shared_matches ++ given ∷ []) dealers (settled ++ one ∷ [])
 HaveFared-snoc [] dealers [] given one all is = (is, tt)
-HaveFared-snoc (first ∷ cells) dealers (before ∷ settled) given one all is = (
+HaveFared-snoc (first ∷ shared_matches) dealers (before ∷ settled) given one all is = (
   all.0,
-  HaveFared-snoc cells (drop 1 dealers) settled given one all.1
+  HaveFared-snoc shared_matches (drop 1 dealers) settled given one all.1
       (subst (λ (dealer : Option ChaCha). HasFared given dealer one) (get_later dealers (length settled)) is),
 )
 HaveFared-snoc [] dealers (before ∷ settled) given one all is = absurd all
-HaveFared-snoc (first ∷ cells) dealers [] given one all is = absurd all
+HaveFared-snoc (first ∷ shared_matches) dealers [] given one all is = absurd all

@@ -1,4 +1,4 @@
--- What a session on a cell's port wrote, step by step.
+-- What a session over a port to a shared match wrote, step by step.
 use Rattle.std.proofs.Common.{◌≡◌, ◌∙◌, ℕ, zero, suc, inl, inr, Option, Some, None, List, [], ◌∷◌, ◌++◌, map}
 use Rattle.std.proofs.Common.{length, get_or, ◌<◌, arith}
 use Rattle.std.proofs.Common.{option_to_list, refl, sym, ap, subst, append-nil}
@@ -16,7 +16,7 @@ use Rattle.bhs_setups.specs.KeyTable.{Seat}
 use Rattle.bhs_shared_match.specs.declared.model.Receipt.{Receipt}
 use Rattle.bhs_shared_match.specs.Passes.{Passed}
 use Rattle.bhs_shared_match.specs.Recording.{IsSubmitted}
-use Rattle.bhs_shared_match.specs.Cells.{Given}
+use Rattle.bhs_shared_match.specs.SharedMatches.{Given}
 use Rattle.bhs_shared_match.specs.Unclaimed.{IsFresh}
 use Rattle.bhs_session.specs.declared.endings.Ended.{Ended as Ending}
 use Rattle.bhs_session.specs.declared.endings.Ended.TheVariants as endings
@@ -30,7 +30,7 @@ use Rattle.bhs_session.specs.Session.{lacks}
 use Rattle.bhs_session.specs.Session.{tires, leaves, fresh, TakesLines, after_read, Serves}
 use Rattle.bhs_session.proofs.SessionLaws.{InOrder-session}
 use Rattle.bhs_server.specs.declared.ports.SessionAgent.{SessionAgent}
-use Rattle.bhs_server.specs.Ports.{Seated, IsOfCell, IsToldBy, Calls}
+use Rattle.bhs_server.specs.Ports.{Seated, IsOfSharedMatch, IsToldBy, Calls}
 use Rattle.bhs_server.specs.Exchanges.{session_text, receipts_in, kept_in}
 use Rattle.bhs_server.specs.Exchanges.{phase_from, AreInTurn}
 use Rattle.bhs_server.specs.Written.{Ends, IsWrittenFor, IsAttended}
@@ -84,13 +84,13 @@ finished_without written taken line pass a =
 
 -- a port by its parts
 abbrev seated : List Seat → List Given → Option SessionAgent → Seated
-seated keys cells played = record { keys = keys; cells = cells; played = played }
+seated keys shared_matches played = record { keys = keys; shared_matches = shared_matches; played = played }
 
-module _ (written : List ℕ) (taken : List Line) (keys : List Seat) (cells : List Given) where
+module _ (written : List ℕ) (taken : List Line) (keys : List Seat) (shared_matches : List Given) where
   -- the first line
   first_heard : (line : Line) (key : List ℕ) (heard : PortAnswer) (new : Seated) (says : said_by line
       ≡ firsts.Enter key) →
-      Calls (seated keys cells None) (Enters key) heard new → Alone written taken Fresh
+      Calls (seated keys shared_matches None) (Enters key) heard new → Alone written taken Fresh
       → Known written (taken ++ line ∷ []) (hear Fresh heard) new.played
   first_heard line key (LetIn entered.Key) new says called k =
       subst (λ (port : Seated). Known written (taken ++ line ∷ []) (denied denials.Key) port.played) (sym called.0)
@@ -114,7 +114,7 @@ module _ (written : List ℕ) (taken : List Line) (keys : List Seat) (cells : Li
 
   -- a later line
   later_heard : (line : Line) (played : SessionAgent) (heard : PortAnswer) (new : Seated) →
-      Calls (seated keys cells (Some played)) (Tells (command_of line)) heard new
+      Calls (seated keys shared_matches (Some played)) (Tells (command_of line)) heard new
       → Talks written taken Ready played.pass
       → Known written (taken ++ line ∷ []) (hear Ready heard) new.played
   later_heard line played (Answers reply) new called k =
@@ -130,7 +130,7 @@ module _ (written : List ℕ) (taken : List Line) (keys : List Seat) (cells : Li
 
   -- news
   news_heard : (played : SessionAgent) (heard : PortAnswer) (new : Seated) →
-      Calls (seated keys cells (Some played)) News heard new → Talks written taken Awaits played.pass
+      Calls (seated keys shared_matches (Some played)) News heard new → Talks written taken Awaits played.pass
       → Known written taken (hear Awaits heard) new.played
   news_heard played (Answers reply) new called k =
       subst (λ (lines : List Line). Known written lines (hear Awaits (Answers reply)) new.played) (append-nil taken)
@@ -138,7 +138,7 @@ module _ (written : List ℕ) (taken : List Line) (keys : List Seat) (cells : Li
       (sym called.2)
       (news_answered written taken played.pass called.0 reply
       (answered_all written taken Awaits Awaits played.pass k k.is_unwritten k.stands)
-      (pass_news cells played.game played.pass called.0 reply called.1)))
+      (pass_news shared_matches played.game played.pass called.0 reply called.1)))
   news_heard played NoMemory new called k =
       subst (λ (lines : List Line). Known written lines (Leaves endings.Memory) new.played) (append-nil taken)
       (subst (λ (port : Seated). Known written (taken ++ []) (Leaves endings.Memory) port.played) (sym called)
@@ -198,7 +198,7 @@ module _ (written : List ℕ) (taken : List Line) (keys : List Seat) (cells : Li
       (ap (λ (one : Passed). one.commands) is.gains) (ap (λ (one : Passed). one.arrivals) is.gains)
 
   leave_heard : (ended : Ending) (played : SessionAgent) (heard : PortAnswer) (new : Seated) →
-      Calls (seated keys cells (Some played)) (Tells commands.Leave) heard new
+      Calls (seated keys shared_matches (Some played)) (Tells commands.Leave) heard new
       → Talks written taken (Leaves ended) played.pass → Known written taken (Finished ended) new.played
   leave_heard ended played (Answers reply) new called k =
       subst (λ (port : Seated). Known written taken (Finished ended) port.played) (sym called.2)
@@ -211,17 +211,17 @@ module _ (written : List ℕ) (taken : List Line) (keys : List Seat) (cells : Li
   -- a line
   first_known : (line : Line) (asked : PortRequest) (heard : PortAnswer) (new : Seated) (first : First)
       → said_by line ≡ first →
-      ask Fresh first ≡ Asks asked → Calls (seated keys cells None) asked heard new → Alone written taken Fresh
+      ask Fresh first ≡ Asks asked → Calls (seated keys shared_matches None) asked heard new → Alone written taken Fresh
       → Known written (taken ++ line ∷ []) (hear Fresh heard) new.played
   first_known line asked heard new (firsts.Enter key) says is called k =
       let same : asked ≡ Enters key = cc in
       first_heard line key heard new says
-      (subst (λ (one : PortRequest). Calls (seated keys cells None) one heard new) same called) k
+      (subst (λ (one : PortRequest). Calls (seated keys shared_matches None) one heard new) same called) k
   first_known line asked heard new (firsts.Tell command) says is called k = absurd (cc)
 
   asked_known : (phase : Phase) (played : Option SessionAgent) (line : Line) (asked : PortRequest) (heard : PortAnswer)
       (new : Seated) →
-      ask phase (said_by line) ≡ Asks asked → Calls (seated keys cells played) asked heard new →
+      ask phase (said_by line) ≡ Asks asked → Calls (seated keys shared_matches played) asked heard new →
       Known written taken phase played → Known written (taken ++ line ∷ []) (hear phase heard) new.played
   asked_known Fresh None line asked heard new is called k =
       first_known line asked heard new (said_by line) refl is called k
@@ -230,7 +230,7 @@ module _ (written : List ℕ) (taken : List Line) (keys : List Seat) (cells : Li
   asked_known Ready (Some played) line asked heard new is called k =
       let same : asked ≡ Tells (command_of line) = cc in
       later_heard line played heard new
-      (subst (λ (one : PortRequest). Calls (seated keys cells (Some played)) one heard new) same called) k
+      (subst (λ (one : PortRequest). Calls (seated keys shared_matches (Some played)) one heard new) same called) k
   asked_known Awaits played line asked heard new is called k = absurd (cc)
   asked_known (Owes text next) played line asked heard new is called k = absurd (cc)
   asked_known (Leaves ended) played line asked heard new is called k = absurd (cc)
@@ -248,13 +248,14 @@ module _ (written : List ℕ) (taken : List Line) (keys : List Seat) (cells : Li
   denied_known (Finished ended) played line denial is k = absurd (cc)
 
   news_known : (played : Option SessionAgent) (heard : PortAnswer) (new : Seated)
-      → Calls (seated keys cells played) News heard new
+      → Calls (seated keys shared_matches played) News heard new
       → Known written taken Awaits played → Known written taken (hear Awaits heard) new.played
   news_known None heard new called k = absurd k.stands
   news_known (Some played) heard new called k = news_heard played heard new called k
 
   left_known : (ended : Ending) (played : Option SessionAgent) (heard : PortAnswer) (new : Seated) →
-      Calls (seated keys cells played) (Tells commands.Leave) heard new → Known written taken (Leaves ended) played
+      Calls (seated keys shared_matches played) (Tells commands.Leave) heard new
+      → Known written taken (Leaves ended) played
       → Known written taken (Finished ended) new.played
   left_known ended None heard new called k = absurd k.stands
   left_known ended (Some played) heard new called k = leave_heard ended played heard new called k
@@ -267,12 +268,13 @@ module _ {O : Type 0} (takes : O → List ℕ → WriteAnswer → O → Type 0) 
 
   step_known : (p q : Point O Seated) → SessionStep takes Calls p q → At p → At q
   step_known _ _ (asks p line asked heard new says next called) k =
-      asked_known p.written p.taken p.port.keys p.port.cells p.phase p.port.played line asked heard new says called k
+      asked_known p.written p.taken p.port.keys p.port.shared_matches p.phase p.port.played line asked heard new says
+      called k
   step_known _ _ (denies p line denial says next) k =
-      denied_known p.written p.taken p.port.keys p.port.cells p.phase p.port.played line denial says k
+      denied_known p.written p.taken p.port.keys p.port.shared_matches p.phase p.port.played line denial says k
   step_known _ _ (awaits p heard new at called) k =
       subst (λ (phase : Phase). Known p.written p.taken (hear phase heard) new.played) (sym at)
-      (news_known p.written p.taken p.port.keys p.port.cells p.port.played heard new called
+      (news_known p.written p.taken p.port.keys p.port.shared_matches p.port.played heard new called
       (subst (λ (phase : Phase). Known p.written p.taken phase p.port.played) at k))
   step_known _ _ (sends p some output next sent) k =
       sent_known takes p.written p.taken p.port.played p.output output p.phase next some sent k
@@ -281,7 +283,7 @@ module _ {O : Type 0} (takes : O → List ℕ → WriteAnswer → O → Type 0) 
   step_known _ _ (tires p lines every left) k =
       stopped_known p.written p.taken p.phase p.port.played endings.Turns tt (λ now line. (line, refl, refl)) lines k
   step_known _ _ (leaves p ended heard new at called) k =
-      left_known p.written p.taken p.port.keys p.port.cells ended p.port.played heard new called
+      left_known p.written p.taken p.port.keys p.port.shared_matches ended p.port.played heard new called
       (subst (λ (phase : Phase). Known p.written p.taken phase p.port.played) at k)
 
   read_known : (p : Point O Seated) (chunk : Chunk) → TakesLines p.phase → At p → At (after_read chunk p)
@@ -312,140 +314,152 @@ quota_news : (pass pass' : Passed) (reply : Reply) → PassNews pass reply pass'
 quota_news pass pass' reply is = grind arith
 
 -- Case analysis: the list has no match with this number.
-of_none : (cells : List Given) (game : ℕ) (pass : Passed) → slice_get cells game ≡ None → IsOfCell cells game pass → ⊥
+of_none : (shared_matches : List Given) (game : ℕ) (pass : Passed) →
+    slice_get shared_matches game ≡ None → IsOfSharedMatch shared_matches game pass → ⊥
 of_none [] game pass none is = is
-of_none (first ∷ cells) zero pass none is = absurd (cc)
-of_none (first ∷ cells) (suc game) pass none is = of_none cells game pass none is
+of_none (first ∷ shared_matches) zero pass none is = absurd (cc)
+of_none (first ∷ shared_matches) (suc game) pass none is = of_none shared_matches game pass none is
 
-pub of_given : (cells : List Given) (game : ℕ) (pass : Passed) (given : Given) → slice_get cells game ≡ Some given
-    → IsOfCell cells game pass → pass.quota ≡ given.setup.quota
+pub of_given : (shared_matches : List Given) (game : ℕ) (pass : Passed) (given : Given)
+    → slice_get shared_matches game ≡ Some given
+    → IsOfSharedMatch shared_matches game pass → pass.quota ≡ given.setup.quota
 of_given [] game pass given there is = absurd (cc)
-of_given (first ∷ cells) zero pass given there is =
+of_given (first ∷ shared_matches) zero pass given there is =
     let same : first ≡ given = cc in is ∙ ap (λ (one : Given). one.setup.quota) same
-of_given (first ∷ cells) (suc game) pass given there is = of_given cells game pass given there is
+of_given (first ∷ shared_matches) (suc game) pass given there is = of_given shared_matches game pass given there is
 
-of_some : (cells : List Given) (game : ℕ) (pass : Passed) (given : Given) → slice_get cells game ≡ Some given
-    → pass.quota ≡ given.setup.quota → IsOfCell cells game pass
+of_some : (shared_matches : List Given) (game : ℕ) (pass : Passed) (given : Given)
+    → slice_get shared_matches game ≡ Some given
+    → pass.quota ≡ given.setup.quota → IsOfSharedMatch shared_matches game pass
 of_some [] game pass given there is = absurd (cc)
-of_some (first ∷ cells) zero pass given there is =
+of_some (first ∷ shared_matches) zero pass given there is =
     let same : first ≡ given = cc in is ∙ ap (λ (one : Given). one.setup.quota) (sym same)
-of_some (first ∷ cells) (suc game) pass given there is = of_some cells game pass given there is
+of_some (first ∷ shared_matches) (suc game) pass given there is = of_some shared_matches game pass given there is
 
 -- Case analysis: the number belongs to a match of the list.
-pub of_at : (cells own : List Given) (game : ℕ) (pass : Passed) (given : Given) → cells ≡ own → game < length cells
-    → given ≡ get_or cells game given → pass.quota ≡ given.setup.quota → IsOfCell own game pass
-of_at cells own game pass given same below there is =
-    subst (λ (all : List Given). IsOfCell all game pass) same (go cells game below there)
+pub of_at : (shared_matches own : List Given) (game : ℕ) (pass : Passed) (given : Given) → shared_matches ≡ own
+    → game < length shared_matches
+    → given ≡ get_or shared_matches game given → pass.quota ≡ given.setup.quota → IsOfSharedMatch own game pass
+of_at shared_matches own game pass given same below there is =
+    subst (λ (all : List Given). IsOfSharedMatch all game pass) same (go shared_matches game below there)
   where
-    go : (cells : List Given) (game : ℕ) → game < length cells → given ≡ get_or cells game given
-        → IsOfCell cells game pass
+    go : (shared_matches : List Given) (game : ℕ) → game < length shared_matches
+        → given ≡ get_or shared_matches game given
+        → IsOfSharedMatch shared_matches game pass
     go [] game below there = absurd (omega (arith, below))
-    go (first ∷ cells) zero below there = is ∙ ap (λ (one : Given). one.setup.quota) there
-    go (first ∷ cells) (suc game) below there = go cells game (omega (arith, below)) there
+    go (first ∷ shared_matches) zero below there = is ∙ ap (λ (one : Given). one.setup.quota) there
+    go (first ∷ shared_matches) (suc game) below there = go shared_matches game (omega (arith, below)) there
 
-of_cell_same : (cells : List Given) (game : ℕ) (pass pass' : Passed) → pass'.quota ≡ pass.quota
-    → IsOfCell cells game pass → IsOfCell cells game pass'
-of_cell_same cells game pass pass' same is = by_given (slice_get cells game) refl
+of_shared_match_same : (shared_matches : List Given) (game : ℕ) (pass pass' : Passed) → pass'.quota ≡ pass.quota
+    → IsOfSharedMatch shared_matches game pass → IsOfSharedMatch shared_matches game pass'
+of_shared_match_same shared_matches game pass pass' same is = by_given (slice_get shared_matches game) refl
   where
-    by_given : (found : Option Given) → slice_get cells game ≡ found → IsOfCell cells game pass'
-    by_given None none = absurd (of_none cells game pass none is)
-    by_given (Some given) there = of_some cells game pass' given there (same ∙ of_given cells game pass given there is)
+    by_given : (found : Option Given) → slice_get shared_matches game ≡ found
+        → IsOfSharedMatch shared_matches game pass'
+    by_given None none = absurd (of_none shared_matches game pass none is)
+    by_given (Some given) there = of_some shared_matches game pass' given there
+        (same ∙ of_given shared_matches game pass given there is)
 
 -- The port belongs to the same matches, and its pass to one of them.
-pub record StaysOn (cells : List Given) (port : Seated) : Type 0 where
-  pub same : port.cells ≡ cells
-  pub plays : IsPlayedOn cells port.played
+pub record StaysOn (shared_matches : List Given) (port : Seated) : Type 0 where
+  pub same : port.shared_matches ≡ shared_matches
+  pub plays : IsPlayedOn shared_matches port.played
 
-stays_as : (cells : List Given) (new old : Seated) → new ≡ old → StaysOn cells old → StaysOn cells new
-stays_as cells new old is stays = subst (StaysOn cells) (sym is) stays
+stays_as : (shared_matches : List Given) (new old : Seated) → new ≡ old → StaysOn shared_matches old
+    → StaysOn shared_matches new
+stays_as shared_matches new old is stays = subst (StaysOn shared_matches) (sym is) stays
 
-module _ (keys : List Seat) (cells : List Given) where
+module _ (keys : List Seat) (shared_matches : List Given) where
   stays_after : (asked : PortRequest) (heard : PortAnswer) (played : Option SessionAgent) (new : Seated) →
-      Calls (seated keys cells played) asked heard new → IsPlayedOn cells played → StaysOn cells new
+      Calls (seated keys shared_matches played) asked heard new → IsPlayedOn shared_matches played
+      → StaysOn shared_matches new
   stays_after (Enters key) (LetIn entered.Key) played new called on =
-      stays_as cells new (seated keys cells played) called.0 (record { same = refl; plays = on })
+      stays_as shared_matches new (seated keys shared_matches played) called.0 (record { same = refl; plays = on })
   stays_after (Enters key) (LetIn entered.Taken) played new called on =
-      stays_as cells new (seated keys cells played) called.0 (record { same = refl; plays = on })
+      stays_as shared_matches new (seated keys shared_matches played) called.0 (record { same = refl; plays = on })
   stays_after (Enters key) (LetIn (entered.In reply)) played new called on =
-      stays_as cells new _ called.plays (record {
+      stays_as shared_matches new _ called.plays (record {
         same = refl;
-        plays = of_cell_same cells called.game called.fresh called.pass
+        plays = of_shared_match_same shared_matches called.game called.fresh called.pass
             (quota_told called.fresh called.pass commands.Enter reply called.told.place called.told.submitted)
-            called.claimed.of_cell;
+            called.claimed.of_shared_match;
       })
   stays_after (Enters key) (Answers reply) played new called on = absurd called
   stays_after (Enters key) NoMemory played new called on =
-      stays_as cells new _ called.plays (record { same = refl; plays = called.claimed.of_cell })
+      stays_as shared_matches new _ called.plays (record { same = refl; plays = called.claimed.of_shared_match })
   stays_after (Tells command) (LetIn answer) played new called on = absurd called
   stays_after (Tells command) (Answers reply) None new called on =
-      stays_as cells new (seated keys cells None) called.1 (record { same = refl; plays = on })
+      stays_as shared_matches new (seated keys shared_matches None) called.1 (record { same = refl; plays = on })
   stays_after (Tells command) (Answers reply) (Some played) new called on =
-      stays_as cells new _ called.2 (record {
+      stays_as shared_matches new _ called.2 (record {
         same = refl;
-        plays = of_cell_same cells played.game played.pass called.0
+        plays = of_shared_match_same shared_matches played.game played.pass called.0
             (quota_told played.pass called.0 command reply called.1.place called.1.submitted) on;
       })
   stays_after (Tells command) NoMemory played new called on =
-      stays_as cells new (seated keys cells played) called (record { same = refl; plays = on })
+      stays_as shared_matches new (seated keys shared_matches played) called (record { same = refl; plays = on })
   stays_after News (LetIn answer) played new called on = absurd called
   stays_after News (Answers reply) None new called on =
-      stays_as cells new (seated keys cells None) called.1 (record { same = refl; plays = on })
+      stays_as shared_matches new (seated keys shared_matches None) called.1 (record { same = refl; plays = on })
   stays_after News (Answers reply) (Some played) new called on =
-      stays_as cells new _ called.2 (record {
+      stays_as shared_matches new _ called.2 (record {
         same = refl;
-        plays = of_cell_same cells played.game played.pass called.0 (quota_news played.pass called.0 reply
-            (pass_news cells played.game played.pass called.0 reply called.1)) on;
+        plays = of_shared_match_same shared_matches played.game played.pass called.0
+            (quota_news played.pass called.0 reply
+            (pass_news shared_matches played.game played.pass called.0 reply called.1)) on;
       })
   stays_after News NoMemory played new called on =
-      stays_as cells new (seated keys cells played) called (record { same = refl; plays = on })
+      stays_as shared_matches new (seated keys shared_matches played) called (record { same = refl; plays = on })
 
 -- of a port by itself
-stays_called : (cells : List Given) (asked : PortRequest) (heard : PortAnswer) (old new : Seated)
+stays_called : (shared_matches : List Given) (asked : PortRequest) (heard : PortAnswer) (old new : Seated)
     → Calls old asked heard new
-    → StaysOn cells old → StaysOn cells new
-stays_called cells asked heard old new called stays =
+    → StaysOn shared_matches old → StaysOn shared_matches new
+stays_called shared_matches asked heard old new called stays =
     let P : List Given → Type 0 = λ own. Calls (seated old.keys own old.played) asked heard new in
-    stays_after old.keys cells asked heard old.played new (subst P stays.same called) stays.plays
+    stays_after old.keys shared_matches asked heard old.played new (subst P stays.same called) stays.plays
 
-module _ {O : Type 0} (takes : O → List ℕ → WriteAnswer → O → Type 0) (cells : List Given) where
-  stays_step : (p q : Point O Seated) → SessionStep takes Calls p q → StaysOn cells p.port → StaysOn cells q.port
+module _ {O : Type 0} (takes : O → List ℕ → WriteAnswer → O → Type 0) (shared_matches : List Given) where
+  stays_step : (p q : Point O Seated) → SessionStep takes Calls p q → StaysOn shared_matches p.port
+      → StaysOn shared_matches q.port
   stays_step _ _ (asks p line asked heard new says next called) on =
-      stays_called cells asked heard p.port new called on
+      stays_called shared_matches asked heard p.port new called on
   stays_step _ _ (denies p line denial says next) on = on
   stays_step _ _ (awaits p heard new at called) on =
-      stays_called cells News heard p.port new called on
+      stays_called shared_matches News heard p.port new called on
   stays_step _ _ (sends p some output next sent) on = on
   stays_step _ _ (lacks p lines some) on = on
   stays_step _ _ (tires p lines every left) on = on
   stays_step _ _ (leaves p ended heard new at called) on =
-      stays_called cells (Tells commands.Leave) heard p.port new called on
+      stays_called shared_matches (Tells commands.Leave) heard p.port new called on
 
-  stays_read : (p : Point O Seated) (chunk : Chunk) → StaysOn cells p.port → StaysOn cells (after_read chunk p).port
+  stays_read : (p : Point O Seated) (chunk : Chunk) → StaysOn shared_matches p.port
+      → StaysOn shared_matches (after_read chunk p).port
   stays_read p (Bytes piece) on = on
   stays_read p End on = on
   stays_read p Fails on = on
 
   stays_session : {I : Type 0} (gives : I → Chunk → I → Type 0) (from : I) (start : Point O Seated) (input : I)
-      (q : Point O Seated) → Session gives takes Calls from start input q → StaysOn cells start.port
-      → StaysOn cells q.port
+      (q : Point O Seated) → Session gives takes Calls from start input q → StaysOn shared_matches start.port
+      → StaysOn shared_matches q.port
   stays_session gives from start _ _ opens on = on
   stays_session gives from start _ _ (reads input next p chunk session lines every left is given) on =
       stays_read p chunk (stays_session gives from start input p session on)
   stays_session gives from start _ _ (steps input p q session step) on =
       stays_step p q step (stays_session gives from start input p session on)
 
-ended_known : (cells : List Given) (written : List ℕ) (taken : List Line) (ended : Ending)
+ended_known : (shared_matches : List Given) (written : List ℕ) (taken : List Line) (ended : Ending)
     (played : Option SessionAgent)
-    → IsPlayedOn cells played → Known written taken (Finished ended) played
-    → IsWrittenFor cells played (map command_of taken) written ended
-ended_known cells written taken ended None on k = record {
+    → IsPlayedOn shared_matches played → Known written taken (Finished ended) played
+    → IsWrittenFor shared_matches played (map command_of taken) written ended
+ended_known shared_matches written taken ended None on k = record {
   last = k.last;
   is_last = k.is_last;
   unwritten = k.unwritten;
   heard = k.heard;
   is_unwritten = k.is_unwritten;
 }
-ended_known cells written taken ended (Some played) on k = (
+ended_known shared_matches written taken ended (Some played) on k = (
   on,
   record {
     all = k.all;
@@ -466,17 +480,19 @@ ended_known cells written taken ended (Some played) on k = (
   },
 )
 
--- what a session on a cell's port wrote, by the pass that it played by
+-- what a session over a port to a shared match wrote, by the pass that it played by
 pub served_lemma : {I O : Type 0} (gives : I → Chunk → I → Type 0) (takes : O → List ℕ → WriteAnswer → O → Type 0)
-    (keys : List Seat) (cells : List Given) (from input : I) (old output : O) (last : Seated) (turns : ℕ)
+    (keys : List Seat) (shared_matches : List Given) (from input : I) (old output : O) (last : Seated) (turns : ℕ)
     (ended : Ending)
-    (serves : Serves gives takes Calls from input old output (seated keys cells None) last turns (Finished ended)) →
-    IsWrittenFor cells last.played (map command_of serves.taken) serves.written ended
-served_lemma gives takes keys cells from input old output last turns ended serves =
-    ended_known cells serves.written serves.taken ended last.played
-    (stays_session takes cells gives from (fresh old (seated keys cells None) turns) input _ serves.session
+    (serves : Serves gives takes Calls from input old output (seated keys shared_matches None) last turns
+    (Finished ended)) →
+    IsWrittenFor shared_matches last.played (map command_of serves.taken) serves.written ended
+served_lemma gives takes keys shared_matches from input old output last turns ended serves =
+    ended_known shared_matches serves.written serves.taken ended last.played
+    (stays_session takes shared_matches gives from (fresh old (seated keys shared_matches None) turns) input _
+    serves.session
     (record { same = refl; plays = tt })).plays
-    (session_known takes gives from (fresh old (seated keys cells None) turns) input _ serves.session (record {
+    (session_known takes gives from (fresh old (seated keys shared_matches None) turns) input _ serves.session (record {
       last = [];
       is_last = inl refl;
       unwritten = [];
@@ -487,12 +503,13 @@ served_lemma gives takes keys cells from input old output last turns ended serve
 
 -- the same of a port that begins as a new one
 pub attended_lemma : {I O : Type 0} (gives : I → Chunk → I → Type 0) (takes : O → List ℕ → WriteAnswer → O → Type 0)
-    (keys : List Seat) (cells : List Given) (from input : I) (old output : O) (first last : Seated) (turns : ℕ)
-    (played : Option SessionAgent) (ended : Ending) → first ≡ seated keys cells None → played ≡ last.played →
+    (keys : List Seat) (shared_matches : List Given) (from input : I) (old output : O) (first last : Seated) (turns : ℕ)
+    (played : Option SessionAgent) (ended : Ending) → first ≡ seated keys shared_matches None → played ≡ last.played →
     Serves gives takes Calls from input old output first last turns (Finished ended)
-    → IsAttended gives takes keys cells from input old output turns played ended
-attended_lemma gives takes keys cells from input old output first last turns played ended is plays serves =
-    let whole : Serves gives takes Calls from input old output (seated keys cells None) last turns (Finished ended) =
+    → IsAttended gives takes keys shared_matches from input old output turns played ended
+attended_lemma gives takes keys shared_matches from input old output first last turns played ended is plays serves =
+    let whole : Serves gives takes Calls from input old output (seated keys shared_matches None) last turns
+    (Finished ended) =
     subst (λ (port : Seated). Serves gives takes Calls from input old output port last turns (Finished ended)) is
     serves in
     let order = InOrder-session whole.session ([], refl) in
@@ -500,12 +517,13 @@ attended_lemma gives takes keys cells from input old output first last turns pla
       last = last;
       plays = sym plays;
       serves = whole;
-      written = subst (λ (one : Option SessionAgent). IsWrittenFor cells one
+      written = subst (λ (one : Option SessionAgent). IsWrittenFor shared_matches one
           (map command_of whole.taken) whole.written ended)
-          (sym plays) (served_lemma gives takes keys cells from input old output last turns ended whole);
+          (sym plays) (served_lemma gives takes keys shared_matches from input old output last turns ended whole);
       more = order.0;
       in_order = order.1;
       none_more = none_more whole.read whole.taken order.0 ended
-          (session_drained takes Calls gives from (fresh old (seated keys cells None) turns) input _ whole.session tt)
+          (session_drained takes Calls gives from (fresh old (seated keys shared_matches None) turns) input _
+          whole.session tt)
           order.1;
     }

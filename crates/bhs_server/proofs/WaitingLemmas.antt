@@ -1,8 +1,8 @@
 -- Loop invariant: ageing the waiting clients in order, and cutting off one client.
 use Rattle.std.proofs.Common.{arith, ℕ, zero, suc, ◌≡◌, ◌<◌, Some, List, [], ◌∷◌, length}
 use Rattle.std.proofs.Common.{take, drop, get_or, map, refl, ap, ap₂, slice_set}
-use Rattle.bhs_server.specs.declared.waiting.Known.{Known}
-use Rattle.bhs_server.specs.declared.waiting.Stand.TheVariants.{IsCut}
+use Rattle.bhs_server.specs.declared.queue.Known.{Known}
+use Rattle.bhs_server.specs.declared.queue.Stand.TheVariants.{IsCut}
 use Rattle.bhs_server.specs.Waiting.{older, cut_at}
 
 -- the first of these clients have grown older

@@ -2,7 +2,7 @@
 use Rattle.std.specs.Prelude.{ℕ, ◌+◌, ◌-◌, ◌^◌, ◌==◌, min, nat_le, nat_lt, Bool, ◌&&◌, ◌||◌, not, Option, Some, None}
 use Rattle.std.specs.Prelude.{List, [], ◌∷◌, suc, if◌then◌else◌}
 use Rattle.bhs_server.specs.declared.origins.Origin.{Origin}
-use Rattle.bhs_server.specs.declared.waiting.Known.{Known}
+use Rattle.bhs_server.specs.declared.queue.Known.{Known}
 use Rattle.bhs_server.specs.declared.crowds.Crowd.{Crowd}
 use Rattle.bhs_server.specs.declared.crowds.Densest.{Densest}
 use Rattle.bhs_server.specs.Waiting.{waits, cut_at}

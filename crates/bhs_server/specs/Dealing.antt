@@ -3,7 +3,7 @@ use Rattle.std.specs.Prelude.{ℕ, zero, suc, ◌-◌, ◌^◌, ◌≡◌, ◌�
 use Rattle.rand_chacha.specs.ChaCha.{ChaCha}
 use Rattle.bhs_match.specs.Decided.{AreAllDone}
 use Rattle.bhs_deliveries.specs.Dealer.{moved_on}
-use Rattle.bhs_shared_match.specs.Cells.{Given}
+use Rattle.bhs_shared_match.specs.SharedMatches.{Given}
 use Rattle.bhs_shared_match.specs.Deciding.{WasSeen}
 
 -- the dealer after this number of words

@@ -7,7 +7,7 @@ use Rattle.bhs_model.specs.declared.replies.Reply.TheVariants.{No}
 use Rattle.bhs_model.specs.declared.replies.Why.{Why}
 use Rattle.bhs_shared_match.specs.declared.model.Receipt.{Receipt}
 use Rattle.bhs_shared_match.specs.Passes.{tally_in, kept_command}
-use Rattle.bhs_shared_match.specs.Halls.{is_below}
+use Rattle.bhs_shared_match.specs.LockedMatches.{is_below}
 use Rattle.bhs_shared_match.specs.Recording.{refusal_by}
 use Rattle.bhs_session.specs.Texts.{text_of}
 use Rattle.bhs_session.specs.Phase.{Phase, Ready, Awaits, answered_by}

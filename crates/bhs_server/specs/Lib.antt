@@ -4,6 +4,6 @@ pub mod Settling
 pub mod Exchanges
 pub mod Written
 pub mod Attending
-pub mod Unserved
+pub mod Rejections
 pub mod Waiting
 pub mod Crowds

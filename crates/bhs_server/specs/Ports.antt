@@ -11,13 +11,13 @@ use Rattle.bhs_setups.specs.KeyTable.{Seat, seat_at}
 use Rattle.bhs_shared_match.specs.Passes.{Passed}
 use Rattle.bhs_shared_match.specs.Unclaimed.{IsFresh}
 use Rattle.bhs_shared_match.specs.Recording.{IsSubmitted}
-use Rattle.bhs_shared_match.specs.Cells.{Given, IsNews}
+use Rattle.bhs_shared_match.specs.SharedMatches.{Given, IsNews}
 use Rattle.bhs_server.specs.declared.ports.SessionAgent.{SessionAgent}
 
 -- The keys, the matches as they were given, and the session's agent, once there is one.
 pub record Seated : Type 0 where
   pub keys : List Seat
-  pub cells : List Given
+  pub shared_matches : List Given
   pub played : Option SessionAgent
 
 -- the key lets in no agent, or one of no match
@@ -33,8 +33,8 @@ pub record IsKeyOf (keys : List Seat) (games : ℕ) (key : List ℕ) (game agent
   pub there : game < games
 
 -- The pass belongs to this match: it has the match's quota.
-abbrev pub IsOfCell : List Given → (game : ℕ) → Passed → Type 0
-IsOfCell cells game pass = HasQuota (slice_get cells game) where
+abbrev pub IsOfSharedMatch : List Given → (game : ℕ) → Passed → Type 0
+IsOfSharedMatch shared_matches game pass = HasQuota (slice_get shared_matches game) where
   HasQuota : Option Given → Type 0
   HasQuota None = ⊥
   HasQuota (Some given) = pass.quota ≡ given.setup.quota
@@ -42,10 +42,10 @@ IsOfCell cells game pass = HasQuota (slice_get cells game) where
 -- the pass of a key's agent was claimed: it had been told nothing
 pub record IsClaimed (old : Seated) (key : List ℕ) (game : ℕ) (fresh : Passed) : Type 0 where
   pub agent : ℕ
-  pub known : IsKeyOf old.keys (length old.cells) key game agent
+  pub known : IsKeyOf old.keys (length old.shared_matches) key game agent
   pub is_fresh : IsFresh agent fresh
   pub paired : length fresh.receipts ≡ length fresh.commands
-  pub of_cell : IsOfCell old.cells game fresh
+  pub of_shared_match : IsOfSharedMatch old.shared_matches game fresh
 
 -- The reply that the client gets; if the pass disagrees with the match, the reply is that the match is over.
 abbrev pub agreed : Reply → Reply
@@ -76,7 +76,7 @@ pub record IsLeftOut (old : Seated) (key : List ℕ) (new : Seated) : Type 0 whe
 
 -- what news makes of a pass in the match of this number; without such a match it is over, and nothing changes
 abbrev pub IsNewsIn : List Given → (game : ℕ) → Passed → Reply → Passed → Type 0
-IsNewsIn cells game pass reply pass' = IsNewsBy (slice_get cells game) where
+IsNewsIn shared_matches game pass reply pass' = IsNewsBy (slice_get shared_matches game) where
   IsNewsBy : Option Given → Type 0
   IsNewsBy None = (reply ≡ Over) × (pass' ≡ pass)
   IsNewsBy (Some given) = IsNews given pass reply pass'
@@ -91,15 +91,15 @@ Plays does old reply new = PlaysBy old.played where
 
 -- What a port is asked and answers. What is not listed never comes.
 abbrev pub Calls : Seated → PortRequest → PortAnswer → Seated → Type 0
-Calls old (Enters key) (LetIn Key) new = (new ≡ old) × IsUnknown old.keys (length old.cells) key
+Calls old (Enters key) (LetIn Key) new = (new ≡ old) × IsUnknown old.keys (length old.shared_matches) key
 Calls old (Enters key) (LetIn Taken) new =
-    (new ≡ old) × ((game : ℕ) × ((agent : ℕ) × IsKeyOf old.keys (length old.cells) key game agent))
+    (new ≡ old) × ((game : ℕ) × ((agent : ℕ) × IsKeyOf old.keys (length old.shared_matches) key game agent))
 Calls old (Enters key) (LetIn (In reply)) new = IsLetIn old key reply new
 Calls old (Enters key) NoMemory new = IsLeftOut old key new
 Calls old (Tells command) (Answers reply) new =
     Plays (λ played said pass. IsToldBy played.pass command said pass) old reply new
 Calls old (Tells command) NoMemory new = new ≡ old
 Calls old News (Answers reply) new =
-    Plays (λ played said pass. IsNewsIn old.cells played.game played.pass said pass) old reply new
+    Plays (λ played said pass. IsNewsIn old.shared_matches played.game played.pass said pass) old reply new
 Calls old News NoMemory new = new ≡ old
 Calls old asked heard new = ⊥

@@ -12,13 +12,13 @@ use Rattle.bhs_deliveries.specs.Scheduling.{whole_schedule, stamps_in}
 use Rattle.bhs_deliveries.specs.Timeliness.{IsUntimelyAt}
 use Rattle.bhs_deliveries.specs.declared.timeliness.Untimely.{Untimely as Why}
 use Rattle.bhs_shared_match.specs.Passes.{Passed}
-use Rattle.bhs_shared_match.specs.Cells.{Given}
+use Rattle.bhs_shared_match.specs.SharedMatches.{Given}
 use Rattle.bhs_shared_match.specs.Disputes.{AreInAccord, HasRefused}
-use Rattle.bhs_shared_match.specs.declared.settling.Settlement.{Settlement}
+use Rattle.bhs_shared_match.specs.declared.settlement.Settlement.{Settlement}
 use Rattle.bhs_session.specs.declared.endings.Ended.{Ended}
 use Rattle.bhs_server.specs.declared.sessions.Session.{Session}
-use Rattle.bhs_server.specs.declared.settling.Refused.{Refused}
-use Rattle.bhs_server.specs.declared.settling.Refused.TheVariants.{Unsettled, Untimely}
+use Rattle.bhs_server.specs.declared.settlement.Refused.{Refused}
+use Rattle.bhs_server.specs.declared.settlement.Refused.TheVariants.{Unsettled, Untimely}
 
 -- the dealer of the same seed and stream at its start
 abbrev pub at_start : ChaCha → ChaCha
@@ -40,7 +40,7 @@ IsAstray (Oblivious law) (Some dealer) held play turns place why =
     (stamps_in play.log turns) place why
 IsAstray schedule dealer held play turns place why = ⊥
 
--- The match has ended and has the network and setup of its cell. The passes agree with it and contain all heard
+-- The match has ended and has the network and setup of its shared match. The passes agree with it and contain all heard
 -- commands of its agents. Each event of its log has a turn.
 pub record IsSealed (given : Given) (settlement : Settlement) : Type 0 where
   pub passes : List Passed
@@ -58,12 +58,12 @@ HasFared given dealer (Err (Untimely settlement place why)) =
     × IsAstray given.schedule dealer given.held settlement.sealed settlement.turns.items place why
 HasFared given dealer (Err (Unsettled unsettled)) = (passes : Vec Passed Global) × HasRefused given passes unsettled
 
--- how the match of each cell fared, in order, by the dealers of the same numbers
+-- how each shared match fared, in order, by the dealers of the same numbers
 abbrev pub HaveFared : List Given → List ChaCha → List (Result Settlement Refused) → Type 0
 HaveFared [] dealers [] = Unit {0}
 HaveFared (given ∷ others) dealers (one ∷ more) =
     HasFared given (slice_get dealers 0) one × HaveFared others (drop 1 dealers) more
-HaveFared cells dealers settled = ⊥
+HaveFared shared_matches dealers settled = ⊥
 
 -- the passes of the sessions on the match of this number, in the order of the sessions
 abbrev pub passes_in : (game : ℕ) → List Session → List Passed
@@ -88,15 +88,15 @@ abbrev pub AreSettledBy : (game : ℕ) → List Given → List Session → List 
 AreSettledBy game [] sessions [] = Unit {0}
 AreSettledBy game (given ∷ others) sessions (one ∷ more) =
     IsSettledBy given (passes_in game sessions) one × AreSettledBy (suc game) others sessions more
-AreSettledBy game cells sessions settled = ⊥
+AreSettledBy game shared_matches sessions settled = ⊥
 
 -- the sessions on matches below this number
 unfoldable pub sessions_on : (matches : ℕ) → List Session → List Session
 sessions_on matches = filter (λ session. nat_lt session.played.game matches)
 
 -- The endings of the sessions whose passes settled the matches: exactly one entry per such session, in session order.
-pub record HaveEnded (cells : List Given) (settled : List (Result Settlement Refused))
+pub record HaveEnded (shared_matches : List Given) (settled : List (Result Settlement Refused))
     (ended : List Ended) : Type 0 where
   pub sessions : List Session
-  pub each : ended ≡ map (λ session. session.ended) (sessions_on (length cells) sessions)
-  pub settled_by : AreSettledBy 0 cells sessions settled
+  pub each : ended ≡ map (λ session. session.ended) (sessions_on (length shared_matches) sessions)
+  pub settled_by : AreSettledBy 0 shared_matches sessions settled

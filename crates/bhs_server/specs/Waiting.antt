@@ -1,9 +1,9 @@
 -- Waiting clients, and the choice of the one to cut off.
 use Rattle.std.specs.Prelude.{ℕ, ◌+◌, ◌-◌, ◌^◌, min, nat_le, Bool, true, false, Option, Some, None, List}
 use Rattle.std.specs.Prelude.{[], ◌∷◌, zero, suc, if◌then◌else◌}
-use Rattle.bhs_server.specs.declared.waiting.Known.{Known}
-use Rattle.bhs_server.specs.declared.waiting.Stand.{Stand}
-use Rattle.bhs_server.specs.declared.waiting.Stand.TheVariants.{Waits, IsCut}
+use Rattle.bhs_server.specs.declared.queue.Known.{Known}
+use Rattle.bhs_server.specs.declared.queue.Stand.{Stand}
+use Rattle.bhs_server.specs.declared.queue.Stand.TheVariants.{Waits, IsCut}
 
 -- whether a client waits to be admitted; a client whose first line is being read does not
 abbrev pub is_waiting : Stand → Bool

@@ -6,7 +6,7 @@ use Rattle.bhs_model.specs.declared.commands.Command.TheVariants.{Leave}
 use Rattle.bhs_model.specs.declared.replies.Reply.TheVariants.{Over}
 use Rattle.bhs_shared_match.specs.declared.model.Receipt.{Receipt}
 use Rattle.bhs_shared_match.specs.Passes.{Passed}
-use Rattle.bhs_shared_match.specs.Cells.{Given}
+use Rattle.bhs_shared_match.specs.SharedMatches.{Given}
 use Rattle.bhs_session.specs.declared.endings.Ended.{Ended}
 use Rattle.bhs_session.specs.declared.endings.Ended.TheVariants as endings
 use Rattle.bhs_setups.specs.KeyTable.{Seat}
@@ -17,7 +17,7 @@ use Rattle.bhs_session.specs.Phase.{Phase, Fresh, Finished}
 use Rattle.bhs_session.specs.Session.{TakesLines, Serves}
 use Rattle.bhs_session.specs.Answering.{IsLastLine, MayLack}
 use Rattle.bhs_server.specs.declared.ports.SessionAgent.{SessionAgent}
-use Rattle.bhs_server.specs.Ports.{Calls, Seated, IsOfCell}
+use Rattle.bhs_server.specs.Ports.{Calls, Seated, IsOfSharedMatch}
 use Rattle.bhs_server.specs.Exchanges.{Exchange, session_text, commands_in, receipts_in, kept_in, arrivals_in}
 use Rattle.bhs_server.specs.Exchanges.{phase_from, AreInTurn}
 
@@ -74,9 +74,9 @@ pub record IsOutside (written : List ℕ) (ended : Ended) : Type 0 where
   pub is_unwritten : MayLack ended unwritten
 
 abbrev pub IsWrittenFor : List Given → Option SessionAgent → List Command → (written : List ℕ) → Ended → Type 0
-IsWrittenFor cells (Some played) commands written ended =
-    IsOfCell cells played.game played.pass × IsWrittenBy played.pass commands written ended
-IsWrittenFor cells None commands written ended = IsOutside written ended
+IsWrittenFor shared_matches (Some played) commands written ended =
+    IsOfSharedMatch shared_matches played.game played.pass × IsWrittenBy played.pass commands written ended
+IsWrittenFor shared_matches None commands written ended = IsOutside written ended
 
 -- whether a session ended between two lines, if it may have told a Leave
 abbrev pub is_between : Ended → Bool
@@ -88,13 +88,13 @@ is_between ended = false
 -- What `attend` makes of a reader and a writer: a session, by the port's calls, and what it wrote by the pass that
 -- comes back.
 pub record IsAttended {I O : Type 0} (gives : I → Chunk → I → Type 0) (takes : O → List ℕ → WriteAnswer → O → Type 0)
-    (keys : List Seat) (cells : List Given) (input_old input_new : I) (output_old output_new : O) (turns : ℕ)
+    (keys : List Seat) (shared_matches : List Given) (input_old input_new : I) (output_old output_new : O) (turns : ℕ)
     (played : Option SessionAgent) (ended : Ended) : Type 0 where
   pub last : Seated
   pub plays : last.played ≡ played
   pub serves : Serves gives takes Calls input_old input_new output_old output_new
-      (record { keys = keys; cells = cells; played = None }) last turns (Finished ended)
-  pub written : IsWrittenFor cells played (map command_of serves.taken) serves.written ended
+      (record { keys = keys; shared_matches = shared_matches; played = None }) last turns (Finished ended)
+  pub written : IsWrittenFor shared_matches played (map command_of serves.taken) serves.written ended
   -- the lines that were read and not taken: none if the session ended between two lines
   pub more : List Line
   pub in_order : lines serves.read ≡ serves.taken ++ more

@@ -7,8 +7,8 @@ ghost use Rattle.bhs_server.specs.Crowds.{with_room};
 
 use crate::crowds::first_cut;
 use crate::origins::Origin;
-use crate::unserved::{Unserved, turn_away};
-use crate::waiting::{Known, Stand, grow_older};
+use crate::queue::{Known, Stand, grow_older};
+use crate::rejections::{Rejection, reject};
 use bhs_net::Memory;
 use std::alloc::Global;
 use std::net::{Shutdown, TcpStream};
@@ -63,12 +63,12 @@ impl Clients {
         session: u32,
         origin: Origin,
         socket: &Arc<TcpStream, Global>,
-    ) -> Result<(), Unserved> {
+    ) -> Result<(), Rejection> {
         let Ok(kept) = Arc::try_clone(socket) else {
-            return Err(Unserved::Memory);
+            return Err(Rejection::Memory);
         };
         if self.are_all_in() || self.known.len() >= OUTSIDE {
-            return Err(Unserved::Full);
+            return Err(Rejection::Full);
         }
         let client = Known {
             session,
@@ -78,17 +78,17 @@ impl Clients {
             looks: 0,
         };
         if self.known.reserve(1).is_err() || self.sockets.push(kept).is_err() {
-            return Err(Unserved::Memory);
+            return Err(Rejection::Memory);
         }
         if self.known.push(client).is_err() {
-            return Err(Unserved::Memory);
+            return Err(Rejection::Memory);
         }
         if self.are_too_many() {
             self.make_room();
         }
         if self.are_too_many() || !self.waits(session) {
             self.remove(session);
-            return Err(Unserved::Full);
+            return Err(Rejection::Full);
         }
         Ok(())
     }
@@ -152,12 +152,12 @@ impl Clients {
     }
 
     /// The first line of the client of a session is being read, unless it is cut off or there is no room for its agent.
-    pub(crate) fn enters(&mut self, session: u32) -> Result<(), Unserved> {
+    pub(crate) fn enters(&mut self, session: u32) -> Result<(), Rejection> {
         if !self.stands(session, Stand::Waits) {
-            return Err(Unserved::Late);
+            return Err(Rejection::Late);
         }
         if self.are_all_in() {
-            return Err(Unserved::Full);
+            return Err(Rejection::Full);
         }
         self.stands(session, Stand::Enters);
         Ok(())
@@ -195,10 +195,10 @@ impl Clients {
     }
 
     /// Tells the client of a session that there is no memory to serve it. It is connected no more.
-    pub(crate) fn turn_away(&mut self, session: u32) {
+    pub(crate) fn reject(&mut self, session: u32) {
         if let Some(place) = self.place_of(session) {
             if let Some(socket) = self.sockets.get(place) {
-                turn_away(socket, Unserved::Memory);
+                reject(socket, Rejection::Memory);
             }
         }
         self.remove(session);

@@ -4,10 +4,10 @@
 ghost use Rattle.std.specs.Prelude.{IfOk};
 ghost use Rattle.std.specs.Counts.{IsPrefixLen};
 
-use crate::ending::Ending;
+use crate::contest_end::Ending;
+use crate::rejections::{Rejection, reject};
 use crate::strays::Strays;
-use crate::unserved::{Unserved, turn_away};
-use crate::watching::Watch;
+use crate::watch::Watch;
 use bhs_net::Memory;
 use bhs_wire::{Denial, Raw, denial_of};
 use std::alloc::Global;
@@ -54,7 +54,7 @@ pub(crate) struct Connection {
     held: RefCell<Vec<u8>>,
     has_failed: Cell<bool>,
     is_in: Cell<bool>,
-    unserved: Cell<Option<Unserved>>,
+    rejection: Cell<Option<Rejection>>,
     strays: RefCell<Strays>,
 }
 
@@ -66,14 +66,14 @@ impl Connection {
             held: RefCell::new(Vec::with_capacity(alloc, ROOM)?),
             has_failed: Cell::new(false),
             is_in: Cell::new(false),
-            unserved: Cell::new(None),
+            rejection: Cell::new(None),
             strays: RefCell::new(Strays::new(alloc)),
         })
     }
 
     /// Returns why the client was cut off before its agent entered, or None.
-    pub(crate) fn unserved(&self) -> Option<Unserved> {
-        self.unserved.get()
+    pub(crate) fn rejection(&self) -> Option<Rejection> {
+        self.rejection.get()
     }
 
     /// Which denial is held back, if one is.
@@ -90,8 +90,8 @@ impl Connection {
     }
 
     /// Tells the client why it is not served.
-    pub(crate) fn turn_away(&self, why: Unserved) {
-        turn_away(&self.stream, why);
+    pub(crate) fn reject(&self, why: Rejection) {
+        reject(&self.stream, why);
     }
 
     /// Reports the client's invalid lines to the watcher, unless there were none.
@@ -127,7 +127,7 @@ impl Connection {
 
 /// The client of a session, and its watcher.
 #[derive(Clone, Copy, Drop)]
-pub(crate) struct Guest<'a, R, W> {
+pub(crate) struct PendingClient<'a, R, W> {
     rt: &'a R,
     session: u32,
     connection: &'a Connection,
@@ -135,7 +135,7 @@ pub(crate) struct Guest<'a, R, W> {
     watch: &'a W,
 }
 
-impl<'a, R, W> Guest<'a, R, W> {
+impl<'a, R, W> PendingClient<'a, R, W> {
     /// The client of this connection, in the session of this number.
     pub(crate) fn new(
         rt: &'a R,
@@ -143,8 +143,8 @@ impl<'a, R, W> Guest<'a, R, W> {
         connection: &'a Connection,
         ending: &'a Ending,
         watch: &'a W,
-    ) -> Guest<'a, R, W> {
-        Guest {
+    ) -> PendingClient<'a, R, W> {
+        PendingClient {
             rt,
             session,
             connection,
@@ -154,7 +154,7 @@ impl<'a, R, W> Guest<'a, R, W> {
     }
 }
 
-impl<R: Wait + Clock, W: Watch> SessionHooks for Guest<'_, R, W> {
+impl<R: Wait + Clock, W: Watch> SessionHooks for PendingClient<'_, R, W> {
     fn let_in(&self, game: u32, agent: u16) {
         self.connection.is_in.set(true);
         self.ending.is_in(self.rt, self.session);
@@ -235,7 +235,7 @@ impl<'c, R: Wait> Incoming<'c, R> {
         ensures { IfOk result (λ count. IsPrefixLen count buffer.new) }
     {
         if self.first >= FIRST || !self.ending.waits(self.rt, self.session) {
-            self.gives_no_more(Unserved::Late);
+            self.gives_no_more(Rejection::Late);
             return Ok(0);
         }
         let count = self.reader.read(buffer)?;
@@ -247,21 +247,21 @@ impl<'c, R: Wait> Incoming<'c, R> {
     }
 
     // Sees that a client that gave these bytes is not cut off.
-    fn goes_on(&mut self, buffer: &[u8], count: usize) -> Result<(), Unserved> {
+    fn goes_on(&mut self, buffer: &[u8], count: usize) -> Result<(), Rejection> {
         self.first = self.first.saturating_add(count);
         if buffer.iter().take(count).any(|byte| *byte == b'\n') {
             self.ending.enters(self.rt, self.session)
         } else if self.ending.waits(self.rt, self.session) {
             Ok(())
         } else {
-            Err(Unserved::Late)
+            Err(Rejection::Late)
         }
     }
 
     // The client is cut off before its agent has entered.
-    fn gives_no_more(&self, why: Unserved) {
+    fn gives_no_more(&self, why: Rejection) {
         if !self.ending.is_over() {
-            self.connection.unserved.set(Some(why));
+            self.connection.rejection.set(Some(why));
         }
     }
 }

@@ -6,7 +6,7 @@ ghost use Rattle.bhs_server.specs.Crowds.{crowd_of, crowd_with, denser, first_cu
 ghost use Rattle.bhs_server.specs.Crowds.{one_more_if, may_go};
 
 use crate::origins::Origin;
-use crate::waiting::Known;
+use crate::queue::Known;
 
 // How many looks a client of the greatest crowd waits before a newer one gets its room.
 const PATIENCE: u32 = 2;

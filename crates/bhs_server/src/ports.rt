@@ -8,7 +8,7 @@ use bhs_model::{Command, Reply, Why};
 use bhs_net::Memory;
 use bhs_session::{Entered, Port};
 use bhs_setups::Keys;
-use bhs_shared_match::{Cell, Gate, Pass};
+use bhs_shared_match::{LockHooks, Pass, SharedMatch};
 use bhs_wire::Raw;
 use std::marker::Model;
 use std::sync::Wait;
@@ -22,40 +22,44 @@ pub struct SessionAgent {
 
 /// Where a session plays an agent of matches that threads share.
 #[derive(Drop)]
-pub struct CellPort<'a, R, G, H> {
+pub struct MatchPort<'a, R, G, H> {
     rt: &'a R,
-    gate: &'a G,
+    lock_hooks: &'a G,
     hooks: &'a H,
-    cells: &'a [Cell],
+    shared_matches: &'a [SharedMatch],
     keys: &'a Keys,
     played: Option<SessionAgent>,
 }
 
 // Contracts see a port as the keys, the matches as they were given, and the agent that is played, once there is one.
-impl<'a, R, G, H> Model for CellPort<'a, R, G, H> {
+impl<'a, R, G, H> Model for MatchPort<'a, R, G, H> {
     ghost use Rattle.bhs_server.specs.Ports.{Seated};
 
     ghost Value = { Seated };
 
-    ghost view = { λ port. record { keys = port.keys.now; cells = port.cells.now; played = port.played } };
+    ghost view = { λ port. record {
+      keys = port.keys.now;
+      shared_matches = port.shared_matches.now;
+      played = port.played;
+    } };
 }
 
-impl<'a, R: Wait, G: Gate, H: SessionHooks> CellPort<'a, R, G, H> {
+impl<'a, R: Wait, G: LockHooks, H: SessionHooks> MatchPort<'a, R, G, H> {
     /// A port at which nobody has entered.
     pub fn new(
         rt: &'a R,
-        gate: &'a G,
+        lock_hooks: &'a G,
         hooks: &'a H,
-        cells: &'a [Cell],
+        shared_matches: &'a [SharedMatch],
         keys: &'a Keys,
-    ) -> CellPort<'a, R, G, H>
-        ensures { result ≡ record { keys = keys.now; cells = cells.now; played = None } }
+    ) -> MatchPort<'a, R, G, H>
+        ensures { result ≡ record { keys = keys.now; shared_matches = shared_matches.now; played = None } }
     {
-        CellPort {
+        MatchPort {
             rt,
-            gate,
+            lock_hooks,
             hooks,
-            cells,
+            shared_matches,
             keys,
             played: None,
         }
@@ -65,11 +69,11 @@ impl<'a, R: Wait, G: Gate, H: SessionHooks> CellPort<'a, R, G, H> {
     pub fn into_played(self) -> Option<SessionAgent>
         ensures { result ≡ self.entry.played }
     {
-        let CellPort {
+        let MatchPort {
             rt: _,
-            gate: _,
+            lock_hooks: _,
             hooks: _,
-            cells: _,
+            shared_matches: _,
             keys: _,
             played,
         } = self;
@@ -87,7 +91,7 @@ fn agreed(reply: Reply) -> Reply
     }
 }
 
-impl<R: Wait, G: Gate, H: SessionHooks> Port for CellPort<'_, R, G, H> {
+impl<R: Wait, G: LockHooks, H: SessionHooks> Port for MatchPort<'_, R, G, H> {
     ghost use Rattle.bhs_server.specs.Ports.{Calls};
 
     ghost calls = { Calls };
@@ -96,17 +100,22 @@ impl<R: Wait, G: Gate, H: SessionHooks> Port for CellPort<'_, R, G, H> {
         let Some((game, agent)) = self.keys.find(key) else {
             return Ok(Entered::Key);
         };
-        let Some(cell) = self.cells.get(game as usize) else {
+        let Some(shared_match) = self.shared_matches.get(game as usize) else {
             return Ok(Entered::Key);
         };
-        let Some(pass) = cell.claim(self.rt, agent) else {
+        let Some(pass) = shared_match.claim(self.rt, agent) else {
             return Ok(Entered::Taken);
         };
         self.hooks.let_in(game, agent);
         // The proof needs that each receipt has its command.
         let _paired = pass.receipts();
         let mut played = SessionAgent { game, pass };
-        let answer = cell.submit(self.rt, self.gate, &mut played.pass, Command::Enter);
+        let answer = shared_match.submit(
+            self.rt,
+            self.lock_hooks,
+            &mut played.pass,
+            Command::Enter,
+        );
         self.played = Some(played);
         Ok(Entered::In(agreed(answer?.reply)))
     }
@@ -115,10 +124,10 @@ impl<R: Wait, G: Gate, H: SessionHooks> Port for CellPort<'_, R, G, H> {
         let Some(SessionAgent { game, pass }) = &mut self.played else {
             return Ok(Reply::Over);
         };
-        let Some(cell) = self.cells.get(*game as usize) else {
+        let Some(shared_match) = self.shared_matches.get(*game as usize) else {
             return Ok(Reply::Over);
         };
-        let answer = cell.submit(self.rt, self.gate, pass, command)?;
+        let answer = shared_match.submit(self.rt, self.lock_hooks, pass, command)?;
         self.hooks.answered(answer.place.is_some());
         Ok(agreed(answer.reply))
     }
@@ -131,10 +140,10 @@ impl<R: Wait, G: Gate, H: SessionHooks> Port for CellPort<'_, R, G, H> {
         let Some(SessionAgent { game, pass }) = &mut self.played else {
             return Ok(Reply::Over);
         };
-        let Some(cell) = self.cells.get(*game as usize) else {
+        let Some(shared_match) = self.shared_matches.get(*game as usize) else {
             return Ok(Reply::Over);
         };
         self.hooks.before_waiting();
-        cell.news(self.rt, pass)
+        shared_match.news(self.rt, pass)
     }
 }

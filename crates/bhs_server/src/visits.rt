@@ -3,10 +3,10 @@
 ghost use Rattle.bhs_server.specs.Written.{IsAttended};
 
 use crate::connections::SessionHooks;
-use crate::ports::{CellPort, SessionAgent};
+use crate::ports::{MatchPort, SessionAgent};
 use bhs_session::{Ended, serve};
 use bhs_setups::Keys;
-use bhs_shared_match::{Cell, Gate};
+use bhs_shared_match::{LockHooks, SharedMatch};
 use bhs_stream::{Input, Output};
 use std::alloc::Global;
 use std::sync::Wait;
@@ -22,20 +22,20 @@ pub struct EndedSession {
 }
 
 /// Serves one client to its end, on the match of the agent that its key lets in. Meanwhile `hooks` are called.
-pub fn attend<I: Input, O: Output, H: SessionHooks, R: Wait, G: Gate>(
+pub fn attend<I: Input, O: Output, H: SessionHooks, R: Wait, G: LockHooks>(
     rt: &R,
     alloc: Global,
     reader: &mut I,
     writer: &mut O,
     hooks: &H,
-    cells: &[Cell],
+    shared_matches: &[SharedMatch],
     keys: &Keys,
-    gate: &G,
+    lock_hooks: &G,
 ) -> EndedSession
-    ensures { IsAttended I.gives O.takes keys.now cells.now reader.old reader.new writer.old writer.new TURNS
+    ensures { IsAttended I.gives O.takes keys.now shared_matches.now reader.old reader.new writer.old writer.new TURNS
         result.played result.ended }
 {
-    let mut port = CellPort::new(rt, gate, hooks, cells, keys);
+    let mut port = MatchPort::new(rt, lock_hooks, hooks, shared_matches, keys);
     let ended = serve(alloc, reader, writer, &mut port, TURNS);
     EndedSession {
         ended,

@@ -7,13 +7,13 @@ mod last_line;
 mod laws;
 mod lines;
 mod port;
-mod reading;
+mod reader;
 mod replies;
-mod serving;
+mod session;
 
 pub use endings::{Ended, ending_of};
 pub use laws::{lines_in_order, no_turns};
 pub use lines::{command_in, key_in};
 pub use port::{Entered, Port};
 pub use replies::{push_denial, push_reply};
-pub use serving::serve;
+pub use session::serve;

@@ -23,7 +23,7 @@ use Rattle.bhs_shared_match.specs.declared.model.Receipt.{Receipt}
 use Rattle.bhs_shared_match.specs.Passes.{Passed}
 use Rattle.bhs_shared_match.specs.declared.model.Tally.{Tally}
 use Rattle.bhs_shared_match.specs.Tallies.{IsLegalHistory}
-use Rattle.bhs_shared_match.specs.Cells.{Given, GainsArrival, IsNews}
+use Rattle.bhs_shared_match.specs.SharedMatches.{Given, GainsArrival, IsNews}
 use Rattle.bhs_shared_match.specs.Arrivals.{arrival_mark, arrival_of, receipt_at, is_here, IsGivenIf, IsGiven}
 
 -- The answer, if any, describes the agent's position.

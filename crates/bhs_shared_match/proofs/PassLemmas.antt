@@ -10,7 +10,7 @@ use Rattle.bhs_model.specs.declared.marks.Mark.TheVariants as marks
 use Rattle.bhs_model.specs.declared.replies.Reply.{Reply}
 use Rattle.bhs_shared_match.specs.declared.model.Receipt.{Receipt}
 use Rattle.bhs_shared_match.specs.Passes.{Passed, is_end, is_last, Ascend, AreBelow}
-use Rattle.bhs_shared_match.specs.Halls.{is_below, place_below, spoken}
+use Rattle.bhs_shared_match.specs.LockedMatches.{is_below, place_below, spoken}
 use Rattle.bhs_shared_match.proofs.PlaceLemmas.{any_push}
 
 -- With ascending places, a bound on the last place bounds all places.

@@ -20,7 +20,7 @@ use Rattle.bhs_shared_match.specs.declared.model.Tally.{Tally}
 use Rattle.bhs_shared_match.specs.Tallies.{has_ended, tally_of}
 use Rattle.bhs_shared_match.specs.Fitting.{Fits, AreFit}
 use Rattle.bhs_shared_match.specs.Passes.{Passed, Ascend, AreBelow, tally_in, gained}
-use Rattle.bhs_shared_match.specs.Halls.{Housed, agrees, IsTold}
+use Rattle.bhs_shared_match.specs.LockedMatches.{LockedState, agrees, IsTold}
 use Rattle.bhs_shared_match.specs.Recording.{is_unheard, refusal_by, IsSubmitted}
 use Rattle.bhs_shared_match.proofs.FitLemmas.{HeardCommand, heard_command, reply_heard}
 use Rattle.bhs_shared_match.proofs.PassLemmas.{all_below}
@@ -205,17 +205,17 @@ refused_unheard : (now : Standing) (command : Command) → is_unheard (No (refus
 refused_unheard now command = grind arith
 
 -- a command of a pass that agrees
-submitted_agreed : (hall : Housed) (pass pass' : Passed) (command : Command) (place : Option ℕ) (mark : Mark)
+submitted_agreed : (inner : LockedState) (pass pass' : Passed) (command : Command) (place : Option ℕ) (mark : Mark)
     (said : Reply) (play' : Play) →
-    HasAgreed hall pass → AreFit hall.play → AreBelow (length hall.play.log) pass.receipts
-    → IsTold hall.play pass command place mark said play' pass' →
-    (heard_now : Bool) → heard (world_in hall.play) (state_of hall.play) pass.agent command ≡ heard_now
+    HasAgreed inner pass → AreFit inner.play → AreBelow (length inner.play.log) pass.receipts
+    → IsTold inner.play pass command place mark said play' pass' →
+    (heard_now : Bool) → heard (world_in inner.play) (state_of inner.play) pass.agent command ≡ heard_now
     → IsSubmitted pass command place said pass'
-submitted_agreed hall pass pass' command place mark said play' has fit above is true is_heard =
-    let here : place ≡ Some (length hall.play.log) = is.at ∙ cond-true _ _ _ is_heard in
-    let how : HeardCommand hall.play pass.agent command = heard_command hall.play pass.agent command is_heard in
-    let answered = some_same _ _ (is.replied ∙ reply_heard hall.play pass.agent command how) in
-    let play : Play = hall.play in
+submitted_agreed inner pass pass' command place mark said play' has fit above is true is_heard =
+    let here : place ≡ Some (length inner.play.log) = is.at ∙ cond-true _ _ _ is_heard in
+    let how : HeardCommand inner.play pass.agent command = heard_command inner.play pass.agent command is_heard in
+    let answered = some_same _ _ (is.replied ∙ reply_heard inner.play pass.agent command how) in
+    let play : Play = inner.play in
     let view : View = (state_of play).past pass.agent in
     let inside = (and_parts (nat_lt pass.agent play.setup.agents) _ is_heard).1 in
     let free = (and_parts (not (state_of play).closed) _ inside).1 in
@@ -230,8 +230,8 @@ submitted_agreed hall pass pass' command place mark said play' has fit above is 
           ∙ ap (λ (tally : Tally). refusal_by play.setup.quota tally command) (sym has.tally) ∙ none;
       heard = ap is_unheard answered ∙ answer_heard _ _ _ command _;
     })
-submitted_agreed hall pass pass' command place mark said play' has fit above is false unheard =
-    let play : Play = hall.play in
+submitted_agreed inner pass pass' command place mark said play' has fit above is false unheard =
+    let play : Play = inner.play in
     let view : View = (state_of play).past pass.agent in
     let none : place ≡ None = is.at ∙ cond-false _ _ _ unheard in
     let same : pass' ≡ pass = is.kept ∙ ap (λ (place : Option ℕ). gained pass command place said) none in
@@ -257,16 +257,16 @@ submitted_agreed hall pass pass' command place mark said play' has fit above is 
           }
     ])
   where
-    known : nat_lt pass.agent hall.play.setup.agents ≡ true
-    known = let within : pass.agent < hall.play.setup.agents = has.agent in grind (arith, nat_tests, within)
+    known : nat_lt pass.agent inner.play.setup.agents ≡ true
+    known = let within : pass.agent < inner.play.setup.agents = has.agent in grind (arith, nat_tests, within)
 
-pub submitted : (hall : Housed) (play play' : Play) (pass pass' : Passed) (command : Command) (place : Option ℕ)
+pub submitted : (inner : LockedState) (play play' : Play) (pass pass' : Passed) (command : Command) (place : Option ℕ)
     (mark : Mark) (said : Reply) →
-    play ≡ hall.play → agrees hall pass ≡ true → AreFit play → Ascend 0 pass.receipts
+    play ≡ inner.play → agrees inner pass ≡ true → AreFit play → Ascend 0 pass.receipts
     → IsTold play pass command place mark said play' pass' → IsSubmitted pass command place said pass'
-submitted hall play play' pass pass' command place mark said same agreed fit order is =
-    let has : HasAgreed hall pass = has_agreed hall pass agreed in
+submitted inner play play' pass pass' command place mark said same agreed fit order is =
+    let has : HasAgreed inner pass = has_agreed inner pass agreed in
     let P : Play → Type 0 = λ play. AreFit play → IsTold play pass command place mark said play' pass'
     → IsSubmitted pass command place said pass' in
-    subst P (sym same) (λ fit is. submitted_agreed hall pass pass' command place mark said play' has fit
-    (all_below 0 pass.receipts (length hall.play.log) order has.below) is _ refl) fit is
+    subst P (sym same) (λ fit is. submitted_agreed inner pass pass' command place mark said play' has fit
+    (all_below 0 pass.receipts (length inner.play.log) order has.below) is _ refl) fit is

@@ -12,7 +12,7 @@ use Rattle.bhs_shared_match.specs.declared.model.Tally.{Tally}
 use Rattle.bhs_shared_match.specs.Tallies.{heard_count, IsLegalHistory}
 use Rattle.bhs_shared_match.specs.Fitting.{Fits, AreFit}
 use Rattle.bhs_shared_match.specs.Passes.{Passed}
-use Rattle.bhs_shared_match.specs.Halls.{Housed, agrees, IsHeard, IsOfBoard}
+use Rattle.bhs_shared_match.specs.LockedMatches.{LockedState, agrees, IsHeard, IsOfBoard}
 use Rattle.bhs_shared_match.specs.Recording.{MayWantMemory}
 use Rattle.bhs_shared_match.proofs.FitLemmas.{heard_command}
 use Rattle.bhs_shared_match.proofs.TallyLemmas.{HasAgreed, has_agreed}
@@ -38,10 +38,10 @@ room_to_hear play agent command fit is =
     few_heard play.setup.quota _ _ _ command (heard_command play agent command is).free (fit agent)
 
 -- the pass that agrees has room for it
-pub room_agreed : (hall : Housed) (play : Play) (pass : Passed) (command : Command) → play ≡ hall.play
-    → agrees hall pass ≡ true → AreFit play → IsHeard play pass.agent command → length pass.receipts < pass.quota + 2
-room_agreed hall play pass command same agreed fit is =
-    let has : HasAgreed hall pass = has_agreed hall pass agreed in
+pub room_agreed : (inner : LockedState) (play : Play) (pass : Passed) (command : Command) → play ≡ inner.play
+    → agrees inner pass ≡ true → AreFit play → IsHeard play pass.agent command → length pass.receipts < pass.quota + 2
+room_agreed inner play pass command same agreed fit is =
+    let has : HasAgreed inner pass = has_agreed inner pass agreed in
     let count : heard_count pass.agent play.log ≡ length pass.receipts =
     ap (λ (one : Play). heard_count pass.agent one.log) same ∙ ap (λ (tally : Tally). tally.commands) has.tally in
     let quota : pass.quota ≡ play.setup.quota = has.quota ∙ sym (ap (λ (one : Play). one.setup.quota) same) in
@@ -68,12 +68,12 @@ room_left play inside given command place room same few at has =
 
 -- ---- when memory may be wanted
 
-pub wants : (hall given : Housed) (pass : Passed) (command : Command) → hall ≡ given → agrees given pass ≡ true
-    → IsLegalHistory hall.play hall.tallies → IsOfBoard hall.play pass.agent command → MayWantMemory pass command
-wants hall given pass command same agreed legal of_board = record {
-  hall = hall;
+pub wants : (inner given : LockedState) (pass : Passed) (command : Command) → inner ≡ given → agrees given pass ≡ true
+    → IsLegalHistory inner.play inner.tallies → IsOfBoard inner.play pass.agent command → MayWantMemory pass command
+wants inner given pass command same agreed legal of_board = record {
+  inner = inner;
   legal = legal;
-  agreed = ap (λ (one : Housed). agrees one pass) same ∙ agreed;
+  agreed = ap (λ (one : LockedState). agrees one pass) same ∙ agreed;
   of_board = of_board;
 }
 

@@ -23,7 +23,7 @@ use Rattle.bhs_model.specs.Standings.{standing_at}
 use Rattle.bhs_model.proofs.LegalLemmas.{AllLegal, all_run}
 use Rattle.bhs_world.proofs.ListLemmas.{changed_same}
 use Rattle.bhs_match.specs.Matches.{Play, world_in, state_of, shown_at}
-use Rattle.bhs_shared_match.specs.Halls.{spoken}
+use Rattle.bhs_shared_match.specs.LockedMatches.{spoken}
 
 -- The reply's text, where present, equals this text.
 abbrev pub Shows : (shown : List ℕ) → Reply → Type 0

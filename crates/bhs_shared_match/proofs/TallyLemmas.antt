@@ -25,7 +25,7 @@ use Rattle.bhs_shared_match.specs.declared.model.Tally.{Tally}
 use Rattle.bhs_shared_match.specs.Tallies.{is_told_by, heard_count, has_ended, tally_of, nothing, IsLegalHistory}
 use Rattle.bhs_shared_match.specs.Fitting.{AreFit}
 use Rattle.bhs_shared_match.specs.Passes.{Passed, is_end, is_last, tally_in, gained}
-use Rattle.bhs_shared_match.specs.Halls.{Housed, agrees, same_bool, same_tally, is_below, IsTold}
+use Rattle.bhs_shared_match.specs.LockedMatches.{LockedState, agrees, same_bool, same_tally, is_below, IsTold}
 use Rattle.bhs_shared_match.proofs.PlaceLemmas.{any_push}
 use Rattle.bhs_shared_match.proofs.EndLemmas.{ends_standing}
 use Rattle.bhs_shared_match.proofs.FitLemmas.{HeardCommand, heard_command, reply_heard, past_heard, state_more}
@@ -56,20 +56,20 @@ tally_is one two e =
     ∙ ap (λ (b : Bool). let t : Tally = record { commands = two.commands; ended = b } in t) ended
 
 -- what it says that a pass agrees
-pub record HasAgreed (hall : Housed) (pass : Passed) : Type 0 where
-  pub quota : pass.quota ≡ hall.play.setup.quota
-  pub agent : pass.agent < hall.play.setup.agents
-  pub tally : tally_of pass.agent hall.play ≡ tally_in pass.receipts
-  pub below : is_below pass.receipts (length hall.play.log) ≡ true
-  pub arrived : is_below pass.arrivals (length hall.play.log) ≡ true
+pub record HasAgreed (inner : LockedState) (pass : Passed) : Type 0 where
+  pub quota : pass.quota ≡ inner.play.setup.quota
+  pub agent : pass.agent < inner.play.setup.agents
+  pub tally : tally_of pass.agent inner.play ≡ tally_in pass.receipts
+  pub below : is_below pass.receipts (length inner.play.log) ≡ true
+  pub arrived : is_below pass.arrivals (length inner.play.log) ≡ true
 
-pub has_agreed : (hall : Housed) (pass : Passed) → agrees hall pass ≡ true → HasAgreed hall pass
-has_agreed hall pass e =
-    let one = (and_parts (pass.game == hall.game) _ e).1 in
-    let two = and_parts (pass.quota == hall.play.setup.quota) _ one in
-    let three = and_parts (nat_lt pass.agent hall.play.setup.agents) _ two.1 in
-    let four = and_parts (same_tally (tally_of pass.agent hall.play) (tally_in pass.receipts)) _ three.1 in
-    let five = and_parts (is_below pass.receipts (length hall.play.log)) _ four.1 in
+pub has_agreed : (inner : LockedState) (pass : Passed) → agrees inner pass ≡ true → HasAgreed inner pass
+has_agreed inner pass e =
+    let one = (and_parts (pass.game == inner.game) _ e).1 in
+    let two = and_parts (pass.quota == inner.play.setup.quota) _ one in
+    let three = and_parts (nat_lt pass.agent inner.play.setup.agents) _ two.1 in
+    let four = and_parts (same_tally (tally_of pass.agent inner.play) (tally_in pass.receipts)) _ three.1 in
+    let five = and_parts (is_below pass.receipts (length inner.play.log)) _ four.1 in
     record {
       quota = eqb-true _ _ two.0;
       agent = ltb-true _ _ three.0;
@@ -224,14 +224,16 @@ legal_heard play play' pass pass' command place mark said tallies housed is some
       fit_more play event (Some mark) how.kept housed.1,
     )
 
--- the same where the pass agrees with the hall, whose fields these are
-pub legal_agreed : (hall : Housed) (play play' : Play) (pass pass' : Passed) (command : Command) (place : Option ℕ)
+-- the same where the pass agrees with the locked match, whose fields these are
+pub legal_agreed : (inner : LockedState) (play play' : Play) (pass pass' : Passed) (command : Command)
+    (place : Option ℕ)
     (mark : Mark) (said : Reply) (tallies : List Tally) →
-    play ≡ hall.play → agrees hall pass ≡ true → IsHoused play tallies → IsTold play pass command place mark said play'
+    play ≡ inner.play → agrees inner pass ≡ true → IsHoused play tallies
+    → IsTold play pass command place mark said play'
     pass' → is_some place ≡ true → IsLegalLog play' →
     IsHoused play' (slice_set tallies pass.agent (tally_in pass'.receipts))
-legal_agreed hall play play' pass pass' command place mark said tallies same agreed housed is some log =
-    let both = has_agreed hall pass agreed in
+legal_agreed inner play play' pass pass' command place mark said tallies same agreed housed is some log =
+    let both = has_agreed inner pass agreed in
     legal_heard play play' pass pass' command place mark said tallies housed is some log
     (rw same both.agent)
     (ap (tally_of pass.agent) same ∙ both.tally)

@@ -17,7 +17,7 @@ use Rattle.bhs_match.specs.Matches.{Play, world_in, state_of, shown_at}
 use Rattle.bhs_shared_match.specs.declared.model.Receipt.{Receipt}
 use Rattle.bhs_shared_match.specs.declared.model.Spare.{Spare}
 use Rattle.bhs_shared_match.specs.Passes.{Passed, gained, kept_command}
-use Rattle.bhs_shared_match.specs.Halls.{spoken, IsSpareFor, IsTold}
+use Rattle.bhs_shared_match.specs.LockedMatches.{spoken, IsSpareFor, IsTold}
 use Rattle.bhs_shared_match.proofs.SeenLemmas.{spoken_told}
 
 pub same_play : (new old : Play) (log : List Kept) → new.net ≡ old.net → new.setup ≡ old.setup → new.log ≡ log

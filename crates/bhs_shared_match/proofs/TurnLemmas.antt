@@ -15,7 +15,7 @@ use Rattle.bhs_world.specs.Tables.{keeps_next, log_after}
 use Rattle.bhs_match.specs.Matches.{Play, world_in, most_kept}
 use Rattle.bhs_deliveries.specs.Drawing.{IsPlayedIf}
 use Rattle.bhs_shared_match.specs.Passes.{Passed}
-use Rattle.bhs_shared_match.specs.Halls.{IsTold}
+use Rattle.bhs_shared_match.specs.LockedMatches.{IsTold}
 use Rattle.bhs_shared_match.specs.Timing.{stamped_to, HaveTurns}
 
 -- a log has as many events as before, or one more

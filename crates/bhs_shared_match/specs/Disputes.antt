@@ -3,18 +3,18 @@ use Rattle.std.specs.Prelude.{ℕ, ◌<◌, ◌≡◌, true, false, Option, List
 use Rattle.std.specs.Prelude.{Vec}
 use Rattle.std.specs.declared.alloc.Global.{Global}
 use Rattle.bhs_match.specs.Matches.{Play, state_of}
-use Rattle.bhs_shared_match.specs.declared.settling.Dispute.{Dispute}
-use Rattle.bhs_shared_match.specs.declared.settling.Dispute.TheVariants.{Missing, World, Differs, Arrival, NotClosed}
+use Rattle.bhs_shared_match.specs.declared.settlement.Dispute.{Dispute}
+use Rattle.bhs_shared_match.specs.declared.settlement.Dispute.TheVariants.{Missing, World, Differs, Arrival, NotClosed}
 use Rattle.bhs_shared_match.specs.declared.parts.Parts.{Parts}
-use Rattle.bhs_shared_match.specs.declared.settling.Unsettled.{Unsettled}
+use Rattle.bhs_shared_match.specs.declared.settlement.Unsettled.{Unsettled}
 use Rattle.bhs_shared_match.specs.Passes.{Passed}
-use Rattle.bhs_shared_match.specs.Cells.{Given}
+use Rattle.bhs_shared_match.specs.SharedMatches.{Given}
 use Rattle.bhs_shared_match.specs.Settling.{IsOfWorld, NoneMissing, IsLeastMissing, Agree, IsLeastDifference}
 use Rattle.bhs_shared_match.specs.Settling.{commands_of}
 use Rattle.bhs_shared_match.specs.Settling.{arrivals_of}
 
--- what a settlement goes by: what the cell was given, the match that stood under its lock, the passes that nobody
--- claimed, by agent, and those handed in
+-- the input of a settlement: the parameters of a shared match, the match that stood under its lock, the passes that
+-- nobody claimed, by agent, and the passes that were handed in
 pub record Account : Type 0 where
   pub given : Given
   pub play : Play
@@ -88,7 +88,7 @@ account_of parts passes = record {
     held = parts.held;
     schedule = parts.schedule;
   };
-  play = parts.hall.play;
+  play = parts.inner.play;
   left = parts.left.items;
   passes = passes;
 }
@@ -96,15 +96,15 @@ account_of parts passes = record {
 -- a refusal of these parts and passes, which come back
 pub record IsRefused (parts : Parts) (passes : Vec Passed Global) (unsettled : Unsettled) : Type 0 where
   pub dispute : IsDispute (account_of parts passes.items) unsettled.why
-  pub same_hall : unsettled.hall ≡ parts.hall
+  pub same_locked_match : unsettled.inner ≡ parts.inner
   pub same_left : unsettled.left ≡ parts.left
   pub same_passes : unsettled.passes ≡ passes
 
--- a refusal of a cell and passes: the dispute is about what comes back, and the passes are those handed in
+-- a refusal of a shared match and passes: the dispute is about what comes back, and the passes are those handed in
 pub record HasRefused (given : Given) (passes : Vec Passed Global) (unsettled : Unsettled) : Type 0 where
   pub dispute : IsDispute (record {
     given = given;
-    play = unsettled.hall.play;
+    play = unsettled.inner.play;
     left = unsettled.left.items;
     passes = passes.items;
   }) unsettled.why

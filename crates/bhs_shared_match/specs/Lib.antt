@@ -3,12 +3,12 @@ pub mod Tallies
 pub mod Fitting
 pub mod Passes
 pub mod Timing
-pub mod Halls
+pub mod LockedMatches
 pub mod Recording
 pub mod Comparing
 pub mod Arrivals
 pub mod Unclaimed
-pub mod Cells
+pub mod SharedMatches
 pub mod Settling
 pub mod Saying
 pub mod Disputes

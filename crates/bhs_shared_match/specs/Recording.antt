@@ -7,7 +7,7 @@ use Rattle.bhs_model.specs.declared.replies.Reply.TheVariants.{Over, No}
 use Rattle.bhs_model.specs.declared.replies.Why.{Why}
 use Rattle.bhs_model.specs.declared.replies.Why.TheVariants.{Agent, Outside, Twice, Ended, Spent}
 use Rattle.bhs_shared_match.specs.declared.model.Tally.{Tally}
-use Rattle.bhs_shared_match.specs.Halls.{Housed, agrees, is_below, IsOfBoard}
+use Rattle.bhs_shared_match.specs.LockedMatches.{LockedState, agrees, is_below, IsOfBoard}
 use Rattle.bhs_shared_match.specs.Tallies.{IsLegalHistory}
 use Rattle.bhs_shared_match.specs.Passes.{Passed, AreBelow, tally_in, gained}
 
@@ -58,9 +58,9 @@ IsSubmitted pass command None said pass' = IsUnrecorded pass command said pass'
 
 -- A command that may need memory: in some legal history consistent with the pass, its reply contains a whiteboard or
 -- confirms a write. Depart, Accuse, Leave and Bad never need memory, nor do commands that the pass's own tally refuses.
--- `Hall::told` states that the match is open.
+-- `LockedMatch::submit` states that the match is open.
 pub record MayWantMemory (pass : Passed) (command : Command) : Type 0 where
-  pub hall : Housed
-  pub legal : IsLegalHistory hall.play hall.tallies
-  pub agreed : agrees hall pass ≡ true
-  pub of_board : IsOfBoard hall.play pass.agent command
+  pub inner : LockedState
+  pub legal : IsLegalHistory inner.play inner.tallies
+  pub agreed : agrees inner pass ≡ true
+  pub of_board : IsOfBoard inner.play pass.agent command

@@ -1,4 +1,4 @@
-//! The records that cells, halls and passes share.
+//! The records that shared matches, locked matches and passes share.
 
 use crate::kept_command::KeptCommand;
 use bhs_model::{Mark, Reply, Text};

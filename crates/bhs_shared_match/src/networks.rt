@@ -1,4 +1,4 @@
-//! Comparing a match with the network and setup of a cell.
+//! Comparing a match with the network and setup of a shared match.
 
 ghost use Rattle.std.specs.Prelude.{◌≡◌, ◌<◌, ◌↔◌, IsTrue};
 ghost use Rattle.bhs_net.specs.Network.{nodes_of, row_of};

@@ -1,17 +1,17 @@
-//! The parts of a cell.
+//! The parts of a shared match.
 
-use crate::hall::Hall;
+use crate::locked_match::LockedMatch;
 use crate::pass::Pass;
 use bhs_deliveries::Held;
 use bhs_model::Setup;
 use bhs_net::Net;
 use bhs_time::ScheduleKind;
 
-/// What a cell is made of, once no thread shares it: what stood under its locks, and what it was given.
+/// The parts of a shared match that no thread uses any more: what stood under its locks, and its parameters.
 #[derive(Debug, Drop)]
 pub struct Parts {
     pub game: u32,
-    pub hall: Hall,
+    pub inner: LockedMatch,
     /// The unclaimed passes by agent; None for a claimed one.
     pub left: Vec<Option<Pass>>,
     pub net: Net,

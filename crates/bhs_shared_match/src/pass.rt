@@ -7,12 +7,12 @@ ghost use Rattle.bhs_match.specs.Matches.{world_in, state_of, shown_at};
 ghost use Rattle.bhs_shared_match.specs.Passes.{Passed, empty_pass, is_end, tally_in, Ascend};
 ghost use Rattle.std.specs.Prelude.{MatchOption};
 ghost use Rattle.bhs_shared_match.specs.Comparing.{entry_of, receipted, IsFirstDifference};
-ghost use Rattle.bhs_shared_match.specs.Halls.{is_below, spoken, IsSpareFor, IsTold, IsOfBoard, IsHeard};
+ghost use Rattle.bhs_shared_match.specs.LockedMatches.{is_below, spoken, IsSpareFor, IsTold, IsOfBoard, IsHeard};
 ghost use Rattle.bhs_shared_match.specs.Settling.{arrived_by};
 ghost use Rattle.bhs_shared_match.specs.Arrivals.{arrival_at, receipt_at, is_here, IsGiven};
 ghost use Rattle.bhs_model.specs.Marks.{read};
 
-use crate::comparing::{is_entry, reads_as};
+use crate::comparisons::{is_entry, reads_as};
 use crate::kept_command::KeptCommand;
 use crate::model::{Effect, Receipt, Spare, Tally};
 use bhs_match::{Answer, Match};

@@ -1,8 +1,8 @@
 -- What is known of verdicts that are shown.
 use Rattle.std.specs.Prelude.{ℕ, ◌≡◌, Option, Some, None, List, IfSome, slice_get}
 use Rattle.bhs_referee.specs.declared.verdicts.Verdict.{Verdict}
-use Rattle.bhs_standings.specs.declared.showing.Show.{Show}
-use Rattle.bhs_standings.specs.declared.showing.Show.TheVariants.{NoGame, Set, Taken}
+use Rattle.bhs_standings.specs.declared.showcase.Show.{Show}
+use Rattle.bhs_standings.specs.declared.showcase.Show.TheVariants.{NoGame, Set, Taken}
 
 -- the place that a note belongs to, and the verdict that it has seen
 pub record Seen : Type 0 where

@@ -2,13 +2,13 @@
 #![tactic(auto)]
 
 mod notes;
-mod printing;
-mod ranking;
+mod ranks;
 mod rows;
-mod showing;
+mod showcase;
+mod text;
 
 pub use notes::ShowNote;
-pub use printing::{outcome_text, table};
-pub use ranking::rank;
+pub use ranks::rank;
 pub use rows::Row;
-pub use showing::{Show, Showcase};
+pub use showcase::{Show, Showcase};
+pub use text::{outcome_text, table};

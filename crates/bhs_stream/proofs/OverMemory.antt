@@ -5,8 +5,8 @@ use Rattle.std.proofs.Common.{arith, length-append, take-add, take_all, le_refl,
 use Rattle.std.specs.declared.option.Option.{Option}
 use Rattle.std.specs.Io.KnownBytes.{Consumes, Appends, IsAtEnd}
 use Rattle.std.proofs.KnownBytes.{Consumes-nil, Consumes-trans, Consumes-kept, Appends-nil, Appends-trans, Appends-kept}
-use Rattle.bhs_stream.specs.declared.reading.ReadFault.{ReadFault}
-use Rattle.bhs_stream.specs.declared.reading.ReadFault.TheVariants as faults
+use Rattle.bhs_stream.specs.declared.reader.ReadFault.{ReadFault}
+use Rattle.bhs_stream.specs.declared.reader.ReadFault.TheVariants as faults
 use Rattle.bhs_stream.specs.Known.{AppendsPart, GivenBy, StoppedBy}
 use Rattle.bhs_stream.specs.Streams.{Chunk, End, known_gives, known_takes}
 use Rattle.bhs_stream.specs.Reading.{Gathers, begins, goes_on, Closes, EndsBy}

@@ -2,9 +2,9 @@
 use Rattle.std.specs.Prelude.{ℕ, ◌+◌, ◌*◌, ◌<◌, ◌≤◌, List, length, take}
 use Rattle.std.specs.declared.option.Option.{Option}
 use Rattle.std.specs.Io.KnownBytes.{Appends}
-use Rattle.bhs_stream.specs.declared.reading.TheConstants.{BUFFER}
-use Rattle.bhs_stream.specs.declared.reading.ReadFault.{ReadFault}
-use Rattle.bhs_stream.specs.declared.reading.ReadFault.TheVariants.{Read, Text, Memory, Turns}
+use Rattle.bhs_stream.specs.declared.reader.TheConstants.{BUFFER}
+use Rattle.bhs_stream.specs.declared.reader.ReadFault.{ReadFault}
+use Rattle.bhs_stream.specs.declared.reader.ReadFault.TheVariants.{Read, Text, Memory, Turns}
 
 -- ---- written
 

@@ -1,8 +1,8 @@
 -- The sequence of reads of a text.
 use Rattle.std.specs.Prelude.{◌≡◌, ℕ, ◌+◌, ◌<◌, ◌≤◌, List, [], ◌++◌, length}
-use Rattle.bhs_stream.specs.declared.reading.TheConstants.{BUFFER}
-use Rattle.bhs_stream.specs.declared.reading.ReadFault.{ReadFault}
-use Rattle.bhs_stream.specs.declared.reading.ReadFault.TheVariants as faults
+use Rattle.bhs_stream.specs.declared.reader.TheConstants.{BUFFER}
+use Rattle.bhs_stream.specs.declared.reader.ReadFault.{ReadFault}
+use Rattle.bhs_stream.specs.declared.reader.ReadFault.TheVariants as faults
 use Rattle.bhs_stream.specs.Streams.{Chunk, Bytes, Fails}
 
 -- what one read brings, where it brings bytes

@@ -6,7 +6,7 @@ ghost use Rattle.bhs_stream.specs.Known.{AppendsPart, StoppedBy};
 ghost use Rattle.bhs_stream.specs.Reading.{Closes, EndsBy};
 ghost use Rattle.bhs_stream.specs.Sending.{PutsAll, PutsPart};
 ghost use Rattle.bhs_stream.specs.Streams.{End, known_gives, known_takes};
-ghost use Rattle.bhs_stream.specs.declared.reading.ReadFault.{ReadFault};
+ghost use Rattle.bhs_stream.specs.declared.reader.ReadFault.{ReadFault};
 
 use std::io::{Read, Write};
 

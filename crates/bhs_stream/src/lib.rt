@@ -2,11 +2,11 @@
 #![tactic(auto)]
 
 mod laws;
-mod reading;
-mod sending;
+mod reader;
 mod streams;
+mod writer;
 
 pub use laws::{known_faults, known_parts, known_sends, known_texts};
-pub use reading::{BUFFER, ReadFault, read_text};
-pub use sending::{WriteFault, finish, send};
+pub use reader::{BUFFER, ReadFault, read_text};
 pub use streams::{Input, Output};
+pub use writer::{WriteFault, finish, send};

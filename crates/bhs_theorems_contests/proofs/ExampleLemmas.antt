@@ -19,7 +19,7 @@ use Rattle.bhs_protocols_triangle.specs.Triangle.{next_phase, phase_after, explo
 use Rattle.bhs_protocols_triangle.proofs.TriangleLemmas.{triangle_is_solved}
 use Rattle.bhs_model.specs.Views.{Away, Ended as Stopped}
 use Rattle.bhs_match.specs.Decided.{is_done}
-use Rattle.bhs_shared_match.specs.Cells.{Given}
+use Rattle.bhs_shared_match.specs.SharedMatches.{Given}
 use Rattle.bhs_session.specs.Texts.{text_of}
 use Rattle.bhs_client.specs.CommandLines.{data_of}
 use Rattle.bhs_theorems_isolation.specs.ContestMet.{TookPart}
@@ -127,10 +127,10 @@ first_took = record {
   };
   index = 0;
   handed_in = refl;
-  cells = given ∷ [];
+  shared_matches = given ∷ [];
   game = 0;
-  cell = refl;
-  of_cell = refl;
+  shared_match = refl;
+  of_shared_match = refl;
   wrote = record {
     all = said_by_first;
     in_turn = ((tt, refl, refl), ((tt, refl, refl), (refl, ((tt, refl, refl), (refl, ((tt, refl, refl), tt))))));
@@ -166,10 +166,10 @@ second_took = record {
   };
   index = 1;
   handed_in = refl;
-  cells = given ∷ [];
+  shared_matches = given ∷ [];
   game = 0;
-  cell = refl;
-  of_cell = refl;
+  shared_match = refl;
+  of_shared_match = refl;
   wrote = record {
     all = said_by_second;
     in_turn = ((tt, refl, refl), ((tt, refl, refl), tt));

@@ -51,19 +51,19 @@ done_at world held wakeups woken agent step Before (inl ended) = absurd (apart e
   where
     apart : Outside ≡ Ended → ⊥
     apart e = cc
-done_at world held wakeups woken agent step Before (inr dooms) = absurd (false≢true dooms)
+done_at world held wakeups woken agent step Before (inr destroyers) = absurd (false≢true destroyers)
 done_at world held wakeups woken agent step (At node came) (inl ended) = absurd (apart ended)
   where
     apart : Present ≡ Ended → ⊥
     apart e = cc
-done_at world held wakeups woken agent step (At node came) (inr dooms) = absurd (false≢true dooms)
+done_at world held wakeups woken agent step (At node came) (inr destroyers) = absurd (false≢true destroyers)
 done_at world held wakeups woken agent step (Bound node port) (inl ended) = absurd (apart ended)
   where
     apart : Away ≡ Ended → ⊥
     apart e = cc
-done_at world held wakeups woken agent step (Bound node port) (inr dooms) =
+done_at world held wakeups woken agent step (Bound node port) (inr destroyers) =
     either (λ (it : Action). is_move world (Bound node port) it ≡ false) (held node port) Rests (Makes (Deliver agent))
-    refl (ap not dooms)
+    refl (ap not destroyers)
 done_at world held wakeups woken agent step After done = refl
 
 at_rest : (trial : Trial) (schedule : List ℕ) (scene : Scene) → under trial schedule ≡ scene

@@ -42,10 +42,10 @@ never : (closed is_lost : Bool) → ((not closed && false) || ((not closed && fa
 never true is_lost = refl
 never false is_lost = refl
 
-never_closed : (closed passes dooms is_lost : Bool) → closed ≡ true
-    → ((not closed && passes) || ((not closed && dooms) && not is_lost)) ≡ true → ⊥
-never_closed true passes dooms is_lost closed is = false≢true is
-never_closed false passes dooms is_lost closed is = false≢true closed
+never_closed : (closed passes destroyers is_lost : Bool) → closed ≡ true
+    → ((not closed && passes) || ((not closed && destroyers) && not is_lost)) ≡ true → ⊥
+never_closed true passes destroyers is_lost closed is = false≢true is
+never_closed false passes destroyers is_lost closed is = false≢true closed
 
 module _ (trial : Trial) (final : ℕ → View) (orderly : IsOrderly trial) (moves most_lost : ℕ)
     (solves : EveryScheduleSolves trial moves most_lost) (rests : EveryScheduleCanRest trial) where

@@ -33,8 +33,8 @@ use Rattle.bhs_wasm.specs.declared.instructions.HostFunction.{HostFunction}
 use Rattle.bhs_wasm.specs.declared.instructions.HostFunction.TheVariants as imports
 use Rattle.bhs_wasm.specs.Contents.{Contents}
 use Rattle.bhs_wasm.specs.States.{State, operand}
-use Rattle.bhs_wasm_team.specs.declared.saving.Status.{Status}
-use Rattle.bhs_wasm_team.specs.declared.saving.Status.TheVariants as statuses
+use Rattle.bhs_wasm_team.specs.declared.memory_table.Status.{Status}
+use Rattle.bhs_wasm_team.specs.declared.memory_table.Status.TheVariants as statuses
 use Rattle.bhs_wasm_team.specs.Agents.{said, writes, write_length, text_in, does, does_at, after_at, memory_after}
 use Rattle.bhs_theorems_contests.specs.Contests.{WaitsOnLinks}
 use Rattle.bhs_theorems_contests.specs.Instances.{ProgramsWait}

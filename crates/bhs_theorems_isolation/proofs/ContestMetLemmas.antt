@@ -201,7 +201,7 @@ pub record IsWalked (one : Attended) (w : IsWrittenBy one.pass one.said one.writ
 
 -- The pass and the match have the same quota.
 own_quota : (one : Attended) → TookPart one → one.pass.quota ≡ one.play.setup.quota
-own_quota one part = of_given part.cells part.game one.pass part.given part.cell part.of_cell
+own_quota one part = of_given part.shared_matches part.game one.pass part.given part.shared_match part.of_shared_match
     ∙ ap (λ (setup : Setup). setup.quota) (sym part.accord.world.same_setup)
 
 walked_lemma : (one : Attended) (part : TookPart one) → IsWalked one part.wrote

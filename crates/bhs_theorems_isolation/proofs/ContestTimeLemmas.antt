@@ -16,8 +16,8 @@ use Rattle.bhs_time.proofs.LogTimeLemmas.{equal_waits_in_logs_lemma, every_arriv
 use Rattle.bhs_match.specs.Matches.{world_in, state_of}
 use Rattle.bhs_deliveries.specs.Links.{held_in}
 use Rattle.bhs_deliveries.specs.Scheduling.{stamps_in}
-use Rattle.bhs_shared_match.specs.Cells.{Given}
-use Rattle.bhs_shared_match.specs.declared.settling.Settlement.{Settlement}
+use Rattle.bhs_shared_match.specs.SharedMatches.{Given}
+use Rattle.bhs_shared_match.specs.declared.settlement.Settlement.{Settlement}
 use Rattle.bhs_server.specs.Settling.{IsTimely}
 use Rattle.bhs_theorems_isolation.specs.ContestTime.{timed_view, schedule_of, HasEnded, EqualWaitsInContests}
 use Rattle.bhs_theorems_isolation.specs.ContestTime.{EveryArrivalInContests}

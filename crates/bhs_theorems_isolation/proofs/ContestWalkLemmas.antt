@@ -16,7 +16,7 @@ use Rattle.bhs_model.proofs.StepLemmas.{by_cases}
 use Rattle.bhs_shared_match.specs.declared.model.Receipt.{Receipt}
 use Rattle.bhs_shared_match.specs.Tallies.{has_ended}
 use Rattle.bhs_shared_match.specs.Fitting.{Fits as Counts}
-use Rattle.bhs_shared_match.specs.Halls.{is_below, place_below}
+use Rattle.bhs_shared_match.specs.LockedMatches.{is_below, place_below}
 use Rattle.bhs_shared_match.specs.Passes.{is_end, is_last, tally_in, kept_command}
 use Rattle.bhs_shared_match.specs.Recording.{refusal_by}
 use Rattle.bhs_shared_match.specs.Comparing.{HeardEntry}

@@ -13,7 +13,7 @@ pub mod CuttingLemmas
 pub mod EventLemmas
 pub mod FeedLemmas
 pub mod FitLemmas
-pub mod HallTimeLemmas
+pub mod LockedMatchTimeLemmas
 pub mod HeldLemmas
 pub mod KnownLemmas
 pub mod MeetingLemmas

@@ -7,8 +7,8 @@ use Rattle.bhs_time.specs.declared.kinds.ScheduleKind.{ScheduleKind}
 use Rattle.bhs_time.specs.declared.kinds.ScheduleKind.TheVariants.{Oblivious}
 use Rattle.bhs_deliveries.specs.Dealer.{dealer_at}
 use Rattle.bhs_setups.specs.declared.lineups.Ready.{Ready}
-use Rattle.bhs_shared_match.specs.declared.settling.Settlement.{Settlement}
-use Rattle.bhs_server.specs.declared.settling.Refused.{Refused}
+use Rattle.bhs_shared_match.specs.declared.settlement.Settlement.{Settlement}
+use Rattle.bhs_server.specs.declared.settlement.Refused.{Refused}
 use Rattle.bhs_server.specs.Settling.{HasFared, HaveFared, IsTimely}
 use Rattle.bhs_contest.specs.Hosting.{dealers_of, given_of, givens_of}
 use Rattle.bhs_cli_results.specs.Appeals.{own_head}

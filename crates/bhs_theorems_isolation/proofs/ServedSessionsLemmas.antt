@@ -5,14 +5,14 @@ use Rattle.std.proofs.Common.{if◌then◌else◌}
 use Rattle.std.specs.Prelude.{slice_get}
 use Rattle.std.proofs.Math.Logic.{∥∥₁_map}
 use Rattle.std.proofs.lemmas.Bool.{eq-eqb}
-use Rattle.bhs_shared_match.specs.Cells.{Given}
+use Rattle.bhs_shared_match.specs.SharedMatches.{Given}
 use Rattle.bhs_shared_match.specs.Disputes.{AreInAccord}
 use Rattle.bhs_shared_match.specs.Passes.{Passed}
-use Rattle.bhs_shared_match.specs.declared.settling.Settlement.{Settlement}
+use Rattle.bhs_shared_match.specs.declared.settlement.Settlement.{Settlement}
 use Rattle.bhs_server.specs.Attending.{WasServed}
 use Rattle.bhs_server.specs.Settling.{AreSettledBy, IsSettledBy, passes_in}
 use Rattle.bhs_server.specs.declared.sessions.Session.{Session}
-use Rattle.bhs_server.specs.declared.settling.Refused.{Refused}
+use Rattle.bhs_server.specs.declared.settlement.Refused.{Refused}
 use Rattle.bhs_theorems_isolation.specs.ServedSessions.{ServedSessionsTookPart}
 
 -- a match and its result, where both exist
@@ -22,9 +22,10 @@ IsResultOf passes (Some given) None = Unit {0}
 IsResultOf passes None one = Unit {0}
 
 -- Induction over the matches: a settled match agrees with the passes of its sessions.
-accord_at : (from game : ℕ) (cells : List Given) (sessions : List Session) (settled : List (Result Settlement Refused))
-    (given : Given) (settlement : Settlement) → AreSettledBy from cells sessions settled
-    → slice_get cells game ≡ Some given → slice_get settled game ≡ Some (Ok settlement)
+accord_at : (from game : ℕ) (shared_matches : List Given) (sessions : List Session)
+    (settled : List (Result Settlement Refused))
+    (given : Given) (settlement : Settlement) → AreSettledBy from shared_matches sessions settled
+    → slice_get shared_matches game ≡ Some given → slice_get settled game ≡ Some (Ok settlement)
     → AreInAccord given settlement.sealed (passes_in (from + game) sessions)
 accord_at from game [] sessions [] given settlement all here there = absurd (cc)
 accord_at from game [] sessions (one ∷ more) given settlement all here there = absurd all
@@ -33,7 +34,7 @@ accord_at from zero (first ∷ others) sessions (one ∷ more) given settlement 
     let same : from ≡ from + 0 = omega arith in
     let passes : List Passed = passes_in from sessions in
     let at_given : IsResultOf passes (Some given) (Some one) =
-    subst (λ (cell : Option Given). IsResultOf passes cell (Some one)) here all.0 in
+    subst (λ (shared_match : Option Given). IsResultOf passes shared_match (Some one)) here all.0 in
     let at_result : IsResultOf passes (Some given) (Some (Ok settlement)) =
     subst (λ (result : Option (Result Settlement Refused)). IsResultOf passes (Some given) result) there at_given in
     subst (λ (number : ℕ). AreInAccord given settlement.sealed (passes_in number sessions)) same at_result
@@ -74,10 +75,11 @@ handed_in game (suc index) (first ∷ others) session there own =
     (handed_in game index others session there own)
 
 pub served_sessions_took_part : ServedSessionsTookPart
-served_sessions_took_part cells settled endings all game index given settlement session cell result there own quota
+served_sessions_took_part shared_matches settled endings all game index given settlement session shared_match result
+    there own quota
     is_kept are_replies =
     let accord : AreInAccord given settlement.sealed (passes_in (0 + game) all.sessions) =
-    accord_at 0 game cells all.sessions settled given settlement all.settled_by cell result in
+    accord_at 0 game shared_matches all.sessions settled given settlement all.settled_by shared_match result in
     let none : 0 + game ≡ game = omega arith in
     let place = handed_in game index all.sessions session there own in
     ∥∥₁_map session.served (λ (served : WasServed session.played.pass session.ended). record {
@@ -101,10 +103,10 @@ served_sessions_took_part cells settled endings all game index given settlement 
             accord;
         index = place.index;
         handed_in = place.there;
-        cells = cells;
+        shared_matches = shared_matches;
         game = game;
-        cell = cell;
-        of_cell = quota;
+        shared_match = shared_match;
+        of_shared_match = quota;
         wrote = served.wrote;
         none_more = served.none_more;
       };

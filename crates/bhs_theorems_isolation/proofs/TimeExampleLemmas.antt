@@ -21,7 +21,7 @@ use Rattle.bhs_match.specs.Matches.{Play, world_in}
 use Rattle.bhs_deliveries.specs.Links.{held_in}
 use Rattle.bhs_deliveries.specs.Scheduling.{whole_schedule, stamps_in, words_by}
 use Rattle.bhs_shared_match.specs.Disputes.{AreInAccord}
-use Rattle.bhs_shared_match.specs.declared.settling.Settlement.{Settlement}
+use Rattle.bhs_shared_match.specs.declared.settlement.Settlement.{Settlement}
 use Rattle.bhs_theorems_isolation.specs.TimeExample.{WalkedMatch, walk, other_walk, play_of, given_of, pass_of, wait_of}
 use Rattle.bhs_theorems_isolation.specs.TimeExample.{turns_of}
 use Rattle.bhs_theorems_isolation.specs.TimeExample.{before_arrival, IsOfWalk, IsSpokenOf, TheTheoremOfTimeSpeaksOfThem}

@@ -10,13 +10,13 @@ use Rattle.bhs_model.specs.Marks.{events_of, read_if}
 use Rattle.bhs_model.specs.InOrder.{replies}
 use Rattle.bhs_match.specs.Matches.{Play, world_in, state_of}
 use Rattle.bhs_shared_match.specs.Passes.{Passed, kept_command}
-use Rattle.bhs_shared_match.specs.Cells.{Given}
+use Rattle.bhs_shared_match.specs.SharedMatches.{Given}
 use Rattle.bhs_shared_match.specs.Disputes.{AreInAccord}
 use Rattle.bhs_session.specs.declared.endings.Ended.{Ended}
 use Rattle.bhs_session.specs.declared.endings.Ended.TheVariants as endings
 use Rattle.bhs_theorems_isolation.specs.Met.{Meeting, Hears, Refuses, Arrives, view_of, answer_to, bytes, AreDue}
 use Rattle.bhs_session.specs.Answering.{MayLack}
-use Rattle.bhs_server.specs.Ports.{IsOfCell}
+use Rattle.bhs_server.specs.Ports.{IsOfSharedMatch}
 use Rattle.bhs_session.specs.Texts.{text_of}
 use Rattle.bhs_server.specs.Written.{IsAttended, IsFew, MayBeOver, IsWrittenBy, is_between}
 use Rattle.bhs_server.specs.declared.ports.SessionAgent.{SessionAgent}
@@ -53,42 +53,46 @@ pub record TookPart (one : Attended) : Type 0 where
   pub accord : AreInAccord given one.play passes
   pub index : ℕ
   pub handed_in : slice_get passes index ≡ Some one.pass
-  -- as `attend` says of a pass and the cells
-  pub cells : List Given
+  -- as `attend` says of a pass and the shared matches
+  pub shared_matches : List Given
   pub game : ℕ
-  pub cell : slice_get cells game ≡ Some given
-  pub of_cell : IsOfCell cells game one.pass
+  pub shared_match : slice_get shared_matches game ≡ Some given
+  pub of_shared_match : IsOfSharedMatch shared_matches game one.pass
   -- as `attend` says it
   pub wrote : IsWrittenBy one.pass one.said one.written one.ended
   pub none_more : is_between one.ended ≡ true → one.more ≡ []
 
 -- what a session was that `attend` served on this pass, in a match that has settled
 abbrev pub session_of : {I O : Type 0} → (gives : I → Chunk → I → Type 0)
-    → (takes : O → List ℕ → WriteAnswer → O → Type 0) → (keys : List Seat) (cells : List Given)
+    → (takes : O → List ℕ → WriteAnswer → O → Type 0) → (keys : List Seat) (shared_matches : List Given)
     (input_old input_new : I) (output_old output_new : O) (turns : ℕ) (played : SessionAgent) (ended : Ended) → Play
-    → IsAttended gives takes keys cells input_old input_new output_old output_new turns (Some played) ended → Attended
-session_of gives takes keys cells input_old input_new output_old output_new turns played ended play attended = record {
-  play = play;
-  pass = played.pass;
-  said = map command_of attended.serves.taken;
-  more = map command_of attended.more;
-  written = attended.serves.written;
-  ended = ended;
-}
+    → IsAttended gives takes keys shared_matches input_old input_new output_old output_new turns (Some played) ended
+    → Attended
+session_of gives takes keys shared_matches input_old input_new output_old output_new turns played ended play attended =
+    record {
+      play = play;
+      pass = played.pass;
+      said = map command_of attended.serves.taken;
+      more = map command_of attended.more;
+      written = attended.serves.written;
+      ended = ended;
+    }
 
 -- What `attend`, `settle` and `Sealed` say of a session is what is asked of one that took part: `attend` served it on a
--- pass of this cell, the cell settled with the pass, and the match is as it is shown.
+-- pass of this shared match, the shared match settled with the pass, and the match is as it is shown.
 abbrev pub AttendedTookPart : {I O : Type 0} → (gives : I → Chunk → I → Type 0)
     → (takes : O → List ℕ → WriteAnswer → O → Type 0) → Type 0
 AttendedTookPart {I} {O} gives takes =
-    (keys : List Seat) (cells : List Given) (input_old input_new : I) (output_old output_new : O) (turns : ℕ)
+    (keys : List Seat) (shared_matches : List Given) (input_old input_new : I) (output_old output_new : O) (turns : ℕ)
     (played : SessionAgent) (ended : Ended) (play : Play) (given : Given) (passes : List Passed) (index : ℕ)
-    (attended : IsAttended gives takes keys cells input_old input_new output_old output_new turns (Some played) ended)
+    (attended : IsAttended gives takes keys shared_matches input_old input_new output_old output_new turns (Some played)
+    ended)
     → kept (world_in play) (events_of play.log) ≡ events_of play.log
     → map (λ entry. read_if play.log entry.mark) play.log ≡ replies (world_in play) (events_of play.log)
-    → slice_get cells played.game ≡ Some given → AreInAccord given play passes
+    → slice_get shared_matches played.game ≡ Some given → AreInAccord given play passes
     → slice_get passes index ≡ Some played.pass
-    → TookPart (session_of gives takes keys cells input_old input_new output_old output_new turns played ended play
+    → TookPart (session_of gives takes keys shared_matches input_old input_new output_old output_new turns played ended
+    play
     attended)
 
 -- ---- what its agent met

@@ -7,8 +7,8 @@ use Rattle.bhs_time.specs.Schedules.{Schedule, DelayLaw}
 use Rattle.bhs_time.specs.Stamps.{stamped_run, HasArrival}
 use Rattle.bhs_match.specs.Matches.{world_in, state_of}
 use Rattle.bhs_deliveries.specs.Scheduling.{whole_schedule, stamps_in}
-use Rattle.bhs_shared_match.specs.Cells.{Given}
-use Rattle.bhs_shared_match.specs.declared.settling.Settlement.{Settlement}
+use Rattle.bhs_shared_match.specs.SharedMatches.{Given}
+use Rattle.bhs_shared_match.specs.declared.settlement.Settlement.{Settlement}
 use Rattle.bhs_server.specs.Settling.{HasFared}
 
 -- the timed view of an agent in a settled match: its past by the log, with the turn of each step

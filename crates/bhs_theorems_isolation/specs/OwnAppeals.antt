@@ -3,8 +3,8 @@ use Rattle.std.specs.Prelude.{ℕ, ◌≡◌, Some, Ok, List, Result, slice_get}
 use Rattle.bhs_time.specs.declared.kinds.ScheduleKind.TheVariants.{Oblivious}
 use Rattle.bhs_time.specs.Schedules.{DelayLaw}
 use Rattle.bhs_setups.specs.declared.lineups.Lineup.{Lineup}
-use Rattle.bhs_shared_match.specs.declared.settling.Settlement.{Settlement}
-use Rattle.bhs_server.specs.declared.settling.Refused.{Refused}
+use Rattle.bhs_shared_match.specs.declared.settlement.Settlement.{Settlement}
+use Rattle.bhs_server.specs.declared.settlement.Refused.{Refused}
 use Rattle.bhs_server.specs.Settling.{HaveFared}
 use Rattle.bhs_contest.specs.Hosting.{dealers_of, givens_of}
 use Rattle.bhs_cli_results.specs.Appeals.{Case, IsOnTime}

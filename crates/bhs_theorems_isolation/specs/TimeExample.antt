@@ -16,9 +16,9 @@ use Rattle.bhs_time.specs.TimedViews.{TimedView, Fresh, ToldAt, NothingThen, Saw
 use Rattle.bhs_time.specs.TimedViews.{departed_at}
 use Rattle.bhs_match.specs.Matches.{Play}
 use Rattle.bhs_deliveries.specs.Delaying.{delay_word}
-use Rattle.bhs_shared_match.specs.Cells.{Given}
+use Rattle.bhs_shared_match.specs.SharedMatches.{Given}
 use Rattle.bhs_shared_match.specs.Passes.{Passed}
-use Rattle.bhs_shared_match.specs.declared.settling.Settlement.{Settlement}
+use Rattle.bhs_shared_match.specs.declared.settlement.Settlement.{Settlement}
 use Rattle.bhs_theorems_isolation.specs.ContestExample.{receipt}
 use Rattle.bhs_theorems_isolation.specs.ContestTime.{timed_view, schedule_of, HasEnded}
 

@@ -13,7 +13,7 @@ ghost use Rattle.bhs_theorems_isolation.specs.TimeExample.{TheTheoremOfTimeSpeak
 
 use bhs_stream::{Input, Output};
 
-/// A session that `attend` served took part in its match, once the match's cell settled with the session's pass.
+/// A session that `attend` served took part in its match, once the shared match settled with the session's pass.
 pub fn attended_sessions_took_part<I: Input, O: Output>()
     ensures { AttendedTookPart I.gives O.takes }
 {}

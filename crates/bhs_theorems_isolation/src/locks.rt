@@ -3,7 +3,7 @@
 ghost use Rattle.bhs_theorems_isolation.specs.Timely.{EqualWaitsUnderLocks, HallsAreTimedExecutions};
 
 /// Under the oblivious schedule a match under its lock is a timed execution, whatever calls are made of it.
-pub fn halls_are_timed_executions()
+pub fn locked_matches_are_timed_executions()
     ensures { HallsAreTimedExecutions }
 {}
 

@@ -247,7 +247,8 @@ come_alike world other here there agent (At node came) net turns pasts seen = pa
 come_alike world other here there agent After net turns pasts seen = pasts
 
 pub isolated_lemma : IsolatedInTime
-isolated_lemma world held schedule acts other still others agent net home unclosed open_too turns pasts dooms holds =
+isolated_lemma world held schedule acts other still others agent net home unclosed open_too turns pasts destroyers
+    holds =
     let here = timed_run world held schedule acts in
     let there = timed_run other still schedule others in
     let places : here.state.position agent ≡ there.state.position agent =
@@ -262,7 +263,7 @@ isolated_lemma world held schedule acts other still others agent net home unclos
     (holds ∙ ap (λ (place : Position). is_held still place) places)
     (ap₂ (λ (closed through : Bool). not closed && through) (unclosed ∙ sym open_too)
     (ap₂ (λ (bound doomed : Bool). bound && not doomed) (ap is_bound places)
-    (dooms ∙ ap (λ (place : Position). is_doomed other place) places)))) in
+    (destroyers ∙ ap (λ (place : Position). is_doomed other place) places)))) in
     let one = turn_becomes world held schedule here agent in
     let two = turn_becomes other still schedule there agent in
     record {

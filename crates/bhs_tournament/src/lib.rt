@@ -1,7 +1,7 @@
 //! What a tournament and its networks make together: matches that are ready to play, and the keys of their agents.
 #![tactic(auto)]
 
-mod assembling;
+mod assembly;
 mod key_table;
 
-pub use assembling::assemble;
+pub use assembly::assemble;

@@ -4,8 +4,8 @@ use Rattle.std.specs.List.{list_any}
 use Rattle.bhs_model.specs.Cuts.{at_places, Footprint, needs, footprints}
 use Rattle.bhs_model.specs.Marks.{events_of}
 use Rattle.bhs_match.specs.Matches.{Play, world_in}
-use Rattle.bhs_view.specs.declared.restricting.RestrictFault.{RestrictFault}
-use Rattle.bhs_view.specs.declared.restricting.RestrictFault.TheVariants.{Places, NotClosed}
+use Rattle.bhs_view.specs.declared.restriction.RestrictFault.{RestrictFault}
+use Rattle.bhs_view.specs.declared.restriction.RestrictFault.TheVariants.{Places, NotClosed}
 use Rattle.bhs_view.specs.Entries.{entries, closed_once}
 use Rattle.bhs_view.specs.Places.{set_from, misplaced}
 

@@ -7,8 +7,8 @@ ghost use Rattle.bhs_match.specs.Matches.{world_in};
 ghost use Rattle.bhs_view.specs.Places.{places_of};
 ghost use Rattle.bhs_view.specs.Walks.{footprints_at, AreInRange, AreNeeded};
 
+use crate::entries::{Reading, read, site_at};
 use crate::needed::Needed;
-use crate::reading::{Reading, read, site_at};
 use bhs_match::{Sealed, Site};
 use bhs_model::Kept;
 use bhs_net::Memory;

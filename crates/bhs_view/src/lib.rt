@@ -3,13 +3,13 @@
 #![tactic(auto)]
 
 mod cuts;
+mod entries;
 pub mod laws;
 mod needed;
-mod playing;
-mod reading;
-mod restricting;
+mod playback;
+mod restriction;
 mod twins;
 
 pub use cuts::{cut_and_looks, cut_of};
-pub use restricting::{RestrictFault, restrict};
+pub use restriction::{RestrictFault, restrict};
 pub use twins::{Twin, TwinFault, twin_of};

@@ -10,8 +10,8 @@ ghost use Rattle.bhs_view.specs.Twins.{hole_beyond, is_moved, places_left, twin_
 ghost use Rattle.bhs_view.specs.TwinWalks.{hole_at, first_hole, is_bound_for, left_at, is_arrival_at, first_arrival_at};
 ghost use Rattle.bhs_view.specs.declared.twins.TwinFault.TheVariants.{Memory as OutOfMemory};
 
-use crate::playing::begun;
-use crate::reading::{Reading, read};
+use crate::entries::{Reading, read};
+use crate::playback::begun;
 use bhs_match::{Match, Sealed, Site};
 use bhs_model::{Command, Event, Holes, Kept, Mark, Setup};
 use bhs_net::{Memory, Net};

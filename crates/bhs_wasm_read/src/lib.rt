@@ -9,10 +9,10 @@ mod control;
 mod declarations;
 mod faults;
 mod module_types;
+mod modules;
 mod opcodes;
-mod reading;
 mod sections;
 mod segments;
 
 pub use faults::{FaultKind, ModuleFault};
-pub use reading::module_of;
+pub use modules::module_of;

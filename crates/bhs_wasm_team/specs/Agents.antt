@@ -17,9 +17,9 @@ use Rattle.bhs_wasm.specs.Contents.{Contents}
 use Rattle.bhs_wasm.specs.States.{State, StepResult, Continues, Waits, Ends, Traps, run, instantiated, answered}
 use Rattle.bhs_wasm.specs.States.{operand, bytes_in, forgotten, parameters_of}
 use Rattle.bhs_wasm_team.specs.Packing.{unpacked}
-use Rattle.bhs_wasm_team.specs.declared.saving.Status.{Status}
-use Rattle.bhs_wasm_team.specs.declared.saving.Status.TheVariants as statuses
-use Rattle.bhs_wasm_team.specs.declared.saving.Saved.{Saved}
+use Rattle.bhs_wasm_team.specs.declared.memory_table.Status.{Status}
+use Rattle.bhs_wasm_team.specs.declared.memory_table.Status.TheVariants as statuses
+use Rattle.bhs_wasm_team.specs.declared.memory_table.Saved.{Saved}
 
 -- the memory of an agent: why it does not run now, and the state of its instance
 pub record AgentMemory : Type 0 where

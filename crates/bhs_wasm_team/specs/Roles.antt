@@ -4,7 +4,7 @@ use Rattle.bhs_schedules.specs.Strategies.{Observation, Strategies}
 use Rattle.bhs_wasm.specs.Contents.{Contents, contents_of}
 use Rattle.bhs_wasm_team.specs.declared.agents.Role.{Role}
 use Rattle.bhs_wasm_team.specs.declared.agents.Roles.{Roles}
-use Rattle.bhs_wasm_team.specs.declared.saving.Saved.{Saved}
+use Rattle.bhs_wasm_team.specs.declared.memory_table.Saved.{Saved}
 use Rattle.bhs_wasm_team.specs.Agents.{AgentMemory, after, memory_of_saved, start, strategy_of}
 
 -- the number of an agent's role: agent number i has role i, and if there is none of this number, the first

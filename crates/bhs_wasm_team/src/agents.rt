@@ -2,9 +2,9 @@
 
 ghost use Rattle.std.specs.Prelude.{◌≡◌, [], IfOk, IsSomeAnd};
 
+use crate::commands::{is_depart, is_gone, number_of, said_by, see};
 use crate::failures::{FailureCause, ModuleFailure, function_at};
-use crate::saving::{MemoryTable, Saved, Status};
-use crate::saying::{is_depart, is_gone, number_of, said_by, see};
+use crate::memory_table::{MemoryTable, Saved, Status};
 use bhs_schedules::{Latest, Step, Team, TeamAnswer, TeamFault};
 use bhs_wasm::{HostFunction, Interpreter, Module, Progress};
 use std::alloc::{AllocError, Global};

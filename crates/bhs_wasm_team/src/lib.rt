@@ -2,15 +2,15 @@
 #![tactic(auto)]
 
 mod agents;
-mod exploring;
+mod commands;
+mod explore;
 mod failures;
 mod laws;
-mod packing;
-mod saving;
-mod saying;
+mod memory_table;
+mod packed_memory;
 
 pub use agents::{Agents, FUEL, Role, Roles};
-pub use exploring::{draw_module, explore_module};
+pub use explore::{draw_module, explore_module};
 pub use failures::{FailureCause, ModuleFailure};
 pub use laws::{findings_of_modules_agree, modules_answer, modules_solve};
-pub use saving::{MemoryTable, Saved, Status};
+pub use memory_table::{MemoryTable, Saved, Status};

@@ -11,7 +11,7 @@ use Rattle.bhs_model.specs.declared.limits.TheConstants.{MAX_AGENTS, MAX_QUOTA, 
 use Rattle.bhs_model.specs.declared.setups.Setup.{Setup}
 use Rattle.bhs_model.specs.Worlds.{is_hole, names, is_dark}
 use Rattle.bhs_model.specs.Setups.{normal, IsNormal, nodes_where, links_where}
-use Rattle.bhs_model.specs.Dooms.{Signs, AreSignsOf}
+use Rattle.bhs_model.specs.Destroyers.{Signs, AreSignsOf}
 use Rattle.bhs_model.specs.PortMarks.{mark_at}
 use Rattle.bhs_model.proofs.SameDoomLemmas.{same_holes, same_dark, is_named}
 use Rattle.bhs_state.specs.Agents.{AgentState, newcomer}

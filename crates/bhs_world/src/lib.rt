@@ -1,10 +1,10 @@
 //! The world of one match: where each agent is and what each whiteboard shows, changed event by event.
 #![tactic(auto)]
 
+mod answers;
 mod faults;
-mod hearing;
 pub mod laws;
-mod making;
+mod setup_checks;
 mod worlds;
 
 pub use faults::SetupFault;

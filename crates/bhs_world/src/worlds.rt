@@ -17,10 +17,10 @@ ghost use Rattle.bhs_state.specs.Agents.{newcomer, position_of};
 ghost use Rattle.bhs_world.specs.Steps.{IsSound, IsPlaced, refusal_of, hears_in, table_heard, mark_heard, table_after};
 ghost use Rattle.bhs_world.specs.Steps.{mark_after, mark_of_command, heard_in, keeps_delivered, keeps_in, shows_in};
 
+use crate::answers::{advance, answer, here, refusal, shows_from};
 use crate::faults::SetupFault;
-use crate::hearing::{advance, answer, here, refusal, shows_from};
-use crate::making::{empty_boards, in_order, judged, newcomers};
-use bhs_model::{Command, Dooms, Event, Kept, Mark, Setup, Why};
+use crate::setup_checks::{empty_boards, in_order, judged, newcomers};
+use bhs_model::{Command, Destroyers, Event, Kept, Mark, Setup, Why};
 use bhs_net::Net;
 use bhs_state::{Agent, Board, Standing};
 use std::alloc::Global;
@@ -32,7 +32,7 @@ use std::marker::Model;
 pub struct World {
     net: Net,
     setup: Setup,
-    dooms: Dooms,
+    destroyers: Destroyers,
     agents: Vec<Agent>,
     boards: Vec<Board>,
     closed: bool,
@@ -44,7 +44,7 @@ impl Model for World {
     ghost Value = { Table };
 
     ghost use Rattle.bhs_world.specs.Steps.{IsSound};
-    ghost use Rattle.bhs_model.specs.Dooms.{AreSignsOf};
+    ghost use Rattle.bhs_model.specs.Destroyers.{AreSignsOf};
 
     ghost view = { λ world. record {
       net = world.net;
@@ -60,7 +60,7 @@ impl Model for World {
       agents = world.agents.items;
       boards = world.boards.items;
       closed = world.closed;
-    }) × AreSignsOf world.net world.setup.holes world.setup.dark world.dooms };
+    }) × AreSignsOf world.net world.setup.holes world.setup.dark world.destroyers };
 }
 
 impl World {
@@ -72,14 +72,14 @@ impl World {
         ensures stands { IfOk result (λ world. StandsFor world []) }
         ensures fault { IfErr result (λ fault. (fault ≡ SetupFault.Memory) ⊎ (first_fault net setup ≡ Some fault)) }
     {
-        let dooms = judged(alloc, &net, &setup)?;
-        let setup = in_order(alloc, &net, &dooms, &setup)?;
+        let destroyers = judged(alloc, &net, &setup)?;
+        let setup = in_order(alloc, &net, &destroyers, &setup)?;
         let agents = newcomers(alloc, setup.agents)?;
         let boards = empty_boards(alloc, net.nodes(), setup.board)?;
         Ok(World {
             net,
             setup,
-            dooms,
+            destroyers,
             agents,
             boards,
             closed: false,
@@ -167,7 +167,7 @@ impl World {
     {
         node < self.net.nodes()
             && port < self.net.degree(node)
-            && self.dooms.is_doomed(&self.net, node, port)
+            && self.destroyers.is_doomed(&self.net, node, port)
     }
 
     /// Whether the match has ended.
@@ -281,7 +281,7 @@ impl World {
         }
         let agent = &mut self.agents[usize::from(agent)];
         let (node, port) = agent.bound()?;
-        if self.dooms.is_doomed(&self.net, node, port) {
+        if self.destroyers.is_doomed(&self.net, node, port) {
             agent.lose();
             return None;
         }
@@ -346,7 +346,8 @@ impl World {
     {
         let agent = &self.agents[usize::from(agent)];
         match agent.bound() {
-            Some((node, port)) => !self.dooms.is_doomed(&self.net, node, port) || !agent.lost(),
+            Some((node, port)) => !self.destroyers.is_doomed(&self.net, node, port)
+                || !agent.lost(),
             None => false,
         }
     }

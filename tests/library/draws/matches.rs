@@ -84,7 +84,7 @@ fn two_agents_play_until_their_quotas_are_spent(rt: HostRuntime) -> Result<(), F
     Ok(())
 }
 
-/// A delivery is of the agent that is named, whoever else is on a link.
+/// A delivery delivers the named agent, even if other agents are on links.
 #[test]
 fn an_agent_is_delivered_by_its_number(rt: HostRuntime) -> Result<(), Fail> {
     let (mut game, held) = triangle(rt.alloc(), &[(0, 1)])?;

@@ -1,7 +1,7 @@
-//! The gate is called under the lock: while one command is held there, no other of its match comes so far.
+//! The hooks is called under the lock: while one command is held there, no other of its match comes so far.
 
-use super::{cell, claimed, enters, wait_for};
-use bhs_shared_match::Gate;
+use super::{shared_match, claimed, enters, wait_for};
+use bhs_shared_match::LockHooks;
 use std::sync::atomic::{AtomicBool, Ordering};
 use std::test::Fail;
 use std::thread;
@@ -24,7 +24,7 @@ impl<C: Clock> Keeper<'_, C> {
     }
 }
 
-impl<C: Clock> Gate for Keeper<'_, C> {
+impl<C: Clock> LockHooks for Keeper<'_, C> {
     fn asked(&self, _game: u32, agent: u16) {
         if agent == 1 {
             self.waits_for(&self.is_first_locked);
@@ -53,10 +53,10 @@ impl<C: Clock> Gate for Keeper<'_, C> {
 
 #[test]
 fn a_command_under_the_lock_keeps_others_out(rt: HostRuntime) -> Result<(), Fail> {
-    let shared = cell(rt.alloc(), 0, 2, 10)?;
+    let shared = shared_match(rt.alloc(), 0, 2, 10)?;
     let mut first = claimed(&rt, &shared, 0);
     let mut second = claimed(&rt, &shared, 1);
-    let gate = Keeper {
+    let lock_hooks = Keeper {
         clock: &rt,
         is_first_locked: AtomicBool::new(false),
         is_second_asked: AtomicBool::new(false),
@@ -66,11 +66,11 @@ fn a_command_under_the_lock_keeps_others_out(rt: HostRuntime) -> Result<(), Fail
     };
     let (one, two) = thread::join(
         &rt,
-        || enters(&rt, &gate, &shared, &mut first),
-        || enters(&rt, &gate, &shared, &mut second),
+        || enters(&rt, &lock_hooks, &shared, &mut first),
+        || enters(&rt, &lock_hooks, &shared, &mut second),
     );
-    assert!(rt; one && two && !gate.gave_up.load(Ordering::SeqCst));
-    assert!(rt; !gate.came_between.load(Ordering::SeqCst));
+    assert!(rt; one && two && !lock_hooks.gave_up.load(Ordering::SeqCst));
+    assert!(rt; !lock_hooks.came_between.load(Ordering::SeqCst));
     assert_eq!(rt;
         (first.receipts()[0].place, second.receipts()[0].place),
         (0, 1)

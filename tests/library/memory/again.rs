@@ -6,7 +6,7 @@ use bhs_tournament::assemble;
 use bhs_deliveries::Held;
 use bhs_files::{FileFault, read_network, read_tournament};
 use bhs_setups::Lineup;
-use bhs_shared_match::{Answer, Cell, Open, Pass};
+use bhs_shared_match::{Answer, SharedMatch, NoHooks, Pass};
 use bhs_match::{Match, Sealed};
 use bhs_model::{Command, Reply, Text};
 use bhs_net::{Memory, Net};
@@ -53,7 +53,7 @@ const ACCUSED: &str = "{\"agents\":2,\"board\":8,\"dark\":[],\"holes\":[2],\
 {\"end\":3}
 ";
 
-/// What a call answers, which is made once more if memory ran out in it. Any other fault is one of the test.
+/// Returns the answer of a call, which is repeated once if it runs out of memory. Fails at any other fault.
 fn again<T: Drop, F: Drop>(
     alloc: Global,
     is_memory: impl Fn(&F) -> bool,
@@ -119,9 +119,9 @@ fn a_match_is_made_again(rt: HostRuntime) -> Result<(), Fail> {
 }
 
 /// The match on the triangle, under its lock.
-fn cell(alloc: Global) -> Result<Cell, Memory> {
+fn shared_match(alloc: Global) -> Result<SharedMatch, Memory> {
     let (game, held): (Match, Held) = triangle(alloc).ok_or(Memory)?;
-    Cell::new(alloc, 0, game, held, ScheduleKind::Adaptive)
+    SharedMatch::new(alloc, 0, game, held, ScheduleKind::Adaptive)
 }
 
 /// What an agent is answered to a command. If memory runs out its pass stays as it was, and the command is told
@@ -129,7 +129,7 @@ fn cell(alloc: Global) -> Result<Cell, Memory> {
 fn told<R: Wait + Abort>(
     rt: &R,
     alloc: Global,
-    cell: &Cell,
+    shared_match: &SharedMatch,
     pass: &mut Pass,
     command: impl Fn() -> Result<Command, AllocError>,
 ) -> Result<Reply, Fail> {
@@ -137,7 +137,7 @@ fn told<R: Wait + Abort>(
     let submit = || -> Result<Answer, Memory> {
         let command = unless_memory(command())?;
         assert_eq!(rt; pass.receipts().len(), before);
-        cell.submit(rt, &Open, pass, command)
+        shared_match.submit(rt, &NoHooks, pass, command)
     };
     Ok(again(alloc, |_: &Memory| true, submit)?.reply)
 }
@@ -145,8 +145,8 @@ fn told<R: Wait + Abort>(
 #[test]
 fn a_match_under_its_lock_is_made_and_told_again(rt: HostRuntime) -> Result<(), Fail> {
     let alloc = rt.alloc();
-    let cell = again(alloc, |_: &Memory| true, || cell(alloc))?;
-    let mut pass = cell.claim(&rt, 0).expect(&rt, "a pass is claimed once");
+    let shared_match = again(alloc, |_: &Memory| true, || shared_match(alloc))?;
+    let mut pass = shared_match.claim(&rt, 0).expect(&rt, "a pass is claimed once");
     let here = |board: &str| -> Result<Reply, Fail> {
         Ok(Reply::Here {
             ports: 2,
@@ -154,11 +154,11 @@ fn a_match_under_its_lock_is_made_and_told_again(rt: HostRuntime) -> Result<(), 
             board: Text::new(alloc, board)?,
         })
     };
-    let entered = told(&rt, alloc, &cell, &mut pass, || Ok(Command::Enter))?;
+    let entered = told(&rt, alloc, &shared_match, &mut pass, || Ok(Command::Enter))?;
     assert_eq!(rt; entered, here("")?);
-    let written = told(&rt, alloc, &cell, &mut pass, || write(alloc))?;
+    let written = told(&rt, alloc, &shared_match, &mut pass, || write(alloc))?;
     assert_eq!(rt; written, Reply::Written);
-    let looked = told(&rt, alloc, &cell, &mut pass, || Ok(Command::Look))?;
+    let looked = told(&rt, alloc, &shared_match, &mut pass, || Ok(Command::Look))?;
     assert_eq!(rt; looked, here("ab")?);
     for (receipt, reply) in pass.receipts().iter().zip([&entered, &written, &looked]) {
         assert_eq!(rt; &receipt.reply, reply);

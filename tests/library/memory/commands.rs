@@ -1,10 +1,10 @@
 //! Commands that are told while memory is refused. Memory may be wanted only for a reply that says what a whiteboard
-//! shows, or that it was written; such a command is told again. Each other one is answered at once.
+//! shows, or that it was written; such a command is repeated. All other commands are answered without memory.
 
 use super::{TRIANGLE, mark, write};
 use bhs_deliveries::Held;
 use bhs_files::read_network;
-use bhs_shared_match::{Answer, Cell, Hall, Open};
+use bhs_shared_match::{Answer, SharedMatch, LockedMatch, NoHooks};
 use bhs_match::Match;
 use bhs_model::{Command, Reply, Text, Why};
 use bhs_net::Memory;
@@ -22,9 +22,9 @@ fn play(alloc: Global, quota: u16) -> Result<(Match, Held), Fail> {
     Ok((Match::new(alloc, net, setup)?, held))
 }
 
-fn cell(alloc: Global, game: u32, quota: u16) -> Result<Cell, Fail> {
+fn shared_match(alloc: Global, game: u32, quota: u16) -> Result<SharedMatch, Fail> {
     let (play, held) = play(alloc, quota)?;
-    Ok(Cell::new(alloc, game, play, held, ScheduleKind::Adaptive)?)
+    Ok(SharedMatch::new(alloc, game, play, held, ScheduleKind::Adaptive)?)
 }
 
 fn here(alloc: Global, board: &str) -> Result<Reply, Fail> {
@@ -35,7 +35,7 @@ fn here(alloc: Global, board: &str) -> Result<Reply, Fail> {
     })
 }
 
-/// Tells these commands, each of which is to be answered so.
+/// Submits commands and compares each reply with the expected one.
 fn are_told<R: Abort>(
     rt: &R,
     alloc: Global,
@@ -90,29 +90,29 @@ fn each_kind(alloc: Global) -> Result<Vec<(Command, Reply)>, Fail> {
 }
 
 #[test]
-fn a_hall_is_told_each_kind(rt: HostRuntime) -> Result<(), Fail> {
+fn a_locked_match_is_told_each_kind(rt: HostRuntime) -> Result<(), Fail> {
     let alloc = rt.alloc();
-    let (mut hall, mut passes) = Hall::new(alloc, 0, play(alloc, 10)?.0)?;
+    let (mut locked_match, mut passes) = LockedMatch::new(alloc, 0, play(alloc, 10)?.0)?;
     let pass = &mut passes[0];
     are_told(
         &rt,
         alloc,
         each_kind(alloc)?,
-        |command| hall.told(pass, command),
+        |command| locked_match.submit(pass, command),
     )
 }
 
 #[test]
-fn a_cell_is_told_each_kind(rt: HostRuntime) -> Result<(), Fail> {
+fn a_shared_match_is_told_each_kind(rt: HostRuntime) -> Result<(), Fail> {
     let alloc = rt.alloc();
-    let cell = cell(alloc, 0, 10)?;
-    let mut pass = cell.claim(&rt, 0).expect(&rt, "a pass is claimed once");
+    let shared_match = shared_match(alloc, 0, 10)?;
+    let mut pass = shared_match.claim(&rt, 0).expect(&rt, "a pass is claimed once");
     are_told(&rt, alloc, each_kind(alloc)?, |command| {
-        cell.submit(&rt, &Open, &mut pass, command)
+        shared_match.submit(&rt, &NoHooks, &mut pass, command)
     })
 }
 
-/// A quota of 2 is used up, and then the pass is full.
+/// Returns the commands that use up a quota of 2, and their replies.
 fn until_full(alloc: Global) -> Result<Vec<(Command, Reply)>, Fail> {
     Ok(vec![in alloc;
         (Command::Enter, here(alloc, "")?),
@@ -131,34 +131,34 @@ fn until_full(alloc: Global) -> Result<Vec<(Command, Reply)>, Fail> {
 }
 
 #[test]
-fn a_hall_answers_a_full_pass(rt: HostRuntime) -> Result<(), Fail> {
+fn a_locked_match_answers_a_full_pass(rt: HostRuntime) -> Result<(), Fail> {
     let alloc = rt.alloc();
-    let (mut hall, mut passes) = Hall::new(alloc, 0, play(alloc, 2)?.0)?;
+    let (mut locked_match, mut passes) = LockedMatch::new(alloc, 0, play(alloc, 2)?.0)?;
     let pass = &mut passes[0];
     are_told(
         &rt,
         alloc,
         until_full(alloc)?,
-        |command| hall.told(pass, command),
+        |command| locked_match.submit(pass, command),
     )
 }
 
 #[test]
-fn a_cell_answers_a_full_pass(rt: HostRuntime) -> Result<(), Fail> {
+fn a_shared_match_answers_a_full_pass(rt: HostRuntime) -> Result<(), Fail> {
     let alloc = rt.alloc();
-    let cell = cell(alloc, 0, 2)?;
-    let mut pass = cell.claim(&rt, 0).expect(&rt, "a pass is claimed once");
+    let shared_match = shared_match(alloc, 0, 2)?;
+    let mut pass = shared_match.claim(&rt, 0).expect(&rt, "a pass is claimed once");
     are_told(&rt, alloc, until_full(alloc)?, |command| {
-        cell.submit(&rt, &Open, &mut pass, command)
+        shared_match.submit(&rt, &NoHooks, &mut pass, command)
     })
 }
 
 #[test]
-fn a_cell_answers_who_accuses_who_is_strange_and_who_comes_late(
+fn a_shared_match_answers_who_accuses_who_is_strange_and_who_comes_late(
     rt: HostRuntime,
 ) -> Result<(), Fail> {
     let alloc = rt.alloc();
-    let shared = cell(alloc, 0, 10)?;
+    let shared = shared_match(alloc, 0, 10)?;
     let mut pass = shared.claim(&rt, 0).expect(&rt, "a pass is claimed once");
     let accuses = vec![in alloc;
         (Command::Enter, here(alloc, "")?),
@@ -167,16 +167,16 @@ fn a_cell_answers_who_accuses_who_is_strange_and_who_comes_late(
         (Command::Leave, Reply::No(Why::Ended)),
     ]?;
     are_told(&rt, alloc, accuses, |command| {
-        shared.submit(&rt, &Open, &mut pass, command)
+        shared.submit(&rt, &NoHooks, &mut pass, command)
     })?;
-    let other = cell(alloc, 1, 10)?;
+    let other = shared_match(alloc, 1, 10)?;
     let mut pass = other.claim(&rt, 0).expect(&rt, "a pass is claimed once");
     let strange = vec![in alloc;
         (Command::Enter, Reply::No(Why::Agent)),
         (write(alloc)?, Reply::No(Why::Agent)),
     ]?;
     are_told(&rt, alloc, strange, |command| {
-        shared.submit(&rt, &Open, &mut pass, command)
+        shared.submit(&rt, &NoHooks, &mut pass, command)
     })?;
     let mut pass = shared.claim(&rt, 1).expect(&rt, "a pass is claimed once");
     shared.close(&rt);
@@ -187,6 +187,6 @@ fn a_cell_answers_who_accuses_who_is_strange_and_who_comes_late(
         (Command::Leave, Reply::Over),
     ]?;
     are_told(&rt, alloc, late, |command| {
-        shared.submit(&rt, &Open, &mut pass, command)
+        shared.submit(&rt, &NoHooks, &mut pass, command)
     })
 }

@@ -1,4 +1,4 @@
-//! What is lent to a call in which memory runs out keeps what it had.
+//! A buffer that is lent to a call keeps its contents if the call runs out of memory.
 
 use super::mark;
 use bhs_net::Memory;

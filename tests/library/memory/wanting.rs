@@ -83,7 +83,7 @@ fn is_sent(out: Option<Out>, conn: u16, bytes: &str) -> bool {
     }
 }
 
-/// Whether a call is answered as ever before memory ran out, and as want of it from then on.
+/// Returns whether a call is answered normally as long as no request was refused, and by a memory fault from then on.
 fn is_answered(stage: &mut Rehearsal<'static>, call: Call, conn: u16, bytes: &str) -> bool {
     let has_failed = stage.failed();
     match made(stage, call) {

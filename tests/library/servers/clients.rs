@@ -10,7 +10,7 @@ pub(super) const LEAVE: &str = "{\"do\":\"leave\"}\n";
 
 pub(super) const ACCUSE: &str = "{\"do\":\"accuse\",\"port\":1}\n";
 
-/// To the node that is no black hole, and to the one that is.
+/// Departures over port 0, to the safe node, and over port 1, to the black hole.
 pub(super) const DEPART: &str = "{\"do\":\"depart\",\"port\":0}\n";
 
 pub(super) const DEPART_TO_THE_HOLE: &str = "{\"do\":\"depart\",\"port\":1}\n";
@@ -23,7 +23,7 @@ pub(super) const NOTED: &str = "{\"ok\":\"noted\"}\n";
 
 pub(super) const OVER: &str = "{\"ok\":\"over\"}\n";
 
-/// To a key of nobody, to one that was used before, and to a first line that is no enter.
+/// Denials of an unknown key, of a key that was used before, and of a first line other than Enter.
 pub(super) const UNKNOWN: &str = "{\"no\":\"key\"}\n";
 
 pub(super) const TAKEN: &str = "{\"no\":\"taken\"}\n";
@@ -48,14 +48,14 @@ impl<'a, R: Net<Listener = TcpListener, Stream = TcpStream> + Clock> Client<'a, 
         Client { rt, alloc, address }
     }
 
-    /// A connection of a client that has said this.
+    /// Opens a connection and sends these lines.
     pub(super) fn says(&self, lines: &str) -> io::Result<TcpStream> {
         let stream = TcpStream::connect(self.rt, self.address)?;
         (&mut &stream).write_all(lines.as_bytes())?;
         Ok(stream)
     }
 
-    /// A connection of a client that has entered with this key, and then said this.
+    /// Opens a connection, enters with a key, and sends further lines.
     pub(super) fn enters(&self, key: &str, lines: &str) -> io::Result<TcpStream> {
         let enter = format!(in self.alloc; "{{\"do\":\"enter\",\"key\":\"{key}\"}}\n{lines}")?;
         self.says(enter.as_str())
@@ -67,7 +67,7 @@ impl<'a, R: Net<Listener = TcpListener, Stream = TcpStream> + Clock> Client<'a, 
         io::read_to_string(self.alloc, &stream)
     }
 
-    /// Waits until this many bytes can be read, of at most 256. It is a fault if they do not come.
+    /// Waits until `bytes` bytes can be read, at most 256. Fails if the server sends fewer.
     pub(super) fn waits_for(&self, stream: &TcpStream, bytes: usize) -> io::Result<()> {
         let mut buffer = [0; 256];
         for _ in 0..10_000 {

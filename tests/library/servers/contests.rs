@@ -1,4 +1,4 @@
-use super::super::cells::cell;
+use super::super::shared_matches::shared_match;
 use bhs_deliveries::Dealer;
 use bhs_setups::Keys;
 use bhs_server::{Contest, Pace, PaceStep};
@@ -11,18 +11,18 @@ use std::time::{Clock, Duration};
 /// This many matches on the triangle, with black hole 2. The key of an agent is `k`, the number of its match, a hyphen
 /// and its number.
 pub(super) fn contest(alloc: Global, games: u32, agents: u16) -> Result<Contest, Fail> {
-    let mut cells = Vec::new(alloc);
+    let mut shared_matches = Vec::new(alloc);
     let mut dealers = Vec::new(alloc);
     let mut keys = Keys::new(alloc);
     for game in 0..games {
-        cells.push(cell(alloc, game, agents, 10)?)?;
+        shared_matches.push(shared_match(alloc, game, agents, 10)?)?;
         dealers.push(Dealer::new([0; 32], u64::from(game)))?;
         for agent in 0..agents {
             keys.insert(format!(in alloc; "k{game}-{agent}")?, (game, agent))?;
         }
     }
     Ok(Contest {
-        cells,
+        shared_matches,
         dealers,
         keys,
     })

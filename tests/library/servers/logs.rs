@@ -5,7 +5,7 @@ use bhs_server::Settled;
 use std::alloc::Global;
 use std::test::Fail;
 
-/// The matches, all of which settled.
+/// Returns the sealed matches. Fails if a match did not settle.
 pub(super) fn all_sealed(alloc: Global, settled: Vec<Settled>) -> Result<Vec<Sealed>, Fail> {
     let mut sealed = Vec::with_capacity(alloc, settled.len())?;
     for one in settled {
@@ -26,7 +26,7 @@ pub(super) fn lengths(alloc: Global, sealed: &[Sealed]) -> Result<Vec<usize>, Fa
     Ok(lengths)
 }
 
-/// The agent of an event, and what it is: the command or the delivery; None of a close.
+/// Returns the agent of an event and the name of its command or delivery; None for a close.
 fn named(event: &Event) -> Option<(u16, &'static str)> {
     match event {
         Event::Tell { agent, command } => Some((*agent, word_of(command))),
@@ -35,7 +35,7 @@ fn named(event: &Event) -> Option<(u16, &'static str)> {
     }
 }
 
-/// The events of a match, each as the number of its agent and its name, with a space behind it.
+/// Returns the log as text: for each event its agent's number, its name, and a space.
 pub(super) fn log_of(alloc: Global, sealed: &Sealed) -> Result<String, Fail> {
     let mut log = String::new(alloc);
     for kept in sealed.log() {

@@ -2,4 +2,4 @@
 
 pub(crate) mod line_by_line;
 pub(crate) mod lines;
-pub(crate) mod showing;
+pub(crate) mod output;

@@ -2,7 +2,7 @@ use Rattle.std.proofs.Common.{◌≡◌, ◌+◌, [], true, false, length, take,
 use Rattle.std.proofs.Common.{subst}
 use Rattle.std.proofs.Common.{length-take-le}
 use Rattle.bhs_stream.specs.Streams.{Chunk}
-use Rattle.bhs_stream.specs.declared.reading.TheConstants.{BUFFER}
+use Rattle.bhs_stream.specs.declared.reader.TheConstants.{BUFFER}
 use Rattle.bhs_stream.proofs.ChunkLemmas.{chunk_by-take}
 use Rattle.bhs_cli_rehearse.specs.Shells.{progress_of}
 use Rattle.bhs_cli_rehearse.specs.Interactive.{ScriptProgress, Interacts, begins, ended}

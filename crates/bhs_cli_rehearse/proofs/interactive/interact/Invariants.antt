@@ -1,6 +1,6 @@
 -- Each read so far brought more of the script, and the lines that ended in it were answered.
 use Rattle.std.proofs.Common.{◌≡◌, ◌≤◌, ◌+◌, ◌*◌, [], length, false}
-use Rattle.bhs_stream.specs.declared.reading.TheConstants.{BUFFER}
+use Rattle.bhs_stream.specs.declared.reader.TheConstants.{BUFFER}
 use Rattle.bhs_cli_rehearse.specs.Shells.{progress_of}
 use Rattle.bhs_cli.specs.LineStates.{IsPart}
 use Rattle.bhs_cli_rehearse.specs.Interactive.{Interacts}

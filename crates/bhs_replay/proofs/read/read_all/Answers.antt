@@ -1,7 +1,7 @@
 use Rattle.std.proofs.Common.{ℕ, ◌≤◌, ◌<◌, ◌≡◌, List, length, take, arith, rules, refl, subst, length-take-le}
 use Rattle.bhs_stream.specs.Streams.{Chunk, Bytes, End, chunk_by}
 use Rattle.bhs_stream.specs.Reading.{IsPiece}
-use Rattle.bhs_stream.specs.declared.reading.TheConstants.{BUFFER}
+use Rattle.bhs_stream.specs.declared.reader.TheConstants.{BUFFER}
 use Rattle.bhs_stream.proofs.ChunkLemmas.{chunk_by-take}
 use Rattle.bhs_replay.specs.declared.faults.ReplayFault.{ReplayFault}
 use Rattle.bhs_replay.proofs.FeedLemmas.{fault_is}

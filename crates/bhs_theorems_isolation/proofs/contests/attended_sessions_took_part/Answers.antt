@@ -4,8 +4,8 @@ use Rattle.bhs_session.specs.Texts.{command_of}
 use Rattle.bhs_theorems_isolation.proofs.contests.attended_sessions_took_part.Goals as goal
 
 pub returns : goal.returns
-returns g c = λ keys cells input_old input_new output_old output_new turns played ended play given passes index attended
-    kept replies cell accord handed_in. record {
+returns g c = λ keys shared_matches input_old input_new output_old output_new turns played ended play given passes index
+    attended kept replies shared_match accord handed_in. record {
       kept = kept;
       replies = replies;
       given = given;
@@ -13,10 +13,10 @@ returns g c = λ keys cells input_old input_new output_old output_new turns play
       accord = accord;
       index = index;
       handed_in = handed_in;
-      cells = cells;
+      shared_matches = shared_matches;
       game = played.game;
-      cell = cell;
-      of_cell = attended.written.0;
+      shared_match = shared_match;
+      of_shared_match = attended.written.0;
       wrote = attended.written.1;
       none_more = λ between. ap (λ (lines : List Line). map command_of lines) (attended.none_more between);
     }

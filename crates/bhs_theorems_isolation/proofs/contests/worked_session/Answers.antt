@@ -30,10 +30,10 @@ returns c = record {
     };
     index = 0;
     handed_in = refl;
-    cells = record { game = 0; net = settled.net; setup = settled.setup; held = []; schedule = Adaptive } ∷ [];
+    shared_matches = record { game = 0; net = settled.net; setup = settled.setup; held = []; schedule = Adaptive } ∷ [];
     game = 0;
-    cell = refl;
-    of_cell = refl;
+    shared_match = refl;
+    of_shared_match = refl;
     wrote = record {
       all = all_said;
       in_turn = ((tt, refl, refl), ((tt, (Twice, refl)), ((tt, refl, refl), (refl, ((tt, refl, refl), tt)))));
@@ -72,7 +72,7 @@ returns c = record {
     };
     index = 1;
     handed_in = refl;
-    cells = record {
+    shared_matches = record {
       game = 3;
       net = settled_elsewhere.net;
       setup = settled_elsewhere.setup;
@@ -80,8 +80,8 @@ returns c = record {
       schedule = Adaptive;
     } ∷ [];
     game = 0;
-    cell = refl;
-    of_cell = refl;
+    shared_match = refl;
+    of_shared_match = refl;
     wrote = record {
       all = said_elsewhere;
       in_turn = ((tt, refl, refl), ((tt, (Twice, refl)), ((tt, refl, refl), (refl, ((tt, refl, refl), tt)))));
@@ -123,7 +123,7 @@ returns c = record {
       };
       index = 0;
       handed_in = refl;
-      cells = record {
+      shared_matches = record {
         game = 3;
         net = settled_elsewhere.net;
         setup = settled_elsewhere.setup;
@@ -131,8 +131,8 @@ returns c = record {
         schedule = Adaptive;
       } ∷ [];
       game = 0;
-      cell = refl;
-      of_cell = refl;
+      shared_match = refl;
+      of_shared_match = refl;
       wrote = record {
         all = said_beside;
         in_turn = ((tt, refl, refl), ((tt, refl, refl), tt));

@@ -1,4 +1,4 @@
-use Rattle.bhs_theorems_isolation.proofs.HallTimeLemmas.{waits_lemma}
+use Rattle.bhs_theorems_isolation.proofs.LockedMatchTimeLemmas.{waits_lemma}
 use Rattle.bhs_theorems_isolation.proofs.locks.equal_waits_under_locks.Goals as goal
 
 pub returns : goal.returns

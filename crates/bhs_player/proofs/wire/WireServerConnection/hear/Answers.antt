@@ -2,7 +2,7 @@ use Rattle.std.proofs.Common.{◌≡◌, ◌≤◌, ◌∙◌, ◌+◌, ◌++◌
 use Rattle.std.proofs.Common.{arith, rules, vec_items}
 use Rattle.std.proofs.Common.{append_assoc, append-nil, length-take-le}
 use Rattle.bhs_stream.specs.Reading.{Gathers, begins, goes_on, IsPiece}
-use Rattle.bhs_stream.specs.declared.reading.TheConstants.{BUFFER}
+use Rattle.bhs_stream.specs.declared.reader.TheConstants.{BUFFER}
 use Rattle.bhs_stream.proofs.ChunkLemmas.{chunk_by-take}
 use Rattle.bhs_player.proofs.wire.WireServerConnection.hear.Goals as goal
 

@@ -1,6 +1,6 @@
 use Rattle.std.proofs.Common.{rules, ◌≡◌, ◌<◌, ◌≤◌, Some, List, length, ap, sym, ◌∙◌, slice_set}
-use Rattle.bhs_server.specs.declared.waiting.Known.{Known}
-use Rattle.bhs_server.specs.declared.waiting.Stand.TheVariants.{IsCut}
+use Rattle.bhs_server.specs.declared.queue.Known.{Known}
+use Rattle.bhs_server.specs.declared.queue.Stand.TheVariants.{IsCut}
 use Rattle.bhs_server.specs.Waiting.{cut_at}
 use Rattle.bhs_server.specs.Crowds.{first_cut}
 use Rattle.bhs_server.proofs.CrowdLemmas.{cut_behind}

@@ -1,5 +1,0 @@
-use Rattle.std.proofs.Common.{◌≡◌, None, replicate}
-use Rattle.bhs_world.proofs.making.empty_boards.Given as goal
-
-abbrev pub invariant-loop : goal.invariant-loop
-invariant-loop l = l.boards.items ≡ replicate l.counter (record { limit = l.limit; last = None })
