@@ -9,9 +9,9 @@ of their own, as teams would do. Waits for the server to end, and prints its tab
 which teams solved their networks. All of them must: else the exit status is 1.
 
 The server is `./arena serve`. Where tools/build has not built the proved program,
-./arena compiles one without a proof first, in a minute or two, and says at each start
-that it is not proved. Without the toolchain it is the server in Python, `./arena-lab
-serve`, and a line says so.
+./arena compiles one without a proof first, by rustc in about a minute, and says at each
+start that it is not proved. Without rustc and Rattle's toolchain it is the server in
+Python, `./arena-lab serve`, and a line says so.
 
 With --kill the agents of the team green are killed in the middle of their search, and
 the other teams must solve theirs. Files go to a temporary folder; --keep has the

@@ -12,8 +12,8 @@ team, and by which password as the teacher.
 It needs Debian's packages python3-django, python3-djangorestframework,
 python3-waitress, python3-whitenoise, python3-networkx, python3-numpy, python3-scipy,
 python3-greenlet, python3-tqdm and python3-jinja2. The program is the proved one if it
-is built, else one without a proof, which is compiled in a minute or two and says so;
-ARENA in the environment names another.
+is built, else one without a proof, which is compiled first, by rustc in about a minute,
+and says so; ARENA in the environment names another.
 """
 import argparse
 import csv

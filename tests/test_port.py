@@ -1,5 +1,6 @@
 """What tools/port leaves out of sources, what its engine says of matches that are worked
 out by hand, and that it does not take a wrong finding."""
+import pathlib
 import random
 import unittest
 from typing import Dict, List
@@ -9,7 +10,7 @@ from tests.port.engine import All, Game, Match, Memory, Words
 from tests.port.teams import DrawnMachines, agrees, drawn_match
 from tests.support.output import run_call
 from tests.support.wasm_encoding import sections_of
-from tools.port import compiler, crates, rules, sources, stripped
+from tools.port import compiler, crates, libraries, rules, sources, stripped
 
 SOURCE = """//! Counts.
 #![tactic(auto)]
@@ -23,6 +24,7 @@ use std::alloc::{AllocError, Global};
 pub struct Count {
     pub least: u16,
     ghost inside: { least < 9 },
+    pub ghost seen: { least ≡ least },
 }
 
 impl Clone for Count {
@@ -116,9 +118,7 @@ class Stripped(unittest.TestCase):
 
 
 class Compiled(unittest.TestCase):
-    @unittest.skipUnless(
-        compiler.rustc_path() is not None, "Debian's rustc is not installed"
-    )
+    @unittest.skipUnless(not compiler.missing(), "Debian's rustc is not installed")
     def test_all_that_the_crates_have_compiles(self) -> None:
         """A form that Rattle has and Rust has not would be seen in nightly alone."""
         answers, output, _ = run_call(teams.main, ["--teams", "20"])
@@ -127,21 +127,29 @@ class Compiled(unittest.TestCase):
 
 class Sources(unittest.TestCase):
     @unittest.skipUnless(
-        crates.kit_source("toml").is_dir(), "the Rattle toolchain is not installed"
+        crates.kit_folder("toml").is_dir(), "the Rattle toolchain is not installed"
     )
-    def test_each_rule_for_a_library_matches(self) -> None:
+    def test_a_source_archive_has_each_library_and_its_licence(self) -> None:
+        paths = [pathlib.PurePath(path) for path, _ in libraries.vendored_files()]
+        folder = crates.VENDOR.relative_to(crates.TOP)
         for library in filter(crates.is_library, crates.LIBRARIES):
             with self.subTest(library):
-                source = crates.kit_source(library)
-                self.assertTrue([*sources.plain_files(library, source)])
+                names = [
+                    path.name for path in paths if folder / library in path.parents
+                ]
+                self.assertIn("lib.rs", names)
+                has_licence = any(crates.kit_folder(library).glob("LICENSE*"))
+                self.assertEqual(any("LICENSE" in name for name in names), has_licence)
 
     def test_each_rule_has_a_reason_and_still_matches(self) -> None:
-        for crate, several in rules.RULES.items():
-            for rule in several:
-                self.assertGreater(len(rule.reason.split()), 3, (crate, rule.pattern))
-            if crate in crates.crate_rows():
-                source = crates.TOP / "crates" / crate / "src"
-                self.assertTrue([*sources.plain_files(crate, source)])
+        for has_sockets in (False, True):
+            for crate in {*rules.RULES, *rules.WITHOUT_SOCKETS}:
+                for rule in sources.rules_of(crate, has_sockets):
+                    reason = rule.reason.split()
+                    self.assertGreater(len(reason), 3, (crate, rule.pattern))
+                if crate in crates.crate_rows():
+                    files = sources.texts_of(crate, has_sockets)
+                    self.assertTrue([*files])
 
     def test_a_rule_that_no_longer_matches_stops_the_build(self) -> None:
         with self.assertRaisesRegex(

@@ -257,7 +257,7 @@ class Releases(Repositories):
             COLUMNS="200",
             UMASK="077",
         )
-        self.assertEqual(len(first), 3)
+        self.assertEqual(len(first), 4)
         self.assertEqual(first, two)
 
     @needs("dpkg-deb", "dpkg")

@@ -22,7 +22,8 @@ WHOLE = ("|", "![", "    ")
 
 
 def files() -> List[pathlib.Path]:
-    """The files of code and prose, but for what tools put into folders `out`."""
+    """The files of code and prose, but for what tools put into folders `out`, and
+    libraries of others."""
     results = [
         *TOP.glob("*.md"),
         *(
@@ -35,7 +36,8 @@ def files() -> List[pathlib.Path]:
     return [
         file
         for file in results
-        if file.suffix in CODE | {".md"} and "out" not in file.relative_to(TOP).parts
+        if file.suffix in CODE | {".md"}
+        and not {"out", "vendor"} & {*file.relative_to(TOP).parts}
     ]
 
 

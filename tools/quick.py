@@ -1,7 +1,7 @@
 """The quick gate, `tools/gate --quick`: what needs no proof, in some minutes.
 
-It compiles the program and the player of modules without a proof, as `./arena` does,
-and beside that runs the tests of the libraries and of the Python programs. Then it
+It compiles the program and the player of modules by the toolchain without a proof, with
+checks at run time, and beside that runs the tests of the libraries and of the Python programs. Then it
 plays rows, cases and the quick tests of the lab on that program.
 """
 import concurrent.futures

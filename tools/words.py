@@ -48,8 +48,8 @@ COMMENT_LINE = {
     ".antt": r"\s*-- ?(.*)",
     ".c": r"(?:\*\*|/\*) ?(.*)",
 }
-# generated files, and what tools write
-SKIPPED_FOLDERS = {"migrations", "out"}
+# generated files, what tools write, and libraries of others
+SKIPPED_FOLDERS = {"migrations", "out", "vendor"}
 
 
 class Sentence(NamedTuple):

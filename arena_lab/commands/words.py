@@ -289,7 +289,7 @@ def add_program(parser: argparse.ArgumentParser) -> None:
         "--program",
         metavar="PATH",
         help="the program; by default the proved one if tools/build has "
-        "built it, else one without a proof, which is compiled in a minute or two and says so",
+        "built it, else one without a proof, which is compiled first, by rustc in about a minute, and says so",
     )
 
 

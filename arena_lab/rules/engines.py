@@ -82,7 +82,13 @@ def program_at(path: Optional[str], modules: Iterable[str] = ()) -> str:
 
 BY_MODEL = "the Python model, of which nothing is proved"
 # all names of what plays
-NAMES = (BY_MODEL, built.PROGRAM, built.UNPROVED_NAME, built.UNKNOWN)
+NAMES = (
+    BY_MODEL,
+    built.PROGRAM,
+    built.UNPROVED_NAME,
+    built.PORT_NAME,
+    built.UNKNOWN,
+)
 
 
 def name_of(program: Optional[str]) -> str:

@@ -1,10 +1,13 @@
-"""Plays the rows of tests/program on the program that rustc compiled, natively or as a
-WebAssembly module under node: they must give the same bytes as the proved program.
+"""Plays the rows of tests/program on the program that rustc compiled: they must give the
+same bytes as the proved program.
 
-    /usr/bin/python3 -m tests.port.rows [--native PROGRAM] [--only TEXT]
+    /usr/bin/python3 -m tests.port.rows [--only TEXT]
+    /usr/bin/python3 -m tests.port.rows --native
 
-Rows that run a command which the port lacks are left out; their number is told. The last
-line reads `N passed, M failed`, and the exit status is 1 if one failed.
+It is the WebAssembly module, under node: rows that run a command which a page lacks are
+left out, and their number is told. With --native it is the program of a machine, and
+that of the player of modules: the cases of tests/program are played too. The last line
+reads `N passed, M failed`, and the exit status is 1 if one failed.
 """
 import argparse
 import concurrent.futures
@@ -14,13 +17,15 @@ import sys
 import tempfile
 from typing import List, Tuple
 
-from tests.runners.program_tests import ROWS, Test, found_by, tests_of
+from arena_lab.support.built import PLAYER
+from tests.program import player_cases
+from tests.runners.program_tests import ROWS, Test, cases, found_by, tests_of, try_all
 from tests.support.counts import report_counts
 from tests.support.program_rows import Row
-from tools.port import module
+from tools.port import module, native
 
 HERE = pathlib.Path(__file__).resolve().parent
-# commands for which the port has no sockets and no locks of files
+# commands for which a page has no sockets and no locks of files
 LACKS = ("serve", "recover")
 
 
@@ -31,7 +36,7 @@ def is_lacking(row: Row) -> bool:
 
 
 def is_lacking_command(words: List[str], status: int) -> bool:
-    """Whether the port refuses words that the program carries out. Words that the command
+    """Whether a page refuses words that the program carries out. Words that the command
     line refuses, by status 2, and help are the same."""
     is_help = "--help" in words or "-h" in words
     if is_help or status == 2 or not words or words[0] not in LACKS:
@@ -40,7 +45,7 @@ def is_lacking_command(words: List[str], status: int) -> bool:
 
 
 def rows(only: str = "") -> Tuple[List[Test], int]:
-    """The rows that the port plays, and how many it leaves out."""
+    """The rows that a page plays, and how many it leaves out."""
     every = [test for test in tests_of(ROWS) if only in test.location]
     tests = [test for test in every if not is_lacking(test.trial.args[0])]
     return tests, len(every) - len(tests)
@@ -66,13 +71,21 @@ def under_node(wasm: pathlib.Path, folder: pathlib.Path) -> str:
     return str(script)
 
 
+def play_native() -> int:
+    """Plays rows and cases on the programs of a machine, and returns how many fail."""
+    player_cases.PLAYER = native.compiled_program(PLAYER)
+    return try_all(str(native.compiled_program()), [*tests_of(ROWS), *cases()])
+
+
 def main() -> int:
     parser = argparse.ArgumentParser(
         "python3 -m tests.port.rows",
         description=__doc__,
         formatter_class=argparse.RawDescriptionHelpFormatter,
     )
-    parser.add_argument("--native", metavar="PROGRAM", default="")
+    parser.add_argument(
+        "--native", action="store_true", help="the program of a machine"
+    )
     parser.add_argument("--only", metavar="TEXT", default="", help="of these files")
     parser.add_argument(
         "--again",
@@ -80,16 +93,18 @@ def main() -> int:
         help="compile the module once more, elsewhere: it must have the same bytes",
     )
     args = parser.parse_args()
+    if args.native:
+        return 1 if play_native() else 0
     tests, omissions = rows(args.only)
     with tempfile.TemporaryDirectory(prefix="rows-") as name:
-        program = args.native or under_node(module.module(), pathlib.Path(name))
+        program = under_node(module.module(), pathlib.Path(name))
         lines = failures(program, tests)
         if args.again:
             again = module.module(pathlib.Path(name) / "again")
             if again.read_bytes() != module.module().read_bytes():
                 lines.append("FAILED two compilations of the module have other bytes")
     print(*lines, sep="\n", end="\n" * len(lines))
-    print(f"{omissions} rows run commands that the port lacks")
+    print(f"{omissions} rows run commands that a page lacks")
     return 1 if report_counts(len(tests) - len(lines), len(lines)) else 0
 
 

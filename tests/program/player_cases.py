@@ -12,6 +12,7 @@ from tests.program.module_cases import AGAIN, BOARD, CALL, DROP, END, LOOP, runn
 from tests.program.program_cases import TOP, case
 from tests.support.counts import require, wants
 from tests.support.program_rows import DONE, Stage, difference, expect
+from tests.support.servers import without_warning
 from tests.support.wasm_encoding import I32, constant
 
 PLAYER = TOP / "crates" / "bhs_player" / "out" / "bhs_player"
@@ -360,7 +361,7 @@ def play_again(stage: Stage) -> None:
                 with connection, connection.makefile("rb") as reader:
                     require(reader.readline() == ENTER.encode() + b"\n", answer)
                     connection.sendall(f'{{"no":"{answer}"}}\n'.encode())
-            errors = child.communicate(timeout=60)[1].decode()
+            errors = without_warning(child.communicate(timeout=60)[1]).decode()
     first_line = (
         f"bhs_player: full: {REJECTIONS['full']}; it tries again, up to 60 times\n"
     )

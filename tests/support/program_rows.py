@@ -57,7 +57,7 @@ from typing import (
     Union,
 )
 
-from arena_lab.support.built import UNPROVED_LINE, warning_of
+from arena_lab.support.built import PORT_LINE, UNPROVED_LINE, warning_of
 from tests.support.counts import FailedCheckError, require
 from tests.support.servers import Run, without_notes, without_warning
 
@@ -134,6 +134,8 @@ class Stage:
     def memory_limit(self, size: int) -> List[str]:
         """Returns the words before a command by which it may map so many bytes."""
         self.skip_with_sanitizer("maps more memory by itself")
+        if warning_of(pathlib.Path(self.program)) == PORT_LINE:
+            raise unittest.SkipTest("a program by rustc aborts without memory")
         return [sys.executable, "-c", CRAMPED, str(size)]
 
     def skip_with_sanitizer(self, reason: str) -> None:

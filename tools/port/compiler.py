@@ -10,9 +10,9 @@ import re
 import shutil
 import subprocess
 import threading
-from typing import Callable, Dict, List, NamedTuple, Optional, Sequence, Tuple
+from typing import Callable, Dict, List, NamedTuple, Sequence, Tuple
 
-from arena_lab.support.built import ProgramError
+from arena_lab.support.built import ProgramError, has_port_libraries, rustc_path
 from tools.port import crates, sources
 
 # language features that a version of rustc lacks unless they are asked for, and the first that has them
@@ -20,6 +20,7 @@ FEATURES: Tuple[Tuple[str, Tuple[int, int]], ...] = (
     ("let_else", (1, 65)),
     ("generic_associated_types", (1, 65)),
     ("half_open_range_patterns", (1, 66)),
+    ("ip", (1, 75)),
     ("exclusive_range_pattern", (1, 80)),
     ("io_error_more", (1, 83)),
 )
@@ -43,29 +44,26 @@ HOT = {
 }
 
 
-def level_of(name: str) -> str:
-    """How far rustc optimises a crate: level 3 for all would take half as long again, and win nothing."""
-    return f"-Copt-level={3 if name in HOT else 1}"
-
-
 class CompilationError(ProgramError):
     """Compiling a crate failed, or rustc is missing; the text gives the reason."""
 
 
 class Target(NamedTuple):
-    """A program to compile: its root file, name and kind, and rustc's flags."""
+    """A program to compile: its root file, name and kind, rustc's flags, and whether it
+    has sockets."""
 
     root: pathlib.Path
     name: str
     kind: str
     flags: Tuple[str, ...]
+    has_sockets: bool = True
 
-
-def rustc_path() -> Optional[str]:
-    """Returns the path of rustc: $RUSTC, Debian's, or the first in PATH; None if rustc is missing."""
-    if "RUSTC" in os.environ:
-        return shutil.which(os.environ["RUSTC"])
-    return shutil.which("/usr/bin/rustc") or shutil.which("rustc")
+    def level_of(self, crate: str) -> str:
+        """How far rustc optimises a crate: level 3 for all would take half as long again,
+        and win nothing. The command line is read once, but counts in a page's size."""
+        if crate in HOT:
+            return "-Copt-level=3"
+        return f"-Copt-level={0 if crate == 'clap' and self.has_sockets else 1}"
 
 
 def version_of(rustc: str) -> Tuple[int, int]:
@@ -91,13 +89,18 @@ class Compilation:
         self.target = target
         self.out = out
         self.names = list(
-            dict.fromkeys(name for top in tops for name in [*crates.below(top), top])
+            dict.fromkeys(name for top in tops for name in [*self.below(top), top])
         )
         self.flags = [*feature_flags(version_of(rustc)), *target.flags]
         self.has_metadata: Dict[str, threading.Event] = {
             name: threading.Event() for name in self.names
         }
         self.has_failed = threading.Event()
+        self.children: List["subprocess.Popen[str]"] = []
+
+    def below(self, name: str) -> List[str]:
+        """All that a crate stands on, lowest first."""
+        return crates.below(name, self.target.has_sockets)
 
     def command(
         self, name: str, root: pathlib.Path, kind: str, needs: Sequence[str]
@@ -105,6 +108,9 @@ class Compilation:
         """The words that compile a crate over libraries that are there."""
         suffix = "rlib" if kind != "rlib" else "rmeta"
         externs = [f"{crate}={self.out}/lib{crate}.{suffix}" for crate in needs]
+        if kind == "bin":
+            # the crate whose `main` the root file calls
+            externs.append(f"program={self.out}/lib{needs[-1]}.{suffix}")
         return [
             self.rustc,
             "--edition=2021",
@@ -120,7 +126,7 @@ class Compilation:
             f"--remap-path-prefix={self.out}=.",
             f"--remap-path-prefix={crates.TOP}=.",
             *self.flags,
-            level_of(name),
+            self.target.level_of(name),
             *(word for extern in externs for word in ("--extern", extern)),
             str(root),
         ]
@@ -134,6 +140,7 @@ class Compilation:
             text=True,
             env={**os.environ, "RUSTC_BOOTSTRAP": "1", "SOURCE_DATE_EPOCH": "0"},
         ) as child:
+            self.children.append(child)
             assert child.stderr is not None
             for line in child.stderr:
                 event = json.loads(line) if line.startswith("{") else {"rendered": line}
@@ -146,29 +153,61 @@ class Compilation:
 
     def library(self, name: str) -> None:
         """Compiles a crate once those below it have their metadata."""
-        root = sources.root_of(name, self.out / "src")
-        for below in crates.below(name):
-            self.has_metadata[below].wait()
+        root = sources.root_of(name, self.out / "src", self.target.has_sockets)
+        below = self.below(name)
+        for crate in below:
+            self.has_metadata[crate].wait()
         try:
             if not self.has_failed.is_set():
-                self.compile(name, self.command(name, root, "rlib", crates.below(name)))
+                self.compile(name, self.command(name, root, "rlib", below))
         finally:
             self.has_metadata[name].set()
 
     def run(self, workers: int, say: Callable[[int, int], None]) -> None:
-        """Compiles everything, and tells after each crate how many are compiled."""
-        with concurrent.futures.ThreadPoolExecutor(workers) as pool:
-            running = [pool.submit(self.library, name) for name in self.names]
-            for number, future in enumerate(
-                concurrent.futures.as_completed(running), 1
-            ):
-                future.result()
-                say(number, len(running) + 1)
+        """Compiles everything, and tells after each crate how many are compiled. Ends
+        what is compiled meanwhile if it fails or is interrupted."""
         target = self.target
-        self.compile(
-            target.name, self.command(target.name, target.root, target.kind, self.names)
+        count = len(self.names) + 1
+        say(0, count)
+        try:
+            with concurrent.futures.ThreadPoolExecutor(workers) as pool:
+                running = [pool.submit(self.library, name) for name in self.names]
+                try:
+                    futures = concurrent.futures.as_completed(running)
+                    for number, future in enumerate(futures, 1):
+                        future.result()
+                        say(number, count)
+                except BaseException:
+                    self.stop()
+                    raise
+            words = self.command(target.name, target.root, target.kind, self.names)
+            self.compile(target.name, words)
+            say(count, count)
+        except BaseException:
+            self.stop()
+            raise
+
+    def stop(self) -> None:
+        """Begins no other crate, and kills what is compiled."""
+        self.has_failed.set()
+        for child in self.children:
+            child.kill()
+
+
+def missing() -> str:
+    """What the port lacks, and what to install or take; empty if nothing is missing."""
+    rustc = rustc_path()
+    if rustc is None:
+        return "there is no rustc: install it by `apt install rustc`"
+    if version_of(rustc) < OLDEST:
+        oldest = f"{OLDEST[0]}.{OLDEST[1]}"
+        return f"{rustc} is too old: version {oldest} or later is needed, which Debian has since its release 12"
+    if not has_port_libraries():
+        return (
+            "rustc needs the libraries of Rattle's toolchain, which a clone has not: take the source archive of a "
+            "release, arena-VERSION-source.tar.gz"
         )
-        say(len(running) + 1, len(running) + 1)
+    return ""
 
 
 def compile_target(
@@ -179,12 +218,8 @@ def compile_target(
 ) -> None:
     """Compiles a program over these crates into a folder, which is emptied first."""
     rustc = rustc_path()
-    if rustc is None:
-        raise CompilationError("there is no rustc: install Debian's package rustc")
-    if version_of(rustc) < OLDEST:
-        raise CompilationError(
-            f"{rustc} is too old: version {OLDEST[0]}.{OLDEST[1]} or later is needed"
-        )
+    if rustc is None or missing():
+        raise CompilationError(missing())
     shutil.rmtree(out, ignore_errors=True)
     out.mkdir(parents=True)
     Compilation(rustc, target, tops, out).run(os.cpu_count() or 1, say)

@@ -1,13 +1,17 @@
 """The crates and libraries of the port, lowest first, and what each stands on."""
 import functools
-import os
 import pathlib
 from typing import Dict, List
 
+from arena_lab.support.built import TOOLCHAIN
+
 TOP = pathlib.Path(__file__).resolve().parents[2]
 HERE = pathlib.Path(__file__).resolve().parent
+# libraries of the toolchain as plain Rust, which the source archive of a release has and no clone
+# (tools/port/libraries.py)
+VENDOR = HERE / "vendor"
 STD = "rattle"
-# libraries of the toolchain that the program stands on; a few lines of tools/port/libraries stand for the last three
+# libraries of the toolchain that the program stands on; a few lines of tools/port/libraries stand for the last four
 LIBRARIES: Dict[str, List[str]] = {
     "itoa": [],
     "dec2flt": [],
@@ -26,11 +30,15 @@ LIBRARIES: Dict[str, List[str]] = {
     "memchr": [],
     "serde_json": ["json", "fast_float"],
     "indexmap": [],
+    "libc": [],
 }
-OWN = ("memchr", "serde_json", "indexmap")
+OWN = ("memchr", "serde_json", "indexmap", "libc")
+# what does the words of the command line; the program is a few lines above it
 PROGRAM = "bhs_cli_run"
-# of what these have, the port needs nothing: they serve contests, or say what is proved
-WITHOUT = {"bhs_shared_match", "bhs_server", "bhs_contest", "bhs_cli_serve"}
+# these say what is proved, and do nothing
+THEOREMS = {"bhs_theorems_isolation"}
+# these serve contests, which a page cannot
+SERVING = {"bhs_shared_match", "bhs_server", "bhs_contest", "bhs_cli_serve"}
 
 
 def crate_rows() -> Dict[str, List[str]]:
@@ -41,24 +49,25 @@ def crate_rows() -> Dict[str, List[str]]:
 
 
 @functools.lru_cache(maxsize=None)
-def dependencies() -> Dict[str, List[str]]:
+def dependencies(has_sockets: bool = True) -> Dict[str, List[str]]:
     """What each crate and library of the port stands on directly. The std is below all."""
+    absent = THEOREMS if has_sockets else THEOREMS | SERVING
     every = {**LIBRARIES, **crate_rows()}
     return {
         name: [
             STD,
-            *(crate for crate in below if crate in every and crate not in WITHOUT),
+            *(crate for crate in below if crate in every and crate not in absent),
         ]
         for name, below in every.items()
-        if name not in WITHOUT
+        if name not in absent
     }
 
 
-def below(name: str) -> List[str]:
+def below(name: str, has_sockets: bool = True) -> List[str]:
     """All that a crate stands on, lowest first."""
     names: Dict[str, None] = {}
-    for crate in dependencies().get(name, []):
-        names.update(dict.fromkeys([*below(crate), crate]))
+    for crate in dependencies(has_sockets).get(name, []):
+        names.update(dict.fromkeys([*below(crate, has_sockets), crate]))
     return list(names)
 
 
@@ -67,7 +76,18 @@ def is_library(name: str) -> bool:
     return name in LIBRARIES and name not in OWN
 
 
+def is_vendored() -> bool:
+    """Whether rustc compiles the libraries of a source archive: those of the toolchain come first."""
+    return VENDOR.is_dir() and not kit_folder("toml").is_dir()
+
+
+def kit_folder(name: str) -> pathlib.Path:
+    """Returns the folder of a library in the installed toolchain."""
+    kit = TOOLCHAIN / "rattle"
+    return kit / "core" if name == "dec2flt" else kit / name
+
+
 def kit_source(name: str) -> pathlib.Path:
     """Returns the folder of a library's source in the installed toolchain."""
-    kit = pathlib.Path(os.environ.get("RATTLE", "/opt/rattle")) / "rattle"
-    return kit / "core" / "src" / name if name == "dec2flt" else kit / name / "src"
+    source = kit_folder(name) / "src"
+    return source / name if name == "dec2flt" else source

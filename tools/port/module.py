@@ -5,9 +5,9 @@ plays (tools/play).
 
 It is the same source text as that of the proved program, without contracts, and with the
 rules of tools/port/rules.py. Debian's rustc with libstd-rust-dev-wasm32 and lld compiles
-it over the libraries of the installed toolchain, and binaryen's wasm-opt makes it smaller,
-and lets a read wait for the page. The module is out/port/arena.wasm, and is kept as long
-as its sources and the compilers stay the same.
+it over the libraries of the toolchain, and binaryen's wasm-opt makes it smaller, and lets
+a read wait for the page. The module is out/port/arena.wasm, and is kept as long as its
+sources and the compilers stay the same.
 """
 import hashlib
 import pathlib
@@ -18,12 +18,12 @@ import tempfile
 import time
 from typing import List, Optional
 
+from arena_lab.support.built import has_port_libraries
 from tools.port import crates
 from tools.port.compiler import (
     CompilationError,
     Target,
     compile_target,
-    level_of,
     rustc_path,
 )
 from tools.port.native import OUT
@@ -36,6 +36,7 @@ TARGET = Target(
     "module",
     "cdylib",
     (f"--target={WASM}", "-Coverflow-checks=on", "-Cpanic=abort", "-Cstrip=symbols"),
+    has_sockets=False,
 )
 # names and notes of the compilers go, and a read may leave the program and come back; no
 # call by a pointer stands on the way to a read
@@ -52,7 +53,7 @@ PACKAGES = "rustc libstd-rust-dev-wasm32 lld binaryen"
 
 def missing() -> str:
     """What must be installed before the module can be compiled; empty if nothing is missing."""
-    if not crates.kit_source("toml").is_dir():
+    if not has_port_libraries():
         return "the Rattle toolchain"
     rustc = rustc_path()
     if rustc is None or shutil.which("wasm-opt") is None:
@@ -69,9 +70,9 @@ def key() -> str:
         for words in ([str(rustc_path()), "--version"], ["wasm-opt", "--version"])
     ]
     digest = hashlib.sha256("\n".join([*versions, *TARGET.flags, *OPTIONS]).encode())
-    for name in [*crates.below(crates.PROGRAM), crates.PROGRAM]:
-        digest.update(f"\n{name} {level_of(name)}\n".encode())
-        for file, text in texts_of(name):
+    for name in [*crates.below(crates.PROGRAM, has_sockets=False), crates.PROGRAM]:
+        digest.update(f"\n{name} {TARGET.level_of(name)}\n".encode())
+        for file, text in texts_of(name, has_sockets=False):
             digest.update(f"\n{file}\n{text}".encode())
     for path in sorted(TARGET.root.parent.glob("*.rs")):
         digest.update(path.read_bytes())

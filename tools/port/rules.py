@@ -18,7 +18,8 @@ class Rule(NamedTuple):
 POINTER = "a number that a machine of 32 bits cannot index with is past every end, as it is on 64 bits"
 TYPED = "reads into types by the kit's serde, which the program does not call"
 TREE = "the tree of values, for which serde_json has a few lines here"
-SOCKETS = "the port has no sockets, no locks of files and no clock"
+SOCKETS = "a page has no sockets, no command line, no locks of files and no clock"
+CALLED = "the root file is tools/port/hosts/program.rs, which calls it"
 
 # source files that the program does not need, with the reason
 LEFT_OUT: Dict[str, Tuple[str, Tuple[str, ...]]] = {
@@ -53,11 +54,6 @@ LEFT_OUT: Dict[str, Tuple[str, Tuple[str, ...]]] = {
             "write/tree.rt",
         ),
     ),
-    "bhs_standings": (
-        "what a contest on sockets writes down",
-        ("notes.rt", "showcase.rt"),
-    ),
-    "bhs_cli_run": ("Rust's std gives the words of the command line", ("words.rt",)),
 }
 RULES: Dict[str, Tuple[Rule, ...]] = {
     "dec2flt": (
@@ -150,13 +146,14 @@ RULES: Dict[str, Tuple[Rule, ...]] = {
             POINTER,
         ),
     ),
-    "bhs_standings": (
-        Rule("lib.rt", r"mod (notes|showcase);\n", "", SOCKETS),
-        Rule("lib.rt", r"pub use (notes|showcase)::[^;]*;\n", "", SOCKETS),
-    ),
+    "bhs_main": (Rule("main.rt", r"\nfn main\(", "\npub fn main(", CALLED),),
+    "bhs_player": (Rule("main.rt", r"\nfn main\(", "\npub fn main(", CALLED),),
+}
+# further rules for the page
+WITHOUT_SOCKETS: Dict[str, Tuple[Rule, ...]] = {
     "bhs_cli_run": (
-        Rule("lib.rt", r"mod words;\n", "", LEFT_OUT["bhs_cli_run"][0]),
-        Rule("lib.rt", r"pub use words::words_of;\n", "", LEFT_OUT["bhs_cli_run"][0]),
+        Rule("lib.rt", r"mod words;\n", "", SOCKETS),
+        Rule("lib.rt", r"pub use words::words_of;\n", "", SOCKETS),
         Rule(
             "orders.rt",
             r"use bhs_cli_serve::\{[^}]*\};\n",
@@ -194,9 +191,8 @@ RULES: Dict[str, Tuple[Rule, ...]] = {
         Rule(
             "orders.rt",
             r"\Z",
-            '\nconst NO_SOCKETS: &str = "arena: this build, by rustc and without a proof, has no sockets: \\\n'
-            "    `serve` and `recover TOURNAMENT PREFIX` need the proved program, which tools/build makes where \\\n"
-            '    the toolchain is; `./arena-lab serve` serves by the Python model instead";\n',
+            '\nconst NO_SOCKETS: &str = "arena: a page has no sockets: `serve` and `recover \\\n'
+            '    TOURNAMENT PREFIX` need the program on a machine of your own";\n',
             "says which commands it lacks, and what to do",
         ),
     ),

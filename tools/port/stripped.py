@@ -8,7 +8,7 @@ of range stop it.
 import re
 from typing import Iterator, List, NamedTuple
 
-PRELUDE = "use rattle::prelude::*;\nuse rattle::{format, vec};\n"
+PRELUDE = "use rattle::prelude::*;\nuse rattle::{eprint, eprintln, format, vec};\n"
 # their paths lead to tools/port/std
 REPLACED = ("thiserror", "std", "once_cell")
 TOKEN = re.compile(
@@ -109,6 +109,8 @@ def piece(tokens: List[str], at: int) -> Piece:
     """What stands for the tokens that begin here."""
     token = tokens[at]
     behind = tokens[solid(tokens, at + 1) :][:2]
+    if token == "pub" and behind[:1] == ["ghost"]:
+        return Piece("", past_ghost(tokens, solid(tokens, at + 1)))
     if token == "ghost":
         return Piece("", past_ghost(tokens, at))
     if token in ("requires", "ensures"):

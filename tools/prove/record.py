@@ -46,12 +46,9 @@ def sources(top: pathlib.Path, name: str, parts: Iterable[str] = PARTS) -> str:
     return f"{ALL_OF}{' '.join(os.path.relpath(folder, top) for folder in folders)}\n{files}"
 
 
-def head(is_proved: bool) -> str:
-    """The lines that say which arena a record is of."""
-    return "".join(
-        f"# {line}\n"
-        for line in version.lines(is_proved, version.installed_version()).splitlines()
-    )
+def lines_of(text: str) -> str:
+    """The lines that begin a record, of a text that says which arena it is of."""
+    return "".join(f"# {line}\n" for line in text.splitlines())
 
 
 def write(record: pathlib.Path, text: str) -> None:
@@ -92,7 +89,8 @@ def record_program(top: pathlib.Path, name: str, proof_lines: str) -> None:
     these lines."""
     record = record_of(top / "crates", name)
     built = digests(top, [record.with_name(name), *(top / path for path in LISTS)])
-    write(record, head(True) + built + proof_lines)
+    head = lines_of(version.lines(True, version.installed_version()))
+    write(record, head + built + proof_lines)
 
 
 def programs_in(libraries: Libraries) -> List[str]:

@@ -19,7 +19,7 @@ sys.path.insert(0, str(TOP))
 
 from arena_lab.support import built  # noqa: E402
 
-KIT = pathlib.Path("/opt/rattle")
+KIT = built.TOOLCHAIN
 # what a release says of itself
 BUILD = "BUILD"
 UNKNOWN = "not known"
@@ -59,17 +59,23 @@ def commit() -> str:
     return f"commit {head}, {'tree changed' if changes else 'tree clean'}"
 
 
-def installed_version() -> str:
+def installed_toolchain() -> str:
     """The toolchain that is installed."""
     kit = KIT / "KIT-ID"
-    return f"toolchain {kit.read_text().strip() if kit.exists() else UNKNOWN}"
+    return kit.read_text().strip() if kit.exists() else UNKNOWN
 
 
-def recorded_version() -> str:
-    """The toolchain that built the proved program, as its record says."""
-    record = built.ARENA.proved_path.with_name(built.RECORD)
+def installed_version() -> str:
+    """A line for the toolchain that is installed."""
+    return f"toolchain {installed_toolchain()}"
+
+
+def recorded_version(record: Optional[pathlib.Path] = None) -> str:
+    """A line for the toolchain that built a program, by default the proved one, as its
+    record says."""
+    path = record or built.ARENA.proved_path.with_name(built.RECORD)
     match = re.search(
-        r"^# (toolchain .*)$", record.read_text() if record.exists() else "", re.M
+        r"^# (toolchain .*)$", path.read_text() if path.exists() else "", re.M
     )
     return match[1] if match else f"toolchain {UNKNOWN}"
 
@@ -85,7 +91,9 @@ def text() -> str:
         return (TOP / BUILD).read_text()
     if built.ARENA.is_proved():
         return lines(True, recorded_version())
-    return lines(False, installed_version()) + f"{HOW_TO_PROVE}\n"
+    stamp = built.ARENA.current_stamp()
+    toolchain = recorded_version(stamp) if stamp else installed_version()
+    return lines(False, toolchain) + f"{HOW_TO_PROVE}\n"
 
 
 def main() -> int:

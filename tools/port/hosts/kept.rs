@@ -109,6 +109,8 @@ impl Files for Kept {
     fn metadata_of(&self, name: &str, _: bool) -> io::Result<Metadata> {
         Ok(Metadata {
             kind: self.kind_of(name)?,
+            inode: 0,
+            device: 0,
         })
     }
     fn rename_file(&self, from: &str, to: &str) -> io::Result<()> {

@@ -1,7 +1,7 @@
-//! What is called of the library `serde_json`: JSON is read to a value, and looked at. Its own sources stand on more of
-//! the library `serde`; this follows its `de.rt`, `index.rt` and `number.rt`.
+//! What is called of the library `serde_json`: JSON is read to a value, looked at, and written. Its own sources stand
+//! on more of the library `serde`; this follows its `de.rt`, `index.rt`, `number.rt` and `ser.rt`.
 use fast_float::Numeral;
-use json::{Reader, Scratch, Token};
+use json::{Reader, Scratch, Token, Writer};
 use rattle::alloc::{AllocError, AllocFailed, Global};
 use rattle::collections::{BTreeMap, String, Vec};
 
@@ -155,6 +155,59 @@ impl Value {
     }
     pub fn is_null(&self) -> bool {
         matches!(self, Value::Null)
+    }
+    pub fn to_string(&self, alloc: Global) -> Result<String, AllocError> {
+        let mut out = Writer::new(Vec::new(alloc));
+        write(self, &mut out)?;
+        Ok(String::from_utf8(out.into_inner()).unwrap())
+    }
+}
+
+impl From<&str> for Value {
+    fn from(text: &str) -> Value {
+        Value::String(String::from_str(Global, text).unwrap())
+    }
+}
+impl From<u16> for Value {
+    fn from(number: u16) -> Value {
+        Value::Number(Number::PosInt(number.into()))
+    }
+}
+
+/// An object of members whose names are literals.
+#[macro_export]
+macro_rules! json {
+    (in $alloc:expr; { $($name:literal: $value:expr),* }) => {{
+        let mut members = $crate::Map::new($alloc);
+        $(
+            let name = rattle::collections::String::from_str($alloc, $name).unwrap();
+            members.insert(name, $crate::Value::from($value)).unwrap();
+        )*
+        Ok::<_, rattle::alloc::AllocError>($crate::Value::Object(members))
+    }};
+}
+
+fn write(value: &Value, out: &mut Writer) -> Result<(), AllocError> {
+    match value {
+        Value::Null => out.null(),
+        Value::Bool(is) => out.boolean(*is),
+        Value::Number(Number::PosInt(number)) => out.u64(*number),
+        Value::Number(Number::NegInt(number)) => out.i64(*number),
+        Value::Number(Number::Float(number)) => out.float(*number),
+        Value::String(text) => out.string(text.as_str()),
+        Value::Array(items) => {
+            out.begin_array()?;
+            items.iter().try_for_each(|item| write(item, out))?;
+            out.end_array()
+        }
+        Value::Object(members) => {
+            out.begin_object()?;
+            for (name, member) in members.iter() {
+                out.key(name.as_str())?;
+                write(member, out)?;
+            }
+            out.end_object()
+        }
     }
 }
 

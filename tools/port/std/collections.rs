@@ -238,6 +238,9 @@ impl<A> String<A> {
     pub fn from_str(_: A, text: &str) -> Result<Self, AllocError> {
         Ok(String(text.to_string(), PhantomData))
     }
+    pub fn from_utf8_lossy(_: A, bytes: &[u8]) -> Result<String<A>, AllocError> {
+        Ok(String(std::string::String::from_utf8_lossy(bytes).into_owned(), PhantomData))
+    }
     pub fn from_utf8(bytes: Vec<u8, A>) -> Result<Self, std::string::FromUtf8Error> {
         Ok(String(std::string::String::from_utf8(bytes.0)?, PhantomData))
     }

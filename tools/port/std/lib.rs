@@ -5,8 +5,16 @@ pub mod borrow;
 pub mod collections;
 pub mod convert;
 pub mod host;
+#[cfg(unix)]
+pub mod machine;
 pub mod prelude;
+pub mod race;
 pub mod simd;
+#[cfg(unix)]
+#[path = "sockets.rs"]
+pub mod net;
+pub mod sync;
+pub mod time;
 
 pub use host::{fs, thread};
 /// The trait of errors, of which only the name is used.
@@ -24,13 +32,34 @@ pub mod process {
 
 pub mod rt {
     pub use crate::fs::Files;
+
+    /// The words of the command line.
+    pub trait Env {
+        fn arg(&self, number: usize, room: &mut [u8]) -> Result<usize, crate::env::FillError>;
+    }
+}
+
+pub mod env {
+    use crate::collections::String;
+
+    pub enum FillError {
+        NotPresent,
+        TooLong,
+    }
+    pub fn args<R: crate::rt::Env>(_: &R) -> crate::io::Result<impl Iterator<Item = String>> {
+        Ok(std::env::args().map(|word| String::from_std(crate::alloc::Global, word)))
+    }
 }
 
 pub mod os {
     pub mod unix {
         pub mod fs {
+            pub trait MetadataExt {}
             pub trait OpenOptionsExt {}
         }
+    }
+    pub mod fd {
+        pub trait AsRawFd {}
     }
 }
 
@@ -110,26 +139,6 @@ pub mod words {
     }
 }
 
-pub mod sync {
-    pub use std::sync::atomic;
-    use crate::alloc::{AllocError, Global};
-
-    #[derive(Clone, Debug)]
-    pub struct ArcStr<A>(std::sync::Arc<str>, std::marker::PhantomData<A>);
-    impl<A> ArcStr<A> {
-        pub fn from_str(_: A, text: &str) -> Result<ArcStr<A>, AllocError> {
-            Ok(ArcStr(text.into(), std::marker::PhantomData))
-        }
-        pub fn as_str(&self) -> &str {
-            &self.0
-        }
-    }
-
-    /// A bound that every host meets.
-    pub trait Wait {}
-    impl<T> Wait for T {}
-}
-
 pub mod fmt {
     pub use std::fmt::*;
 
@@ -164,10 +173,71 @@ pub mod fmt {
 }
 
 pub mod io {
-    pub use std::io::{sink, BufWriter, Error, ErrorKind, Read, Result, Write};
+    pub use std::io::{sink, Error, ErrorKind, Read, Result, Write};
+    use crate::alloc::{AllocError, Global};
 
     /// Whoever has `writeln!` write to a generic writer.
     pub trait WriteFmt {}
+
+    /// Whoever has standard streams.
+    pub trait Input {
+        #[cfg(unix)]
+        fn reader(&self) -> crate::machine::Stdin {
+            crate::machine::Stdin
+        }
+    }
+    pub trait Print {}
+    pub trait Eprint {}
+    impl<R: Eprint> Eprint for &R {}
+
+    pub trait IsTerminal {
+        fn is_terminal(&self) -> bool;
+    }
+
+    pub fn eprint<R: Eprint>(_: &R, text: std::fmt::Arguments<'_>) -> Result<()> {
+        std::io::stderr().write_all(text.to_string().as_bytes())
+    }
+
+    #[cfg(unix)]
+    pub fn writer<R: Print>(_: &R) -> crate::machine::Stdout {
+        crate::machine::Stdout
+    }
+
+    pub struct BufReader<R>(std::io::BufReader<R>);
+    impl<R: Read> BufReader<R> {
+        pub fn with_capacity(_: Global, room: usize, reader: R) -> std::result::Result<BufReader<R>, AllocError> {
+            Ok(BufReader(std::io::BufReader::with_capacity(room, reader)))
+        }
+        pub fn buffer(&self) -> &[u8] {
+            self.0.buffer()
+        }
+    }
+    impl<R: Read> Read for BufReader<R> {
+        fn read(&mut self, buffer: &mut [u8]) -> Result<usize> {
+            self.0.read(buffer)
+        }
+    }
+
+    pub struct BufWriter<W: Write>(std::io::BufWriter<W>);
+    impl<W: Write> BufWriter<W> {
+        pub fn with_capacity(_: Global, room: usize, writer: W) -> std::result::Result<BufWriter<W>, AllocError> {
+            Ok(BufWriter(std::io::BufWriter::with_capacity(room, writer)))
+        }
+    }
+    impl<W: Write> Write for BufWriter<W> {
+        fn write(&mut self, bytes: &[u8]) -> Result<usize> {
+            self.0.write(bytes)
+        }
+        fn flush(&mut self) -> Result<()> {
+            self.0.flush()
+        }
+    }
+
+    impl From<AllocError> for Error {
+        fn from(_: AllocError) -> Error {
+            Error::from(ErrorKind::OutOfMemory)
+        }
+    }
 }
 
 #[macro_export]
@@ -185,4 +255,18 @@ macro_rules! format {
     (in $alloc:expr; $($item:tt)*) => {{
         Ok::<_, $crate::alloc::AllocError>($crate::collections::String::from_std($alloc, std::format!($($item)*)))
     }};
+}
+
+#[macro_export]
+macro_rules! eprint {
+    ($rt:expr; $($item:tt)*) => {
+        $crate::io::eprint(&$rt, std::format_args!($($item)*))
+    };
+}
+
+#[macro_export]
+macro_rules! eprintln {
+    ($rt:expr; $($item:tt)*) => {
+        $crate::io::eprint(&$rt, std::format_args!("{}\n", std::format_args!($($item)*)))
+    };
 }

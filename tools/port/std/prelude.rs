@@ -4,7 +4,10 @@ pub use crate::alloc::{AllocError, AllocFailed, Global};
 pub use crate::boxed::Box;
 pub use crate::collections::{String, Vec};
 pub use crate::convert::{AsSlice, AsStr};
-pub use crate::io::WriteFmt;
+pub use crate::io::{Input as _, WriteFmt};
+#[cfg(unix)]
+pub use crate::machine::HostRuntime;
+pub use crate::sync::Wait as _;
 pub use std::fmt::Write as _;
 pub use std::str;
 
