@@ -28,7 +28,6 @@ import sys
 import tempfile
 import threading
 import time
-import urllib.error
 import urllib.request
 import webbrowser
 import zipfile
@@ -44,6 +43,8 @@ PRACTISE = TOP / "examples" / "hall" / "practise.py"
 COURSE = TOP / "examples" / "hall" / "course.toml"
 DEBIANS_PYTHON = "/usr/bin/python3"
 PATIENCE = 120
+# seconds after which a request to the hall is given up
+ANSWER = 20
 ENTERS = ["{host}", "{port}", "{key}"]
 ON_RINGS = [*ENTERS, "{nodes}"]
 WITH_SIDE = [*ENTERS, "{nodes}", "{agent}"]
@@ -123,7 +124,7 @@ class Demo:
             f"{self.address}/api/standings",
             headers={"Authorization": f"Bearer {self.tokens()['amber']}"},
         )
-        with urllib.request.urlopen(request) as response:
+        with urllib.request.urlopen(request, timeout=ANSWER) as response:
             rows = json.load(response)["teams"]
         return "".join(
             f"{'absent' if row['absent'] else row['place']:>6} {row['name']:<16} "
@@ -146,7 +147,7 @@ class Demo:
                 "Content-Type": f"multipart/form-data; boundary={EDGE}",
             },
         )
-        urllib.request.urlopen(request).close()
+        urllib.request.urlopen(request, timeout=ANSWER).close()
 
     def end(self) -> None:
         self._is_over.set()
@@ -157,15 +158,20 @@ class Demo:
 
     def _answers(self) -> bool:
         try:
-            with urllib.request.urlopen(f"{self.address}/login"):
+            with urllib.request.urlopen(f"{self.address}/login", timeout=ANSWER):
                 return True
-        except (urllib.error.URLError, ConnectionError):
+        except OSError:
             return False
 
     def _play(self, team: str, token: str) -> None:
         """Plays a team that hands in its program and then practises repeatedly."""
         if team in PROGRAMS:
-            self.hand_in(team, PROGRAMS[team])
+            try:
+                self.hand_in(team, PROGRAMS[team])
+            except OSError:
+                # a hall that ends takes nothing
+                if not self._is_over.is_set():
+                    raise
         while not self._is_over.is_set():
             for turn in PLAYED[team]:
                 if self._is_over.is_set():
