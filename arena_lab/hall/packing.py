@@ -17,6 +17,12 @@ def on_disk(size: int) -> int:
     return (-(-size // BLOCK) + 1) * BLOCK
 
 
+def most_on_disk(size: int, files: int) -> int:
+    """Returns how many bytes of a disk so many files take at most that have this size
+    together: each has a block that is not full, and an inode."""
+    return size + 2 * BLOCK * files
+
+
 def size_of(folder: pathlib.Path) -> int:
     """The bytes of a disk that all files and folders of a folder take."""
     paths = (path.lstat() for path in folder.rglob("*"))

@@ -12,7 +12,7 @@ from arena_lab.hall.attempts.playing import forget
 from arena_lab.hall.course import Net
 from arena_lab.hall.drafts.models import Draft, Trial
 from arena_lab.hall.handins.models import Grading, HandIn
-from arena_lab.hall.packing import BLOCK
+from arena_lab.hall.packing import most_on_disk
 from arena_lab.hall.steps import step
 from arena_lab.hall.teams.models import Switch, Team, note, today
 
@@ -137,8 +137,7 @@ def space_of(team: Team) -> Dict[str, int]:
         for name, rows in kinds.items()
     }
     files = kinds["hand_ins"].aggregate(all=models.Sum("files"))["all"] or 0
-    # as each file takes a block that is not full, and an inode
-    return {**space, "hand_ins": space["hand_ins"] + 2 * BLOCK * files}
+    return {**space, "hand_ins": most_on_disk(space["hand_ins"], files)}
 
 
 def own_bytes(team: Team) -> int:

@@ -23,6 +23,7 @@ from arena_lab.hall.handins.windows import (
     window_of,
     windows,
 )
+from arena_lab.hall.packing import most_on_disk
 from arena_lab.hall.place import log_line
 from arena_lab.hall.teams.guards import Buckets
 from arena_lab.hall.teams.models import Team, note, today
@@ -42,7 +43,7 @@ def take(team: Team, name: str, file: Any, number: Optional[int] = None) -> Hand
     or refuses it."""
     contest = None if number is None else Contest.objects.filter(pk=number).first()
     window = None if contest is None and number is not None else window_of(contest)
-    check(team, file.size, window)
+    check(team, file.size, 1, window)
     if submissions.wait(team.name, A_MINUTE):
         raise RequestRefusedError(
             429,
@@ -79,7 +80,7 @@ def keep_hand_in(
     all."""
     with transaction.atomic():
         team = Team.objects.select_for_update().get(pk=team.pk)
-        check(team, unpacked_files.size, window)
+        check(team, unpacked_files.size, unpacked_files.files, window)
         hand_in = HandIn.objects.create(
             team=team,
             contest=window and window.contest,
@@ -97,9 +98,9 @@ def keep_hand_in(
     return hand_in
 
 
-def check(team: Team, size: int, window: Optional[Window]) -> None:
-    """Refuses what is more than a team may hand in now. A contest takes any number of
-    hand-ins, the course some a day."""
+def check(team: Team, size: int, files: int, window: Optional[Window]) -> None:
+    """Refuses what is more than a team may hand in now, of so many bytes in so many
+    files. A contest takes any number of hand-ins, the course some a day."""
     if window is None:
         raise RequestRefusedError(404, _("nothing is handed in here"))
     if not window.has_begun():
@@ -130,7 +131,7 @@ def check(team: Team, size: int, window: Optional[Window]) -> None:
             _("%(count)s hand-ins of your team wait to be graded: wait for one")
             % {"count": MAX_WAITING},
         )
-    make_room(team, size)
+    make_room(team, most_on_disk(size, files))
 
 
 def left_today(team: Team) -> int:

@@ -98,6 +98,15 @@ class HandIns(Hall):
         HandIn.objects.filter(team__name="amber").update(size=300 << 20)
         self.assertEqual(self.hand_in(b"x").status_code, 429)
 
+    def test_many_small_files_take_what_they_take_of_the_disk(self) -> None:
+        """A hundred files of a byte take a hundred blocks and inodes, more than 0.5
+        MB; the team that has a MB left hands them in once."""
+        Team.objects.filter(name="amber").update(disk=1)
+        zip_bytes = zip_of({f"file{number}.py": b"x" for number in range(100)})
+        hand_ins = [self.hand_in(zip_bytes) for _ in range(2)]
+        self.assertEqual([hand.status_code for hand in hand_ins], [201, 429])
+        self.assertIn("matches and hand-ins 0.8", hand_ins[1].json()["error"])
+
     def test_a_zip_that_is_refused_leaves_nothing(self) -> None:
         hand = self.hand_in(zip_of({"../../evil.py": b"x"}))
         self.assertEqual((hand.status_code, HandIn.objects.count()), (400, 0))

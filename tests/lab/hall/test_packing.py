@@ -14,3 +14,10 @@ class Packing(InTemporary):
             (folder / "f").write_bytes(b"x")
         (self.folder / "link").symlink_to("/etc/passwd")
         self.assertEqual(packing.size_of(self.folder), (20 * 3 + 1) * 4_096)
+
+    def test_no_files_of_a_size_take_more_than_the_most(self) -> None:
+        for sizes in ([0], [1] * 100, [4_096, 4_097], [8_191, 0, 1]):
+            exact = sum(map(packing.on_disk, sizes))
+            bound = packing.most_on_disk(sum(sizes), len(sizes))
+            self.assertLessEqual(exact, bound)
+            self.assertLess(bound - exact, packing.BLOCK * len(sizes) + 1)
