@@ -191,6 +191,27 @@ class Writing(Walk):
         if "# last" not in draft["files"]["agent.py"]:
             raise SystemExit("what was written without a network is lost at log-out")
 
+    def log_in_over(self) -> None:
+        """Another team logs in at the same browser without a log-out before: it finds
+        nothing there, nothing is lost, and what still comes into the browser goes."""
+        self.begin("amber")
+        self.offline(True)
+        self.change("import os", "import os  # over")
+        self.until("not saved yet")
+        self.offline(False)
+        self.open("/login")
+        self.find("input[name=token]").send_keys(self._tokens["birch"])
+        self.find("form.login button").click()
+        self.until("Your matches")
+        self.waits("return Object.keys(localStorage).length", 0)
+        token = self._hall.tokens()["amber"]
+        draft = self._hall.ask("GET", "/api/drafts/python", token).json()
+        if "# over" not in draft["files"]["agent.py"]:
+            raise SystemExit("what amber wrote is lost as birch logs in")
+        self._page.execute_script("localStorage.setItem('draft amber c', 'secret')")
+        self.open("/write")
+        self.waits("return Object.keys(localStorage).length", 0)
+
     def looks(self) -> None:
         """Languages, a dark page, and the way out of the editor by keys."""
         for language, word in (("de", "Starten"), ("fr", "Lancer"), ("en", "Run")):
@@ -289,6 +310,7 @@ def main(program: str, folder: pathlib.Path) -> int:
             other.quiet("429")
             first.looks()
             first.log_out()
+            first.log_in_over()
             first.quiet("ERR_INTERNET_DISCONNECTED")
             first.begin_as_guest()
             first.hostile()

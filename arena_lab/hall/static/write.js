@@ -9,7 +9,7 @@ let { version } = draft, trial = null, timer = null, isSaving = false, isStopped
 
 async function rest(method, path, body) {
   const answer = await fetch(path, {
-    method, credentials: "same-origin", headers: { "Content-Type": "application/json", "X-CSRFToken": secret },
+    method, credentials: "same-origin", headers: { "Content-Type": "application/json", "X-CSRFToken": secret, "X-Writer": draft.team },
     body: body === undefined ? undefined : JSON.stringify(body),
   });
   const told = await answer.json().catch(() => ({}));

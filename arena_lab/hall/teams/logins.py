@@ -16,6 +16,7 @@ from arena_lab.hall.teams import guards
 from arena_lab.hall.teams.models import DOT, Team, team_of
 
 WRONG = _("no team has this token")
+OTHER = _("another team has logged in with this browser: log in again")
 WAIT = _("too many wrong tries: wait some minutes")
 SESSION_TEAM = "team"
 SESSION_GENERATION = "generation"
@@ -110,9 +111,17 @@ class BySession(SessionAuthentication):
 
 
 class ByWriter(BySession):
-    """Authenticates the session of a team or of a guest."""
+    """Authenticates the session of a team or of a guest. A page that was opened before
+    another team logged in names its own, and is refused."""
 
     who = "writer"
+
+    def authenticate(self, request: Any) -> Optional[Tuple[Team, None]]:
+        result = super().authenticate(request)
+        writer = request.META.get("HTTP_X_WRITER")
+        if result is not None and writer not in (None, result[0].name):
+            raise exceptions.PermissionDenied(OTHER)
+        return result
 
 
 class IsTeam(BasePermission):

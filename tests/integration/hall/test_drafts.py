@@ -280,6 +280,19 @@ class Trials(DraftFile):
         reply = client.post("/api/trials", json.dumps(TRIED), "application/json")
         self.assertEqual(reply.status_code, 403)
 
+    def test_a_page_of_another_team_that_was_here_before_saves_nothing(self) -> None:
+        """Birch logs in at the browser in which a page of amber is open, which then
+        wrote amber's program over birch's draft."""
+        body = json.dumps({"files": FILES, "version": 0})
+        results = [
+            self.client_of("birch").put(
+                "/api/drafts/python", body, "application/json", HTTP_X_WRITER=writer
+            )
+            for writer in ("amber", "birch")
+        ]
+        self.assertEqual([reply.status_code for reply in results], [403, 200])
+        self.assertIn("another team has logged in", results[0].json()["error"])
+
     def test_the_match_may_reach_nothing_and_stands_in_the_halls_page_alone(
         self,
     ) -> None:
