@@ -11,6 +11,7 @@ from typing import Any, Dict, Iterator, List
 
 from arena_lab.hall.place import HallFolder
 from arena_lab.support.ports import free_port
+from tests.integration.hall.test_upgrade import EARLIER, pack_as_before
 from tests.support import halls
 from tests.support.halls import ServedHall, play
 
@@ -186,6 +187,25 @@ class Postgres(halls.Playing):
                 self.assertEqual(self.output("-c", ROWS, new.folder), before)
                 self.assertEqual(new.hall().database, new.to_serve().database)
             self.assertEqual(self.output("-c", ROWS, live.folder), before)
+
+    def test_a_backup_of_rows_as_version_0_9_wrote_them(self) -> None:
+        """It is restored to an empty database, and refused by one that has rows."""
+        old = self.hall("old", self.create("old"))
+        old.write()
+        self.output("-c", EARLIER, old.folder)
+        words = ["-h", "127.0.0.1", "-p", str(self.port), "-U", "hall", "old"]
+        dump = [str(PROGRAMS[-1] / "pg_dump"), "--no-owner", *words]
+        with (old.folder / "hall.sql").open("wb") as file:
+            subprocess.run(dump, check=True, stdout=file)
+        archive = self.folder / "old.tar.gz"
+        pack_as_before(old, archive)
+        new = self.hall("new", self.create("new"))
+        self.assertIn("as it stood", self.output("restore", new.course, archive))
+        self.assertEqual(self.output("-c", ROWS, new.folder), "('amber', 'd')\n\n")
+        self.assertFalse((new.folder / "hall.sql").exists())
+        again = self.output("restore", new.course, archive, "--aside", status=2)
+        self.assertIn(f"name an empty database in {new.course}", again)
+        self.assertEqual(self.output("-c", ROWS, new.folder), "('amber', 'd')\n\n")
 
     def test_a_database_that_has_rows_or_is_used_is_refused(self) -> None:
         live = self.hall(

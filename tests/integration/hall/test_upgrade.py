@@ -3,9 +3,11 @@ what was rated is practice."""
 import contextlib
 import os
 import pathlib
+import shutil
 import sqlite3
 import subprocess
 import sys
+import tarfile
 import tempfile
 import unittest
 from typing import Any
@@ -47,6 +49,15 @@ made("standings", "Reveal")
 SAID = "hall: 2 rated attempts and matches of contests are practice now: only hand-ins are ranked"
 
 
+def pack_as_before(hall: HallFolder, archive: pathlib.Path) -> None:
+    """Packs the folder of a hall as version 0.9 did: with no manifest, and no lock."""
+    with tarfile.open(archive, "w:gz") as tar:
+        tar.add(hall.course, hall.course.name)
+        for path in hall.folder.iterdir():
+            if path.name != "lock":
+                tar.add(path, f"{hall.folder.name}/{path.name}")
+
+
 class Upgrade(unittest.TestCase):
     def setUp(self) -> None:
         self.folder = pathlib.Path(
@@ -57,7 +68,7 @@ class Upgrade(unittest.TestCase):
         self.hall = HallFolder(self.folder / "trial.hall", self.course, None)
         self.hall.write()
 
-    def output(self, *words: object) -> str:
+    def output(self, *words: object, status: int = 0) -> str:
         result = subprocess.run(
             [sys.executable, *map(str, words)],
             cwd=TOP,
@@ -67,8 +78,34 @@ class Upgrade(unittest.TestCase):
             stderr=subprocess.PIPE,
             timeout=300,
         )
-        self.assertEqual(result.returncode, 0, result.stderr)
+        self.assertEqual(result.returncode, status, result.stderr)
         return result.stderr
+
+    def restore(self, archive: pathlib.Path, status: int = 0) -> str:
+        words = ("-m", "arena_lab", "hall", "restore", self.course, archive)
+        return self.output(*words, status=status)
+
+    def test_a_backup_of_an_earlier_version_is_restored(self) -> None:
+        self.output("-c", EARLIER, self.hall.folder)
+        archive = self.folder / "before.tar.gz"
+        pack_as_before(self.hall, archive)
+        shutil.rmtree(self.hall.folder)
+        self.assertIn(SAID, self.restore(archive))
+        self.assertEqual(self.rows("name, digest FROM teams_team"), [("amber", "d")])
+        self.assertEqual(self.rows("count(*) FROM handins_grading"), [(2,)])
+
+    def test_a_backup_of_rows_of_postgresql_is_refused_where_there_is_none(
+        self,
+    ) -> None:
+        archive = self.folder / "before.tar.gz"
+        (self.hall.folder / "hall.sql").write_text("SELECT 1;")
+        pack_as_before(self.hall, archive)
+        shutil.rmtree(self.hall.folder)
+        refusal = (
+            f"this backup of 0.9 needs PostgreSQL: write `database` into {self.course}"
+        )
+        self.assertIn(refusal, self.restore(archive, status=2))
+        self.assertFalse(self.hall.folder.exists())
 
     @unittest.skipUnless(os.geteuid() == 0, "this is not root")
     def test_what_root_does_is_left_to_the_user_of_the_hall(self) -> None:
