@@ -7,13 +7,15 @@ from typing import Any, List, NamedTuple, Optional, Tuple
 
 from arena_lab import api
 from arena_lab.course.checked import Alarm, CheckBudget
-from arena_lab.course.exercises import Exercise
+from arena_lab.course.exercises import Exercise, ExerciseMatch
+from arena_lab.course.scripts import script_agent
 from arena_lab.play.agent_files import AgentError
-from arena_lab.play.games import Record, maker_of
+from arena_lab.play.games import Record, maker_of, play_again
 from arena_lab.play.kept_matches import played_under
+from arena_lab.play.schedulers import ImpossibleError
 from arena_lab.play.schedules import schedule_of
-from arena_lab.play.teams import AgentWords, Game
-from arena_lab.rules import networks
+from arena_lab.play.teams import DRAWS, AgentWords, Game
+from arena_lab.rules import draws, networks
 from arena_lab.rules.engines import MODEL
 from arena_lab.search.history_tree import NoFunctionError
 
@@ -24,6 +26,8 @@ DENIED_PREFIX = "was not let in"
 # defaults of a search of every schedule: seconds and states
 SECONDS = 60
 MAX_STATES = 100_000
+# schedules of each match that the agents play again, to see that they answer alike
+CHECKED_SAMPLES = 2
 
 
 class Answer(NamedTuple):
@@ -38,30 +42,48 @@ def check_answer(
     exercise: Exercise,
     agent: AgentWords,
     program: Optional[str] = None,
-    inside: Optional[AgentWords] = None,
     seconds: float = SECONDS,
 ) -> Answer:
     """Plays the matches of an exercise up to the first mistake. If there is none, and the
     exercise asks for it, tries every schedule until `seconds` are over, matches
-    included. Without a program the Python model plays, and the search asks the agent
-    `inside` the lab."""
+    included. Without a program the Python model plays, and the search plays the agent
+    inside the lab."""
     until = time.monotonic() + seconds
-    record: Optional[Record] = None
+    records: List[Record] = []
     for match in exercise.matches:
-        fixture = exercise.fixture(match)
-        agents = [agent] * exercise.agents
-        empty = schedule_of(fixture, agents, f"exercise {exercise.name}", [], LINE)
-        chosen = maker_of(match.scheduler)(match.seed)
-        record = Record(*played_under(chosen, empty, program), program)
+        record = play_match(exercise, match, agent, program)
         lines = to_mend(exercise, record)
         if lines:
             return Answer(record, [f"{lines[0]} (on {match})", *lines[1:]])
-    assert record is not None
-    if not exercise.every:
-        return Answer(record, [])
-    explored_agent = agent if program or inside is None else inside
-    failure, lines = every_schedule(exercise, explored_agent, program, until)
-    return Answer(failure or record, lines)
+        records.append(record)
+    lines = exercise.check_all(
+        [(record.match.match, record.schedule.fixture.keys) for record in records]
+    )
+    if lines or not exercise.every:
+        return Answer(records[-1], lines)
+    failure, lines = every_schedule(exercise, agent, program, until)
+    return Answer(failure or records[-1], lines)
+
+
+def play_match(
+    exercise: Exercise, match: ExerciseMatch, agent: AgentWords, program: Optional[str]
+) -> Record:
+    """Plays a match of an exercise."""
+    fixture = exercise.fixture(match)
+    agents = [agent] * exercise.agents
+    empty = schedule_of(fixture, agents, f"exercise {exercise.name}", [], LINE)
+    chosen = maker_of(match.scheduler)(match.seed)
+    return Record(*played_under(chosen, empty, program), program)
+
+
+def played_outside(record: Record, agent: AgentWords) -> Record:
+    """The match of a schedule that was found inside the lab, played by the program
+    itself, if that goes along."""
+    agents = [agent] * len(record.schedule.agents)
+    try:
+        return play_again(record.schedule._replace(agents=agents), record.program)
+    except ImpossibleError:
+        return record
 
 
 def every_schedule(
@@ -69,14 +91,18 @@ def every_schedule(
 ) -> Tuple[Optional[Record], List[str]]:
     """Tries every schedule of the exercise's network, with each black hole, until this
     time: the match of a schedule that fails, and what is to be mended."""
-    network = networks.network_named(exercise.every)
-    agents = [agent] * exercise.agents
-    game = Game(exercise.every, network, agents, limit=LINE)
     of_all = f"every schedule of {exercise.every}"
     alarm = Alarm(CheckBudget(max(0.0, until - time.monotonic())))
+    explored_agent = agent if program else script_agent(exercise.is_told())
+    silence = contextlib.ExitStack()
+    silence.enter_context(contextlib.redirect_stderr(io.StringIO()))
+    silence.enter_context(contextlib.redirect_stdout(io.StringIO()))
     try:
-        with alarm, contextlib.redirect_stderr(io.StringIO()):
-            result: Any = api.explore_games([game], MAX_STATES, program or MODEL)
+        with alarm, silence:
+            games = games_of(exercise, explored_agent)
+            result: Any = api.explore_games(
+                games, MAX_STATES, program or MODEL, check=CHECKED_SAMPLES
+            )
     except (AgentError, NoFunctionError) as fault:
         return None, [f"{of_all} cannot be tried: {fault}"]
     except KeyboardInterrupt:
@@ -84,9 +110,10 @@ def every_schedule(
             raise
         result = None
     if result is not None and result.fails and result.worst is not None:
+        record = result.worst if program else played_outside(result.worst, agent)
         where = f"under a schedule of {exercise.every}"
-        lines = to_mend(exercise, result.worst) or [str(result.worst.judge())]
-        return result.worst, [f"{lines[0]} ({where})", *lines[1:]]
+        lines = to_mend(exercise, record) or [str(record.judge())]
+        return record, [f"{lines[0]} ({where})", *lines[1:]]
     if result is None:
         return None, [f"{of_all} could not be tried in the time of a trial"]
     if not result.solves:
@@ -94,6 +121,15 @@ def every_schedule(
             f"{of_all} cannot be tried: there are more than {MAX_STATES} states, or an agent may use up its commands"
         ]
     return None, []
+
+
+def games_of(exercise: Exercise, agent: AgentWords) -> List[Game]:
+    """The games whose every schedule is tried: one for each numbering of the ports."""
+    network = networks.network_named(exercise.every)
+    agents = [agent] * exercise.agents
+    game = Game(exercise.every, network, agents, limit=LINE)
+    numberings = draws.numberings(network, exercise.numberings, range(DRAWS))
+    return [game._replace(ports=ports) for ports in numberings]
 
 
 def to_mend(exercise: Exercise, record: Record) -> List[str]:

@@ -20,7 +20,7 @@ import arena_lab
 from arena_lab.commands.answers import check_answer
 from arena_lab.course import exercises
 from arena_lab.course.exercises import AGENT, Exercise
-from arena_lab.play.teams import INSIDE, OUTSIDE, AgentWords
+from arena_lab.play.teams import OUTSIDE, AgentWords
 from arena_lab.support.faults import ArenaError
 
 WIDE = 100
@@ -80,9 +80,8 @@ def begin(exercise: Exercise, folder: pathlib.Path) -> int:
 def check(exercise: Exercise, folder: pathlib.Path, keep: pathlib.Path) -> int:
     """Checks what stands in a folder."""
     agent = AgentWords(OUTSIDE, exercise.command)
-    inside = AgentWords(INSIDE, f"{AGENT} {{nodes}}")
     with contextlib.chdir(folder):
-        answer = check_answer(exercise, agent, inside=inside)
+        answer = check_answer(exercise, agent)
     if not answer.lines:
         print(exercise.praise())
         return 0

@@ -5,18 +5,18 @@ the matches that are played. A student completes `agent.py`; `solution.py` is ri
 may be files of elsewhere, which `exercise.toml` names: exercises build on each other.
 `check.py` has a function `check(match)`, which says what to mend in a match that was
 played: a list of sentences, the likeliest cause first, and an empty one if nothing is
-wrong.
+wrong. Perhaps it has `check_all(matches)` too, for what only all matches together show.
 """
 import pathlib
-from typing import Callable, Dict, List, NamedTuple, Optional, Tuple
+from typing import Callable, Dict, Iterator, List, NamedTuple, Optional, Sequence, Tuple
 
-from arena_lab.play.agent_files import AGENTS, member
-from arena_lab.rules import networks
+from arena_lab.play.agent_files import AGENTS, load_module
+from arena_lab.rules import draws, networks
 from arena_lab.rules.fixtures import Fixture, fixture_of
 from arena_lab.rules.limits import SMALL_BOARD, SMALL_QUOTA
-from arena_lab.rules.model import Match, Object, Setup
+from arena_lab.rules.model import GONE, Match, Object, Setup
 from arena_lab.support import fields
-from arena_lab.support.fields import Field, is_text
+from arena_lab.support.fields import Field, is_number, is_text
 
 EXERCISES = AGENTS.parent / "exercises"
 AGENT = "agent.py"
@@ -36,6 +36,7 @@ FIELDS = {
     "agent": fields.TEXT._replace(default=AGENT),
     "solution": fields.TEXT._replace(default="solution.py"),
     "every": PROSE._replace(default=""),
+    "numberings": fields.count(1)._replace(default=1),
     "match": fields.tables("match"),
 }
 MATCH = {
@@ -43,24 +44,29 @@ MATCH = {
     "scheduler": fields.TEXT._replace(default="fair"),
     "seed": Field(lambda value: isinstance(value, int), "a whole number", 0),
     "holes": Field(lambda value: isinstance(value, list), "a list of nodes", []),
+    "ports": Field(lambda value: value is None or is_number(value), "a seed", None),
 }
 
 
 class ExerciseMatch(NamedTuple):
-    """A match of an exercise, which may have no black hole."""
+    """A match of an exercise, which may have no black hole. `ports` is the seed by
+    which ports are numbered anew, or None."""
 
     network: str
     scheduler: str
     seed: int
     holes: List[int]
+    ports: Optional[int]
 
     def __str__(self) -> str:
-        return f"{self.network} under {self.scheduler} {self.seed}"
+        ports = draws.ports_text(self.ports)
+        return f"{self.network}{ports} under {self.scheduler} {self.seed}"
 
 
 class Exercise(NamedTuple):
     """An exercise: its name, title, text and hint, what is played, a network of which
-    every schedule is tried, or "", and the paths of its agent and its solution."""
+    every schedule is tried, or "", with how many numberings of its ports, and the paths
+    of its agent and its solution."""
 
     name: str
     title: str
@@ -70,6 +76,7 @@ class Exercise(NamedTuple):
     command: str
     matches: List[ExerciseMatch]
     every: str
+    numberings: int
     paths: Tuple[str, str]
 
     @property
@@ -88,7 +95,7 @@ class Exercise(NamedTuple):
 
     def fixture(self, of: ExerciseMatch) -> Fixture:
         """One of its matches before it begins; its home base is node 0."""
-        network = networks.network_named(of.network)
+        network = draws.renumber(networks.network_named(of.network), of.ports)
         setup = Setup(
             network.nodes,
             network.links,
@@ -108,12 +115,24 @@ class Exercise(NamedTuple):
             f"Right in {'its match' if count == 1 else f'all {count} matches'}{every}."
         )
 
+    def is_told(self) -> bool:
+        """Returns whether an agent is told the number of nodes."""
+        return self.command == TOLD_COMMAND
+
     def check(self, match: Match) -> List[str]:
         """Runs the exercise's own check on a finished match; returns its advice."""
-        check_match: Callable[[Match], List[str]] = member(
-            str(self.folder / "check.py"), "check"
-        )
+        module = load_module(self.folder / "check.py")
+        check_match: Callable[[Match], List[str]] = module.check
         return check_match(match)
+
+    def check_all(self, matches: Sequence[Tuple[Match, Sequence[str]]]) -> List[str]:
+        """Runs the exercise's check of all its matches together, each with the keys of
+        its agents, if it has one; returns its advice."""
+        module = load_module(self.folder / "check.py")
+        lines: List[str] = []
+        if hasattr(module, "check_all"):
+            lines += module.check_all(matches)
+        return lines
 
 
 def exercises() -> Dict[str, Exercise]:
@@ -142,8 +161,19 @@ def read_exercise(name: str) -> Exercise:
         TOLD_COMMAND if values["nodes"] else COMMAND,
         matches,
         values["every"],
+        values["numberings"],
         (values["agent"], values["solution"]),
     )
+
+
+def is_accepted(event: Object) -> bool:
+    """Returns whether an event was answered, and not refused."""
+    return isinstance(event.get("reply"), dict) and "no" not in event["reply"]
+
+
+def is_written(event: Object) -> bool:
+    """Returns whether an event is a write that changed the whiteboard."""
+    return bool(event["do"] == "write" and event["reply"].get("ok") == "written")
 
 
 def events_of(match: Match, do: str, agent: Optional[int] = None) -> List[Object]:
@@ -153,8 +183,29 @@ def events_of(match: Match, do: str, agent: Optional[int] = None) -> List[Object
         for event in match.log
         if event["do"] == do
         and agent in (None, event.get("agent"))
-        and isinstance(event.get("reply"), dict)
-        and "no" not in event["reply"]
+        and is_accepted(event)
+    ]
+
+
+def placed_events(match: Match) -> Iterator[Tuple[Object, int]]:
+    """Yields the accepted events in order, each with its agent's node: the node that a
+    departure leaves, and the node that an arrival reaches."""
+    places = [match.setup.home] * match.setup.agents
+    ports = [0] * match.setup.agents
+    for event in filter(is_accepted, match.log):
+        agent = event["agent"]
+        if event["do"] == "deliver":
+            places[agent] = match.far[places[agent]][ports[agent]][0]
+        yield event, places[agent]
+        if event["reply"] == GONE:
+            ports[agent] = event["port"]
+
+
+def accusations(match: Match) -> List[str]:
+    """Returns what is said of agents that accuse where nobody is asked to."""
+    return [
+        f"agent {event['agent']} accused a link, and nothing here is about a black hole: agent.leave() ends an agent"
+        for event in events_of(match, "accuse")[:1]
     ]
 
 

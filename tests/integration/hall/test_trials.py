@@ -238,7 +238,7 @@ class Exercised(Tried):
         self.assertContains(page, "A departure is answered twice")
         self.assertNotContains(page, "\u2713 ")
         report = self.report_of(exercise.solution(), language=exercise.name)
-        self.assertEqual(report["said"], ["Right in all 2 matches."])
+        self.assertEqual(report["said"], ["Right in all 4 matches."])
         self.assertEqual(report["marks"], [])
         self.assertEqual([line for _, _, line in report["lines"]][:3], [8, 9, 0])
         page = self.client_of("amber").get("/write")

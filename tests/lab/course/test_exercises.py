@@ -3,17 +3,18 @@ here gets a sentence that names its cause."""
 import os
 import sys
 import time
-from typing import Dict, List, Tuple
+from typing import Any, Dict, List, Tuple
 from unittest import mock
 
 from arena_lab import api
 from arena_lab.__main__ import main
 from arena_lab.commands import answers
-from arena_lab.commands.answers import check_answer
+from arena_lab.commands.answers import Answer, check_answer
 from arena_lab.course import exercises
 from arena_lab.course.exercises import CLIENT, Exercise
 from arena_lab.play.agent_files import AGENTS
-from arena_lab.play.teams import INSIDE, OUTSIDE, AgentWords
+from arena_lab.play.teams import OUTSIDE, AgentWords
+from arena_lab.rules.model import Match
 from arena_lab.search.history_tree import NoFunctionError
 from tests.support.output import InTemporary, run_call
 
@@ -106,9 +107,12 @@ class Exercises(InTemporary):
     def findings(self, exercise: Exercise, agent: str) -> List[str]:
         """Returns the findings of a check."""
         (self.folder / exercises.AGENT).write_text(agent, encoding="utf-8")
+        return self.answer(exercise).lines
+
+    def answer(self, exercise: Exercise, **extra: Any) -> Answer:
+        """Checks the program in the folder."""
         words = exercise.command.replace("python3", sys.executable)
-        inside = AgentWords(INSIDE, f"{exercises.AGENT} {{nodes}}")
-        return check_answer(exercise, AgentWords(OUTSIDE, words), inside=inside).lines
+        return check_answer(exercise, AgentWords(OUTSIDE, words), **extra)
 
     def test_they_are_in_order_and_whole(self) -> None:
         result = exercises.exercises()
@@ -142,24 +146,52 @@ class Exercises(InTemporary):
         (self.folder / exercises.AGENT).write_text(
             exercise.solution(), encoding="utf-8"
         )
-        agent = AgentWords(INSIDE, f"{exercises.AGENT} {{nodes}}")
         every = "every schedule of ring:4"
         with mock.patch.object(answers, "MAX_STATES", 9):
-            output = check_answer(exercise, agent).lines
+            output = self.answer(exercise).lines
         self.assertIn(
             f"{every} cannot be tried: there are more than 9 states", output[0]
         )
         for wrong, sentence in (
-            (lambda *_: time.sleep(30), "could not be tried in the time"),
+            (lambda *_, **__: time.sleep(30), "could not be tried in the time"),
             (
                 NoFunctionError("it says another line"),
                 "cannot be tried: it says another",
             ),
         ):
             with mock.patch.object(api, "explore_games", side_effect=wrong):
-                output = check_answer(exercise, agent, seconds=0).lines
+                output = self.answer(exercise, seconds=0).lines
             self.assertIn(f"{every} {sentence}", output[0])
         self.assertIn("and under every schedule of ring:4", exercise.praise())
+
+    def test_a_script_that_fails_under_some_schedule_is_played_by_itself(self) -> None:
+        """It goes back by port 1, which leads back in the matches that are drawn; each
+        schedule is tried inside the lab, and the one that fails outside."""
+        exercise = exercises.read_exercise("7-triangle")
+        agent = exercise.solution().replace("depart(here.came)", "depart(1 - side)")
+        self.assertIn("(under a schedule of ring:3)", self.findings(exercise, agent)[0])
+        record = self.answer(exercise).record
+        self.assertEqual({agent.kind for agent in record.schedule.agents}, {OUTSIDE})
+        self.assertTrue(record.has_failed)
+
+    def test_agents_that_chance_parts_are_told_by_all_matches_together(self) -> None:
+        """Two agents that write take the two sides in each match, but not always the
+        same ones: no whiteboard has parted them."""
+        exercise = exercises.read_exercise("5-two-sides")
+        records = []
+        for first in (0, 1):
+            match = Match(exercise.fixture(exercise.matches[0]).setup)
+            for agent, port in enumerate((first, 1 - first)):
+                for command in (
+                    {"do": "enter", "key": f"k{agent}"},
+                    {"do": "write", "expect": "", "put": f"k{agent}"},
+                    {"do": "depart", "port": port},
+                ):
+                    match.reply_to(agent, command)
+            self.assertEqual(exercise.check(match), [])
+            records.append((match, ["k0", "k1"]))
+        self.assertEqual(exercise.check_all(records[:1]), [])
+        self.assertIn("went through different ports", exercise.check_all(records)[0])
 
     def test_the_command_tries_every_schedule(self) -> None:
         words = ["exercise", "9-every-schedule", "--folder", "a folder"]

@@ -1,0 +1,103 @@
+"""Answers to the exercises: each right one is called right, and each wrong one is not,
+by the lab and by the page on which one writes agents, which has the first three."""
+import json
+import re
+import shutil
+import subprocess
+import unittest
+from typing import Any, Dict, List
+
+from arena_lab.course import exercises
+from arena_lab.play.games import Record
+from arena_lab.support.built import TOP
+from tests.support import exercise_answers
+
+PAGE = TOP / "tools" / "play"
+# reads the checks of the page, and prints what each says of the matches of its exercise
+CHECKS = """
+const fs = require("fs");
+const text = process.argv.slice(1).map((path) => fs.readFileSync(path, "utf8")).join("\\n");
+const asked = JSON.parse(fs.readFileSync(0, "utf8"));
+const all = new Function(`${text}; return EXERCISES`)();
+const rows = all.map(({ name, title, matches, agents }) => ({ name, title, matches, agents }));
+const found = asked.map(([name, matches]) =>
+  matches.map((match) => all.find((one) => one.name === name).check(match)));
+console.log(JSON.stringify([rows, found]));
+"""
+
+
+def ask_page(requests: List[Any]) -> Any:
+    """Returns the page's exercises, and what its checks say of matches of exercises."""
+    paths = [str(PAGE / name) for name in ("networks.js", "exercises.js")]
+    output = subprocess.run(
+        ["node", "-e", CHECKS, *paths],
+        input=json.dumps(requests),
+        check=True,
+        text=True,
+        stdout=subprocess.PIPE,
+    )
+    return json.loads(output.stdout)
+
+
+def as_page(record: Record) -> Dict[str, Any]:
+    """A match as the page hands it to a check."""
+    match = record.match.match
+    setup = match.setup
+    return {
+        "events": match.log,
+        "network": {"nodes": setup.nodes, "links": setup.links},
+        "match": {"home": setup.home, "agents": setup.agents},
+    }
+
+
+def beginnings_of(lines: List[str]) -> List[str]:
+    """Returns the beginnings of sentences, which name no call of a language."""
+    return [re.sub(r"`.*|:.*", "", line) for line in lines]
+
+
+class Answers(unittest.TestCase):
+    def test_wrong_answers_are_not_called_right_nor_right_ones_wrong(self) -> None:
+        counts = {False: 0, True: 0}
+        for answer in exercise_answers.answers():
+            with self.subTest(answer):
+                lines = exercise_answers.findings(answer.exercise, answer.agent)
+                self.assertEqual(not lines, answer.is_right, lines)
+                counts[answer.is_right] += 1
+        self.assertGreaterEqual(counts[False], 60)
+        self.assertGreaterEqual(counts[True], 20)
+
+
+@unittest.skipUnless(shutil.which("node"), "Debian's nodejs is not installed")
+class Page(unittest.TestCase):
+    def test_its_exercises_are_the_first_of_the_lab(self) -> None:
+        rows, _ = ask_page([])
+        for row, exercise in zip(rows, exercises.exercises().values()):
+            self.assertEqual(
+                (row["name"], row["title"], row["agents"]),
+                (exercise.name, exercise.title, exercise.agents),
+            )
+            matches = [
+                (match["network"], match.get("scheduler", "fair"), match.get("seed", 0))
+                for match in row["matches"]
+            ]
+            self.assertEqual(matches, [match[:3] for match in exercise.matches])
+        self.assertEqual(len(rows), 3)
+
+    def test_its_checks_find_what_the_checks_of_the_lab_find(self) -> None:
+        """Both are asked of the same matches of right and wrong answers."""
+        names = [row["name"] for row in ask_page([])[0]]
+        requests = []
+        lab_lines = []
+        for answer in exercise_answers.answers():
+            exercise = answer.exercise
+            if exercise.name in names:
+                records = exercise_answers.records(exercise, answer.agent)
+                requests.append((exercise.name, list(map(as_page, records))))
+                lab_lines.append(
+                    [exercise.check(record.match.match) for record in records]
+                )
+        _, page_lines = ask_page(requests)
+        for request, page_rows, lab_rows in zip(requests, page_lines, lab_lines):
+            for page_row, lab_row in zip(page_rows, lab_rows):
+                with self.subTest(request[0], lines=lab_row):
+                    self.assertEqual(*map(beginnings_of, (page_row, lab_row)))
