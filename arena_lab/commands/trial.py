@@ -205,10 +205,9 @@ class TriedProgram:
                 "right": False,
                 "said": [left_out_text] if budget.left_out else lines,
             }
-        left_out_lines = (
-            [f"left out: {join_words(budget.left_out)}"] if budget.left_out else []
-        )
-        return {"right": True, "said": [f"Right {join_words(right)}.", *left_out_lines]}
+        not_tried = f"; not tried: {join_words(budget.left_out)}"
+        end = not_tried if budget.left_out else ""
+        return {"right": True, "said": [f"Right {join_words(right)}{end}."]}
 
     def to_mend(self, wrong: check.Finding) -> Dict[str, Any]:
         """Returns the report of a finding, with its match replayed by a client that

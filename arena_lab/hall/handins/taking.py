@@ -54,9 +54,11 @@ def take(team: Team, name: str, file: Any, number: Optional[int] = None) -> Hand
         )
     new = settings.PLACE.folder / "hand-ins" / f"{NEW}{secrets.token_hex(8)}"
     try:
+        rules = settings.HALL.hand_ins
         files = unpacking.unpack(
-            file.read(unpacking.MAX_SENT + 1), settings.HALL.hand_ins.file, new / FILES
+            file.read(unpacking.MAX_SENT + 1), rules.file, new / FILES
         )
+        unpacking.check_program(new / FILES, rules.file, rules.command)
         return keep_hand_in(team, plain(name)[:80], files, window, new)
     except unpacking.HandInError as fault:
         raise RequestRefusedError(400, str(fault)) from None

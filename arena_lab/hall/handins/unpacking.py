@@ -19,6 +19,7 @@ import zipfile
 from typing import Dict, Iterator, List, NamedTuple
 
 from arena_lab.course.hand_in import MAX_BYTES, MAX_FILES
+from arena_lab.play.imports import names_in
 from arena_lab.support.built import TOP
 from arena_lab.support.faults import ArenaError
 
@@ -32,6 +33,8 @@ PART = re.compile(r"[^/\\\0-\x1f\x7f]{1,100}")
 # disk takes
 MAX_NAME = 200
 MAX_PATH = 1_000
+# the module of the kits by which a program in Python connects
+CLIENT = "client"
 # with what each entry of a zip's list begins
 ENTRY = b"PK\x01\x02"
 PIECE = 64 << 10
@@ -211,6 +214,25 @@ def without_top(names: List[str]) -> Dict[str, str]:
     if len(tops) == 1 and all("/" in name for name in names):
         return {name: name.partition("/")[2] for name in names}
     return {name: name for name in names}
+
+
+def check_program(folder: pathlib.Path, name: str, command: str) -> None:
+    """Refuses files that the hall cannot start as they are: they lack the file that the
+    command names, or the client that this file imports. A hand-in that is refused costs
+    no try."""
+    path = folder / name
+    if name not in command.split():
+        return
+    if not path.is_file():
+        names = [path.name for path in sorted(folder.glob(f"*{path.suffix}"))]
+        programs = [name for name in names if name != f"{CLIENT}.py"]
+        advice = f": call {programs[0]} so" if programs else " at its top"
+        raise HandInError(f"it has no {name}, which is started{advice}")
+    lacks_client = not any(folder.glob(f"{CLIENT}*"))
+    if lacks_client and CLIENT in names_in(path.read_bytes()):
+        raise HandInError(
+            f"{name} imports {CLIENT}, and {CLIENT}.py is not there: hand in a zip of both"
+        )
 
 
 def measure_folder(folder: pathlib.Path) -> UnpackedFiles:

@@ -102,10 +102,31 @@ class HandIns(Hall):
         """A hundred files of a byte take a hundred blocks and inodes, more than 0.5
         MB; the team that has a MB left hands them in once."""
         Team.objects.filter(name="amber").update(disk=1)
-        zip_bytes = zip_of({f"file{number}.py": b"x" for number in range(100)})
+        zip_bytes = zip_of(
+            {"agent.py": b"x", **{f"file{number}": b"x" for number in range(99)}}
+        )
         hand_ins = [self.hand_in(zip_bytes) for _ in range(2)]
         self.assertEqual([hand.status_code for hand in hand_ins], [201, 429])
         self.assertIn("matches and hand-ins 0.8", hand_ins[1].json()["error"])
+
+    def test_what_cannot_start_is_refused_and_costs_no_try(self) -> None:
+        """The kit under its own name, in a zip and by itself, and without its client."""
+        kit = b"import sys\nfrom client import Agent\n"
+        for payload, sentence in (
+            (
+                zip_of({"careful.py": kit, "client.py": b""}),
+                "it has no agent.py, which is started: call careful.py so",
+            ),
+            (zip_of({"a.txt": b"x"}), "it has no agent.py, which is started at its"),
+            (zip_of({"agent.py": kit}), "client.py is not there: hand in a zip of"),
+            (kit, "agent.py imports client, and client.py is not there"),
+        ):
+            hand = self.hand_in(payload)
+            self.assertEqual(hand.status_code, 400)
+            self.assertIn(sentence, hand.json()["error"])
+        self.assertEqual(HandIn.objects.count(), 0)
+        whole = zip_of({"agent.py": kit, "client.py": b""})
+        self.assertEqual(self.hand_in(whole).status_code, 201)
 
     def test_a_zip_that_is_refused_leaves_nothing(self) -> None:
         hand = self.hand_in(zip_of({"../../evil.py": b"x"}))
