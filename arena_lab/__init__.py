@@ -7,6 +7,13 @@ import sys
 
 VERSION = "1"
 
+# older ones lack modules of Python that every part of the lab reads files by
+if sys.version_info < (3, 11):
+    sys.exit(
+        "arena-lab: this is Python %d.%d, and the lab needs 3.11 or newer: start it by such a Python"
+        % sys.version_info[:2]
+    )
+
 # the command line that starts the lab: in a clone or an archive, and where it is
 # installed
 IN_CLONE = "./arena-lab"

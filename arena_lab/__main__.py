@@ -1,11 +1,13 @@
 """The lab's command line: `./arena-lab --help`."""
 import argparse
+import difflib
 import functools
 import importlib
 import os
+import pathlib
 import signal
 import sys
-from typing import Collection, List, NamedTuple, Optional, Tuple
+from typing import Any, Collection, List, NamedTuple, Optional, Tuple
 
 import arena_lab
 from arena_lab import IN_CLONE
@@ -90,6 +92,30 @@ COMMANDS = {
     ),
 }
 
+
+class Words(argparse.ArgumentParser):
+    """Reads the words of a command line, and names the likeliest right word in the
+    place of a wrong one."""
+
+    def _check_value(self, action: argparse.Action, value: Any) -> None:
+        choices = list(map(str, action.choices or [value]))
+        if str(value) in choices:
+            return
+        likely = difflib.get_close_matches(str(value), choices, 1)
+        question = f"did you mean {likely[0]}? " if likely else ""
+        raise argparse.ArgumentError(
+            action, f"there is no {value}: {question}There are {', '.join(choices)}"
+        )
+
+
+# advice for each fault of a file or a folder
+ADVICE = {
+    PermissionError: ": name a place where you may read and write",
+    IsADirectoryError: ": name a file in it",
+    NotADirectoryError: ": a part of its name is a file; name another place",
+    FileExistsError: ": name another place",
+}
+
 ABOUT = """Plays agents under a schedule that you choose, records it, and plays it again byte for byte.
 
 Agents are asynchronous: a protocol is right only if it works however links delay them. The arena's own contests show
@@ -102,7 +128,7 @@ def parser(
 ) -> argparse.ArgumentParser:
     """Reads the command line of the lab under this name. Only the commands that are
     called have their words: each imports its own part of the lab."""
-    lab_parser = argparse.ArgumentParser(
+    lab_parser = Words(
         name_of_lab,
         description=ABOUT.replace(IN_CLONE, name_of_lab),
         epilog=statuses.exit_statuses(),
@@ -148,7 +174,11 @@ def main(argv: Optional[List[str]] = None) -> int:
     if strange:
         # argparse would print the usage of the lab here, and this prints that of the
         # command
-        words.refuse(f"unrecognized arguments: {' '.join(strange)}")
+        has_braces = any("{" in word for word in strange)
+        advice = ': put all words of an agent in quotes, as "agent.py {nodes}"'
+        words.refuse(
+            f"unrecognized arguments: {' '.join(strange)}{advice if has_braces else ''}"
+        )
     # whoever ends the lab ends what it started
     sys.unraisablehook = come_again
     signal.signal(signal.SIGTERM, functools.partial(end, os.getpid()))
@@ -182,13 +212,19 @@ def fault_text(fault: Exception, command: Command) -> str:
         # all that the command will ask for: who installs them once is not sent back
         return str(MissingPackageError([*fault.modules, *missing_of(command.needs)]))
     if isinstance(fault, OSError) and fault.filename is not None and fault.strerror:
-        text = (
-            "there is no such file or folder"
-            if isinstance(fault, FileNotFoundError)
-            else fault.strerror.lower()
-        )
-        return f"{os.fsdecode(fault.filename)}: {text}"
+        return f"{os.fsdecode(fault.filename)}: {path_advice(fault)}"
     return str(fault)
+
+
+def path_advice(fault: OSError) -> str:
+    """Says what to change where a file or a folder cannot be read or written."""
+    folder = pathlib.Path(os.fsdecode(fault.filename)).parent
+    if isinstance(fault, FileNotFoundError) and not folder.is_dir():
+        return f"there is no folder {folder}: make it first, or name another"
+    if isinstance(fault, FileNotFoundError):
+        return "there is no such file or folder"
+    reason = str(fault.strerror).lower()
+    return f"{reason}{ADVICE.get(type(fault), '')}"
 
 
 if __name__ == "__main__":

@@ -45,6 +45,11 @@ AGENTS = next(
     TOP / "examples" / "agents",
 )
 
+NOT_UTF8 = "it is no text in UTF-8: save it in this encoding"
+NOT_INSIDE = (
+    ": an agent inside the lab is a file in Python, as `agent.py {nodes}`; other programs are commands, as "
+    "`./agent {host} {port} {key} {nodes}`"
+)
 # the names that stand for numbers in words, and the parameters that get what is no
 # number
 FACTS = ("nodes", "links", "home")
@@ -80,7 +85,8 @@ def load_module(path: pathlib.Path) -> ModuleType:
     """The module in a file, which may import what stands beside it, and the client of
     the sample agents."""
     if not path.is_file():
-        raise AgentError(f"{path}: there is no such file")
+        advice = "" if path.suffix == ".py" else NOT_INSIDE
+        raise AgentError(f"{path}: there is no such file{advice}")
     with OwnModules(0) as modules, foreign_files.loading():
         return loaded_anew(path, modules)[0]
 
@@ -89,8 +95,21 @@ def load_module(path: pathlib.Path) -> ModuleType:
 def compile_file(path: str, text: bytes) -> CodeType:
     """Compiles a file, with a cache, because each agent of a search executes it
     anew."""
-    code: CodeType = compile(text, path, "exec", dont_inherit=True)
+    try:
+        code: CodeType = compile(text, path, "exec", dont_inherit=True)
+    except (SyntaxError, ValueError) as fault:
+        if is_utf8(text):
+            raise
+        raise AgentError(f"{path}: {NOT_UTF8}") from fault
     return code
+
+
+def is_utf8(text: bytes) -> bool:
+    """Returns whether bytes are a text in UTF-8. Python reads no zero byte."""
+    try:
+        return "\0" not in text.decode("utf-8")
+    except UnicodeDecodeError:
+        return False
 
 
 def execute_file(path: pathlib.Path) -> ModuleType:

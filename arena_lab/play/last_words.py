@@ -109,6 +109,17 @@ def of_python(lines: Sequence[str]) -> Optional[str]:
     return message and message + where_of(lines[start])
 
 
+def of_encoding(lines: Sequence[str]) -> Optional[str]:
+    """The file that Python cannot read as a text in UTF-8."""
+    match = re.search(
+        r"SyntaxError: Non-UTF-8 code .* in file (.*) on line (\d+)", "\n".join(lines)
+    )
+    if match is None:
+        return None
+    name = pathlib.PurePath(match[1]).name
+    return f"{name}, line {match[2]}: it is no text in UTF-8: save it so"
+
+
 def of_java(lines: Sequence[str]) -> Optional[str]:
     """The first exception of a thread, and what caused it in the end."""
     index = first(lines, 'Exception in thread "')
@@ -163,6 +174,7 @@ def of_javascript(lines: Sequence[str]) -> Optional[str]:
 
 # parsers by language; the first result is used, and for Go and .NET one line suffices
 LANGUAGES: Tuple[Callable[[Sequence[str]], Optional[str]], ...] = (
+    of_encoding,
     of_python,
     of_java,
     of_rust,

@@ -14,6 +14,7 @@ serve`.
 import contextlib
 import math
 import os
+import pathlib
 import shlex
 import socket
 import struct
@@ -41,11 +42,23 @@ GRACE = 0.5
 SLICE = 0.02
 # limit on the quoted characters of a program's last words
 WORDS = 200
+# what starts files that are no programs themselves, by the ends of their names
+INTERPRETERS = {".py": "python3", ".js": "node", ".jar": "java -jar"}
 # advice for each denial line of the server
 NOT_LET_IN = {
     '{"no":"key"}': "; its key is of no agent here: take the one that it is given in the place of {key}",
     '{"no":"taken"}': "; another program has entered by its key",
 }
+
+
+def start_advice(program: str, fault: OSError) -> str:
+    """Says what to change where a program cannot be started."""
+    suffix = pathlib.PurePath(program).suffix
+    if suffix in INTERPRETERS and "/" not in program:
+        return f"{program} is no program: begin with `{INTERPRETERS[suffix]} {program}`"
+    if isinstance(fault, FileNotFoundError):
+        return f"there is no program {program}: install it, or name another"
+    return str(fault.strerror)
 
 
 class Player:
@@ -84,7 +97,7 @@ class Player:
         except StartError as fault:
             self._end(f"cannot be started: {fault}")
         except OSError as fault:
-            raise AgentError(f"{self.words}: {fault.strerror}") from None
+            raise AgentError(f"{self.words}: {start_advice(words[0], fault)}") from None
 
     def begin(self) -> None:
         """Waits until the program begins."""

@@ -91,7 +91,7 @@ def words_of(arguments: List[str]) -> List[str]:
 
 def main(arguments: List[str]) -> int:
     words = words_of(arguments)
-    if len(words) != 4:
+    if len(words) != 4 or not words[1].isdecimal():
         print((__doc__ or "").strip(), file=sys.stderr)
         return 2
     host, port, key, nodes = words
@@ -99,6 +99,9 @@ def main(arguments: List[str]) -> int:
         search(Agent.connect(host, int(port)), key, int(nodes))
     except MatchOver:
         print("the match is over", file=sys.stderr)
+    except OSError as fault:
+        print(f"{host} port {port}: {fault}: is a server started?", file=sys.stderr)
+        return 1
     return 0
 
 

@@ -158,7 +158,7 @@ class HandIns(Hall):
 
     def test_nothing_hides_in_a_source_or_a_name(self) -> None:
         source = "if True: # \u202e } \u2066 if is_right\u2069 \u2066 begin\n\tprint('\u200b\x1b[2Jé')\n"
-        hand = self.hand_in(zip_of({"\u202eyp.exe": source.encode(), "two.py": b"x"}))
+        hand = self.hand_in(zip_of({"\u202eyp.exe": source.encode(), "agent.py": b"x"}))
         page = (
             self.client_of("amber")
             .get(f"/hand-ins/{hand.json()['id']}")

@@ -103,7 +103,7 @@ ROWS: Tuple[Tuple[Tuple[str, ...], int, str], ...] = (
     (
         ("network", "ring:8", "--out", "no/such/place.toml"),
         2,
-        "arena-lab: no/such/place.toml: there is no such file or",
+        "arena-lab: no/such/place.toml: there is no folder no/such: make",
     ),
     (
         ("page", "text.md"),

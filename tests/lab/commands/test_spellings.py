@@ -111,7 +111,7 @@ class Spellings(unittest.TestCase):
 
     def test_a_value_is_refused_as_by_the_new_one(self) -> None:
         self.assertIn(
-            "invalid choice: 'nobody'", read_words("explore", "--by", "nobody")[1]
+            "there is no nobody: There are", read_words("explore", "--by", "nobody")[1]
         )
 
     def test_the_help_has_the_new_ones_alone(self) -> None:
