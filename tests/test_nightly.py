@@ -15,8 +15,8 @@ from tests.test_gate import module
 from tools import parts
 
 nightly = module(TOP / "tools" / "nightly")
-# compare two builds of the program; the tests of the lab that night runs play the third
-BY_HAND = {"bent_inputs", "bench_counts", "hall_in_browser"}
+# compare two builds of the program; tests that the gate or night runs play the others
+BY_HAND = {"bent_inputs", "bench_counts", "hall_in_browser", "site_in_browser"}
 
 
 class Nightly(unittest.TestCase):

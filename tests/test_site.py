@@ -1,8 +1,10 @@
 """The site of the documents: what leads nowhere, and what a page asks of another machine,
 is named; and the site as it is built has neither."""
+import importlib.util
 import os
 import pathlib
 import re
+import shutil
 import subprocess
 import unittest
 from typing import Dict
@@ -13,6 +15,7 @@ from tests.support.output import InTemporary, write
 from tests.test_gate import module
 from tools import site_links
 
+HAS_BROWSER = shutil.which("chromedriver") and importlib.util.find_spec("selenium")
 site = module(TOP / "tools" / "site")
 THEOREMS = TOP / "docs" / "THEOREMS.md"
 
@@ -144,3 +147,8 @@ class Site(InTemporary):
             ("matches/guess0.html", "guess0.jsonl"),
         ):
             self.assertIn(text, (out / page).read_text(encoding="utf-8"), page)
+        if HAS_BROWSER:
+            module_name = "tests.browser.site_in_browser"
+            words = [DEBIANS_PYTHON, "-m", module_name, str(out)]
+            result = subprocess.run(words, cwd=TOP, capture_output=True, text=True)
+            self.assertEqual(result.returncode, 0, result.stdout + result.stderr)
