@@ -129,6 +129,7 @@ if django.VERSION < (4,):
     # later versions do so anyhow
     USE_L10N = True
 TIME_ZONE = HALL.zone
+FORMAT_MODULE_PATH = ["arena_lab.hall.formats"]
 
 STATIC_URL = "/static/"
 STATICFILES_DIRS: List[Any] = [HERE / "static"]

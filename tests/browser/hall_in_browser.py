@@ -13,12 +13,14 @@ import os
 import pathlib
 import sys
 import tempfile
+import time
 from typing import Any, List
 
 from selenium import webdriver
 from selenium.webdriver.support.ui import WebDriverWait
 
 from arena_lab.hall import packing
+from tests.browser.contrast import pale_texts
 from tests.browser.watch_in_browser import SECONDS, browser
 from tests.support import halls
 
@@ -163,6 +165,20 @@ class Walk:
         ):
             self.open(f"/teacher/{path}")
             self.wants("amber")
+            self.reads()
+
+    def reads(self) -> None:
+        """Each text has the contrast of AA, by day and by night."""
+        for scheme in ("dark", "light"):
+            features = [{"name": "prefers-color-scheme", "value": scheme}]
+            self._page.execute_cdp_cmd(
+                "Emulation.setEmulatedMedia", {"features": features}
+            )
+            # colours of links change slowly
+            time.sleep(0.5)
+            pale = pale_texts(self._page)
+            if pale:
+                raise SystemExit(f"{self._page.current_url}, {scheme}: pale are {pale}")
 
     def check_console(self) -> None:
         errors: List[str] = [

@@ -24,6 +24,7 @@ from selenium.webdriver.common.action_chains import ActionChains
 from selenium.webdriver.common.keys import Keys
 from selenium.webdriver.support.ui import WebDriverWait
 
+from tests.browser.contrast import pale_texts
 from tests.browser.watch_in_browser import browser
 from tests.support.counts import report_counts
 from tools.play import folder
@@ -64,30 +65,9 @@ const controls = [...document.querySelectorAll('button, select, input, textarea,
 return controls.filter((one) =>
     one.offsetParent !== null && !(one.textContent.trim() || one.labels?.length || one.getAttribute('aria-label')))
     .map((one) => one.outerHTML.slice(0, 80))"""
+
+
 # texts whose contrast with the background is below 4.5, the limit of WCAG 2.1 AA
-PALE = """
-const linear = (part) => part / 255 <= 0.03928 ? part / 255 / 12.92 : ((part / 255 + 0.055) / 1.055) ** 2.4;
-const light = (color) => {
-    const [red, green, blue] = color.match(/[\\d.]+/g).map(Number).map(linear);
-    return 0.2126 * red + 0.7152 * green + 0.0722 * blue;
-};
-const behind = (one) => {
-    for (; one; one = one.parentElement) {
-        const color = getComputedStyle(one).backgroundColor;
-        if (!/, 0\\)$/.test(color)) return color;
-    }
-    return 'rgb(255, 255, 255)';
-};
-const isText = (one) => [...one.childNodes].some((node) => node.nodeType === 3 && node.data.trim());
-const isShown = (one) => one.offsetParent !== null && !one.closest('.CodeMirror, select, option') && !one.disabled;
-const isPale = (one) => {
-    const [most, least] = [light(getComputedStyle(one).color), light(behind(one))].sort((x, y) => y - x);
-    return (most + 0.05) / (least + 0.05) < 4.5;
-};
-const shown = [...document.querySelectorAll('main *')].filter((one) => isShown(one) && isText(one));
-return shown.filter(isPale).map((one) => one.outerHTML.slice(0, 80))"""
-
-
 class Counts:
     """Counts the checks that passed and failed, and prints each failure."""
 
@@ -345,7 +325,8 @@ def is_usable(page: Page, counts: Counts) -> None:
         page.driver.execute_cdp_cmd(
             "Emulation.setEmulatedMedia", {"features": features}
         )
-        counts.check(f"{scheme}: contrast", page.js(PALE) == [], page.js(PALE))
+        pale = pale_texts(page.driver)
+        counts.check(f"{scheme}: contrast", pale == [], pale)
     for tongue, word in (("de", "Starten"), ("fr", "Lancer"), ("en", "Run")):
         page.choose("tongue", tongue)
         counts.check(tongue, word in page.js("return byId('play').textContent"))

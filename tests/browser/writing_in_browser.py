@@ -24,12 +24,16 @@ from selenium.webdriver.common.action_chains import ActionChains
 from selenium.webdriver.common.keys import Keys
 from selenium.webdriver.support.ui import WebDriverWait
 
-from tests.browser.hall_in_browser import Walk
+from tests.browser.hall_in_browser import PHONE, WIDE, Walk
 from tests.browser.watch_in_browser import SECONDS, browser
 from tests.support import halls
 
 EDITOR = 'editor = { languages = ["python", "javascript", "c"], guests = 9 }'
 EVIL = "<img src=x onerror='window.evil=1'><script>window.evil = 1</script>"
+# whether an element is seen without scrolling
+SHOWS = """
+const { top, bottom, width } = document.getElementById(arguments[0]).getBoundingClientRect();
+return width > 0 && top >= 0 && bottom <= innerHeight;"""
 RIGHT = "agent.accuse(ahead)"
 WRONG = "agent.accuse(1 - ahead)"
 
@@ -222,6 +226,13 @@ class Writing(Walk):
         scheme = [{"name": "prefers-color-scheme", "value": "dark"}]
         self._page.execute_cdp_cmd("Emulation.setEmulatedMedia", {"features": scheme})
         self.shoot("dark")
+        self._page.set_window_size(*PHONE)
+        for name in ("play", "language"):
+            where = self._page.execute_script(SHOWS, name)
+            if not where:
+                raise SystemExit(f"a phone does not show {name} at first sight")
+        self.wants("begins with the exercises")
+        self._page.set_window_size(*WIDE)
         self._page.execute_script("editor.mirror.focus()")
         self.press(Keys.ESCAPE)
         self.waits("return document.activeElement.id", "play")

@@ -109,6 +109,17 @@ class HandIns(Hall):
         self.assertEqual([hand.status_code for hand in hand_ins], [201, 429])
         self.assertIn("matches and hand-ins 0.8", hand_ins[1].json()["error"])
 
+    def test_times_name_their_zone(self) -> None:
+        deadline = timezone.now() + timezone.timedelta(days=1)
+        rules = settings.HALL.hand_ins._replace(deadline=deadline)
+        local = timezone.localtime(deadline)
+        with hall_with(hand_ins=rules):
+            for language in ("en", "de", "fr"):
+                client = self.client_of("amber")
+                page = client.get("/hand-ins", HTTP_ACCEPT_LANGUAGE=language)
+                self.assertContains(page, f"{local:%H:%M} {local:%Z}")
+                self.assertContains(page, f" ({local:%Z})</th>")
+
     def test_what_cannot_start_is_refused_and_costs_no_try(self) -> None:
         """The kit under its own name, in a zip and by itself, and without its client."""
         kit = b"import sys\nfrom client import Agent\n"

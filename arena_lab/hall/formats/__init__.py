@@ -1,0 +1,1 @@
+"""How moments are written in each language of a hall: with the name of the time zone."""
