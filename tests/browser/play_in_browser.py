@@ -4,7 +4,8 @@
 
 - The kit is played under every schedule that the page has, and every schedule is tried.
 - A wrong agent is written: its line is marked, a schedule that fails is found and shown.
-- A link is followed in a fresh profile, and runs nothing. A damaged one is refused.
+- An agent is checked that is right on one numbering of ports alone.
+- A link is followed in a fresh profile, and runs nothing. A strange one is refused.
 - Agents that never end, print or send without end, or fill the memory are ended.
 - The first three exercises are done.
 - All at 1200 and 400 pixels, by the keyboard, in three languages, without a network.
@@ -13,6 +14,7 @@ Nothing may be requested of another host, and the console must show no error. Sc
 go to the folder. The last line reads `N passed, M failed`.
 """
 import json
+import os
 import pathlib
 import sys
 import tempfile
@@ -43,6 +45,28 @@ ENDLESS = {
     "memory": "const all = []; for (;;) all.push(new Array(1e6).fill(1));",
 }
 AFTER = "        mine += 1;\n"
+# goes on by a port of its own number, as if both ends of a link had the same
+ONWARDS = "here = await agent.depart(1 - here.came);"
+BY_NUMBER = "here = await agent.depart(port);"
+# what a stranger may put into a link
+STRANGE_LINKS = (
+    "null",
+    "{version: 2, start: 'javascript', files: {}, fields: {}}",
+    "{version: 1, start: 'python', files: {}, fields: {}}",
+    "{version: 1, start: 'javascript', files: {'../x': ''}, fields: {}}",
+    "{version: 1, start: 'javascript', files: JSON.parse('{\"__proto__\": \"\"}'), fields: {}}",
+    "{version: 1, start: 'javascript', files: {'careful.js': 7}, fields: {}}",
+    "{version: 1, start: 'javascript', files: {}, fields: {network: 'ring:99999999'}}",
+    "{version: 1, start: 'javascript', files: {}, fields: {play: 'x'}}",
+    "{version: 1, start: 'javascript', files: null, fields: {}}",
+)
+# what fields refuse that a link may fill, and a part of the sentence
+STRANGE_FIELDS = (
+    ("agents", "1000000000", "1 to 64 agents"),
+    ("text", "nodes = 999999999\nlinks = [[0,0,1,0]]", "at most 4096 nodes"),
+    ("text", "nodes = 3\nlinks = [[0,0,7000,0]]", "link 0 is no [v, p, w, q]"),
+    ("text", "nodes = 3\nlinks = [[0,0,", "`nodes = N` and `links"),
+)
 EXERCISES = {
     "1-enter-and-look": (
         "    // look, leave\n",
@@ -236,6 +260,28 @@ def fails(page: Page, counts: Counts) -> None:
     )
 
 
+def checks(page: Page, counts: Counts) -> None:
+    """The kit passes a check; an agent that trusts in the numbers of ports does not,
+    though it solves the match that is chosen."""
+    page.kit()
+    state = page.run("check")
+    messages = page.messages()
+    counts.check("the kit is checked", state.startswith("\u2713"), (state, messages))
+    counts.check(
+        "what is left out is told", "Left out: " in messages[-1], messages[-1:]
+    )
+    page.kit()
+    page.change(ONWARDS, BY_NUMBER)
+    state = page.run()
+    counts.check("a plain ring is solved", state.startswith("\u2713"), state)
+    state = page.run("check")
+    counts.check(
+        "drawn ports are not",
+        state.startswith("\u2717") and "ring:" in page.messages()[0],
+        (state, page.messages()),
+    )
+
+
 def ends(page: Page, counts: Counts) -> None:
     """Programs that never end, and that fill what they can."""
     for name, text in ENDLESS.items():
@@ -251,6 +297,8 @@ def ends(page: Page, counts: Counts) -> None:
         state = page.js("return byId('state').textContent")
         messages = [state, *page.messages()]
         counts.check(f"{name}: the page lives", alive)
+        if os.getloadavg()[0] < (os.cpu_count() or 1):
+            counts.check(f"{name} is ended soon", took < ENDED_WITHIN, took)
         print(f"{name}: ended after {took:.1f} s: {messages[:2]}", flush=True)
         counts.check(
             f"{name} is ended",
@@ -291,6 +339,29 @@ def shares(page: Page, counts: Counts, fresh: Page) -> None:
             f"{strange[:20]} is refused",
             fresh.js("return byId('state').textContent") == "",
         )
+    refuses(fresh, counts)
+
+
+def refuses(page: Page, counts: Counts) -> None:
+    """Links of a stranger, and fields that a link fills: each is refused by a sentence."""
+    for strange in STRANGE_LINKS:
+        fragment = page.driver.execute_async_script(
+            f"fragmentOf({strange}).then(arguments[arguments.length - 1])"
+        )
+        page.open(f"#{fragment}")
+        page.wait("return byId('saved').textContent === words.bad_link")
+        counts.check(
+            f"{strange} is refused", page.js("return byId('state').textContent") == ""
+        )
+    page.open()
+    page.js("begin(textsOf(startNow()))")
+    for field, value, sentence in STRANGE_FIELDS:
+        page.choose("network", "own" if field == "text" else "ring:8")
+        old = page.js("return byId(arguments[0]).value", field)
+        page.js("byId(arguments[0]).value = arguments[1]", field, value)
+        state = page.run()
+        counts.check(f"{field} {value[:20]}", sentence in state, state)
+        page.js("byId(arguments[0]).value = arguments[1]", field, old)
 
 
 def exercises(page: Page, counts: Counts) -> None:
@@ -412,6 +483,7 @@ def main() -> int:
             ]
             plays(page, counts)
             fails(page, counts)
+            checks(page, counts)
             time.sleep(1)
             page.driver.save_screenshot(str(shots / "play-1200.png"))
             ends(page, counts)

@@ -7,6 +7,8 @@ const SMALL = ["ring:3", "ring:4", "ring:5", "ring:6", "complete:4"];
 // those that a link holds
 const FIELDS = ["network", "scheduler", "seed", "agents", "home", "holes", "dark", "held", "quota", "board", "arguments", "text", "small"];
 
+// whether a field may have a value: of a list one of its choices
+const fits = (id, value) => byId(id).tagName !== "SELECT" || [...byId(id).options].some((option) => option.value === value);
 const numbersIn = (text) => text.split(/[\s,;]+/).filter((part) => part !== "").map(Number);
 const endsIn = (text) => text.split(/[\s,;]+/).filter((part) => part !== "").map((part) => part.split(/[.:]/).map(Number));
 
@@ -22,6 +24,7 @@ function matchOfFields(isSearch, hole) {
   let network = name === OWN ? networkIn(byId("text").value) : networkNamed(name);
   if (byId("renumbered").checked) network = renumbered(network, chance(seed + 1));
   const number = (id) => Number(byId(id).value);
+  if (!(number("agents") >= 1 && number("agents") <= MOST_AGENTS)) throw new Error(`a match has 1 to ${MOST_AGENTS} agents`);
   const home = isSearch ? 0 : number("home"), drawnHole = 1 + seed % Math.max(1, network.nodes - 1);
   const written = isSearch ? [] : numbersIn(byId("holes").value);
   const match = {

@@ -31,7 +31,7 @@ EDITOR += ("addon/edit/matchbrackets.js",)
 STATIC = crates.TOP / "arena_lab" / "hall" / "static"
 KIT = crates.TOP / "examples" / "agents" / "javascript"
 PAGE = ("index.html", "play.css", "words.js", "networks.js", "exercises.js", "tasks.js")
-PAGE += ("replay_data.js", "sharing.js", "fields.js", "play.js")
+PAGE += ("replay_data.js", "sharing.js", "fields.js", "checking.js", "play.js")
 # the scripts of the worker, which is made of their text: a page from a file may load no worker
 WORKER = ("arena.js", "networks.js", "guarded.js", "programs.js", "schedules.js")
 WORKER += ("player.js", "exploring.js", "worker.js")

@@ -47,12 +47,22 @@ function networkNamed(name) {
   if (!KINDS[kind] || !/^\d+(x\d+)?$/.test(sizes || "")) throw new Error(`there is no network ${name}`);
   return KINDS[kind](...sizes.split("x").map(Number));
 }
-// of a network file: what `arena check` has found to be one
+const MOST_NODES = 4096, MOST_AGENTS = 64;
+// of a network file, as far as this page has to read it: `arena check` says what else is wrong
 function networkIn(text) {
   const plain = text.replace(/#[^\n]*/g, ""), nodes = /^\s*nodes\s*=\s*(\d+)/m.exec(plain);
   const links = /^\s*links\s*=\s*(\[[\s\S]*\])/m.exec(plain);
   if (!nodes || !links) throw new Error("a network has `nodes = N` and `links = [[v, p, w, q], ..]`");
-  return { nodes: Number(nodes[1]), links: JSON.parse(links[1].replace(/,\s*\]/g, "]")) };
+  const network = { nodes: Number(nodes[1]), links: linksIn(links[1]) };
+  if (network.nodes > MOST_NODES) throw new Error(`a network has at most ${MOST_NODES} nodes, and this one ${nodes[1]}`);
+  const isEnd = (number) => Number.isInteger(number) && number >= 0 && number < network.nodes;
+  const isLink = (link) => Array.isArray(link) && link.length === 4 && link.every(isEnd);
+  const bad = network.links.findIndex((link) => !isLink(link));
+  if (bad >= 0) throw new Error(`link ${bad} is no [v, p, w, q] of nodes and ports below ${network.nodes}`);
+  return network;
+}
+function linksIn(text) {
+  try { return JSON.parse(text.replace(/,\s*\]/g, "]")); } catch { throw new Error("`links` is no list such as [[0, 0, 1, 1], [1, 0, 2, 1]]"); }
 }
 function farOf({ nodes, links }) {
   const far = range(nodes).map(() => []);

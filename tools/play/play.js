@@ -29,7 +29,7 @@ function clear() {
   byId("watch").hidden = byId("written").hidden = true;
 }
 function setBusy(isBusy) {
-  for (const id of ["play", "explore"]) byId(id).disabled = isBusy;
+  for (const id of ["play", "check", "explore"]) byId(id).disabled = isBusy;
   byId("stop").hidden = !isBusy;
 }
 // a sentence, which leads to its line if it has one
@@ -288,6 +288,7 @@ function showTongue(tongue) {
 }
 
 byId("play").addEventListener("click", () => run(playNow));
+byId("check").addEventListener("click", () => run(checkNow));
 byId("explore").addEventListener("click", () => run(exploreNow));
 byId("stop").addEventListener("click", () => { if (worker) worker.stop(); });
 byId("share").addEventListener("click", share);

@@ -8,15 +8,17 @@ async function fragmentOf(shared) {
   const bytes = new Uint8Array(await new Response(stream).arrayBuffer());
   return btoa(Array.from(bytes, (byte) => String.fromCharCode(byte)).join("")).replace(/\+/g, "-").replace(/\//g, "_").replace(/=+$/, "");
 }
-// What a fragment shares, or null if it shares nothing that this page made.
+// What a fragment shares, or null if it shares nothing that this page made: other files than those of its start, or values
+// that its fields cannot have.
 async function sharedIn(fragment, starts, names) {
   if (fragment.length > MOST_FRAGMENT || !/^[\w-]+$/.test(fragment)) return null;
   try {
     const text = await unpackedText(fragment.replace(/-/g, "+").replace(/_/g, "/"));
     const shared = JSON.parse(text);
     const isText = (value) => typeof value === "string";
-    const isRight = shared.version === 1 && starts.includes(shared.start) && Object.values(shared.files).every(isText)
-      && Object.keys(shared.files).every((name) => /^[\w.-]{1,60}$/.test(name)) && Object.entries(shared.fields).every(([name, value]) => names.includes(name) && isText(value));
+    const isRight = shared.version === 1 && starts.includes(shared.start)
+      && Object.entries(shared.files).every(([name, text]) => Object.hasOwn(textsOf(shared.start), name) && isText(text))
+      && Object.entries(shared.fields).every(([name, value]) => names.includes(name) && isText(value) && fits(name, value));
     return isRight ? shared : null;
   } catch { return null; }
 }
