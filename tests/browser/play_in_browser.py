@@ -7,7 +7,7 @@
 - An agent is checked that is right on one numbering of ports alone.
 - A link is followed in a fresh profile, and runs nothing. A strange one is refused.
 - Agents that never end, print or send without end, or fill the memory are ended.
-- The first three exercises are done.
+- The exercises are done.
 - All at 1200 and 400 pixels, by the keyboard, in three languages, without a network.
 
 Nothing may be requested of another host, and the console must show no error. Screenshots
@@ -67,21 +67,56 @@ STRANGE_FIELDS = (
     ("text", "nodes = 3\nlinks = [[0,0,7000,0]]", "link 0 is no [v, p, w, q]"),
     ("text", "nodes = 3\nlinks = [[0,0,", "`nodes = N` and `links"),
 )
+# exercises, each with the replacements that mend its program; the last one keeps its first program
 EXERCISES = {
-    "1-enter-and-look": (
-        "    // look, leave\n",
-        "    await agent.look();\n    await agent.leave();\n",
-    ),
-    "2-two-answers": (
-        "    // go through port 0, and write there by which port you came\n",
-        "    const next = await agent.depart(0);\n    await agent.write(next.board, String(next.came));\n",
-    ),
-    "3-compare-and-write": (
-        "count += 1) {\n        const now = Number(board) + 1;\n"
-        "        const swap = await agent.write(board, String(now));\n",
-        ") {\n        const swap = await agent.write(board, String(Number(board) + 1));\n"
-        "        if (swap.written) count += 1;\n",
-    ),
+    "1-enter-and-look": {
+        "    // look, leave\n": "    await agent.look();\n    await agent.leave();\n"
+    },
+    "2-two-answers": {
+        "    // go through port 0, and write there by which port you came\n": (
+            "    const next = await agent.depart(0);\n"
+            "    await agent.write(next.board, String(next.came));\n"
+        )
+    },
+    "3-compare-and-write": {
+        "count += 1) {\n        const now": "count += 0) {\n        const now",
+        "        board = swap.board;\n": "        board = swap.board;\n        count += swap.written;\n",
+    },
+    "4-walk-round": {
+        "    // walk round, and count\n": (
+            '    await agent.write("", "home");\n    let next = await agent.depart(0);\n'
+            '    for (; next.board !== "home"; nodes += 1) next = await agent.depart(1 - next.came);\n'
+        ),
+        "agent.write(here.board, String(nodes))": 'agent.write("home", String(nodes))',
+    },
+    "5-two-sides": {
+        "const side = 0;": 'const side = (await agent.write("", "taken")).written ? 0 : 1;'
+    },
+    "6-cautious-step": {
+        "    const there =": (
+            '    if (!(await agent.write("", "gone")).written) return agent.leave();\n'
+            "    const there ="
+        )
+    },
+    "7-triangle": {
+        "    await agent.depart(side);\n    await agent.leave();\n": (
+            "    const there = await agent.depart(side);\n    await agent.depart(there.came);\n"
+            "    await agent.accuse(1 - side);\n"
+        )
+    },
+    "8-why-no-clock": {
+        "        await agent.leave();\n": "        await agent.accuse(1);\n",
+        "        let { board } = swap;\n": "        await agent.depart((await agent.depart(1)).came);\n",
+        'accuse(board === "back" ? 1 : 0)': "accuse(0)",
+        "        for (let looks": "        let board = '';\n        if (false) for (let looks",
+    },
+    "9-every-schedule": {
+        "    while (!swap.written) swap = await agent.write(swap.board, boardOf(safe));\n": (
+            "    while (!swap.written) {\n        const now = safeOn(swap.board);\n        now[side] = mine;\n"
+            "        swap = await agent.write(swap.board, boardOf(now));\n    }\n"
+        )
+    },
+    "10-halves": {},
 }
 NETWORK = "version = 1\nnodes = 3\nlinks = [[0,0,1,0],[1,1,2,0],[2,1,0,1]]\n"
 UNNAMED = """
@@ -366,16 +401,29 @@ def refuses(page: Page, counts: Counts) -> None:
 
 def exercises(page: Page, counts: Counts) -> None:
     """Each exercise fails with its first program and passes with the mended one."""
-    for name, (old, new) in EXERCISES.items():
+    for name, changes in EXERCISES.items():
         page.kit()
         page.choose("start", name)
         state = page.run()
         counts.check(f"{name}, as it begins", state.startswith("\u2717"), state)
-        page.change(old, new)
+        counts.check(f"{name}: what is wrong is told", page.messages() != [])
+        if page.js("return exercise.every"):
+            counts.check(f"{name}: the schedule", "a schedule fails" in state, state)
+        for old, new in changes.items():
+            page.change(old, new)
         state = page.run()
         counts.check(
-            f"{name}, done", state.startswith("\u2713"), (state, page.messages())
+            f"{name}, {'done' if changes else 'still'}",
+            state.startswith("\u2713" if changes else "\u2717"),
+            (state, page.messages()),
         )
+    page.kit()
+    names = page.js(
+        "return EXERCISES.map((one) => [one.name, Boolean(one.title && one.text && one.hint)])"
+    )
+    counts.check(
+        "all exercises are there", names == [[name, True] for name in EXERCISES], names
+    )
 
 
 def is_usable(page: Page, counts: Counts) -> None:

@@ -1,10 +1,26 @@
-// The first three exercises of examples/exercises in JavaScript: their texts, their matches, and what is to be mended in a
-// match that was played.
+// The exercises of examples/exercises in JavaScript: with what one begins, and what is to be mended in a match that was
+// played. Titles, texts and matches are those of the exercises in Python (EXERCISE_TEXTS, which tools/play/folder.py
+// writes), but for texts that name a command of Python.
 "use strict";
 const JOIN = 'const { join } = require("./client");\n\n';
 const MAIN = "\nmain(...process.argv.slice(2)).catch((why) => {\n    console.error(why.message);\n    process.exitCode = 1;\n});\n";
-// the events of a kind that were answered and not refused
-const successes = ({ events }, does) => events.filter((event) => event.do === does && event.reply && event.reply.no === undefined);
+const CAREFUL = KITS.javascript.files["careful.js"];
+// a program of these lines between joining and closing
+const joined = (...lines) => `${JOIN}async function main(host, port, key) {\n    const { agent, here } = await join(host, Number(port), key);\n${lines.map((line) => line && `    ${line}`).join("\n")}\n    agent.close();\n}\n${MAIN}`;
+// how an agent notes what it has found, whatever the other has noted meanwhile
+const HASTY_NOTE = `async function note(agent, side, mine, board) {
+    const safe = safeOn(board);
+    safe[side] = mine;
+    let swap = await agent.write(board, boardOf(safe));
+    while (!swap.written) swap = await agent.write(swap.board, boardOf(safe));
+    return swap.board;
+}
+`;
+const HASTY = CAREFUL.replace(/async function note\([^]*?\n}\n/, () => HASTY_NOTE);
+const MOST_MOVES = 130;
+
+// the events of a kind that were answered and not refused, of an agent or of all
+const successes = ({ events }, does, agent) => events.filter((event) => event.do === does && event.reply && event.reply.no === undefined && [undefined, event.agent].includes(agent));
 const isWritten = ({ do: does, reply }) => does === "write" && reply.ok === "written";
 // the answered events with the nodes of their agents: of a departure the one that it leaves, of an arrival the one that it reaches
 function placedEvents({ events, network, match }) {
@@ -23,13 +39,32 @@ function boardAt(match, place) {
 }
 const accusations = (match) => successes(match, "accuse").slice(0, 1).map(({ agent }) =>
   `agent ${agent} accused a link, and nothing here is about a black hole: agent.leave() ends an agent`);
+const isSolved = ({ verdict }) => verdict.startsWith("solved");
+const lostCount = ({ verdict }) => Number(/lost (\d+)/.exec(verdict)[1]);
+const areAllLost = (match) => lostCount(match) === match.match.agents;
+// for each event the node where its agent then is
+function nodesOf({ events, network, match }) {
+  const far = farOf(network), nodes = Array(match.agents).fill(match.home), ports = [];
+  return events.map(({ do: does, agent, port, reply }) => {
+    if (does === "depart" && reply.ok) ports[agent] = port;
+    if (does === "deliver" && reply) [nodes[agent]] = far[nodes[agent]][ports[agent]];
+    return nodes[agent];
+  });
+}
+const nobodyAccused = "nobody accused: who comes back from its side knows where the black hole is";
+// what a note of another agent has lost by a write: a side of which fewer nodes are safe than stood there
+const hasErased = ({ expect, put }) => expect.split(" ").some((old, side) => Number(old) > Number(put.split(" ")[side]));
+// whether an agent writes again before it does anything else
+function isWrittenAgain({ events }, event) {
+  const after = events.slice(events.indexOf(event) + 1).find((one) => one.agent === event.agent);
+  return Boolean(after) && after.do === "write";
+}
 const EXERCISES = [
   {
-    name: "1-enter-and-look", title: "Enter and look",
+    name: "1-enter-and-look",
     text: "Your agent has entered. Let it look at the home base, and leave. `here.ports` is how many links the node has: print it with console.error if you want to see it.",
     hint: "Two lines: await agent.look() and await agent.leave().",
-    agents: 1, matches: [{ network: "ring:3" }],
-    agent: `${JOIN}async function main(host, port, key) {\n    const { agent, here } = await join(host, Number(port), key);\n    // look, leave\n\n    agent.close();\n}\n${MAIN}`,
+    agent: joined("// look, leave", ""),
     check: (match) => {
       if (!successes(match, "enter").length) return ["your agent never entered: join(host, port, key) is its first command"];
       const looks = placedEvents(match).filter(({ event }) => event.do === "look");
@@ -39,11 +74,10 @@ const EXERCISES = [
     },
   },
   {
-    name: "2-two-answers", title: "A departure is answered twice",
+    name: "2-two-answers",
     text: "A departure is answered at once by `gone`, and again when the agent arrives; `depart` waits for both. Go through port 0. At the next node write on the whiteboard, as a text, the port of that node by which your agent came. Then leave.",
     hint: "const next = await agent.depart(0) gives the second answer: next.came is the port by which the agent came, and next.board is what stands on the whiteboard, which agent.write wants as its first argument.",
-    agents: 1, matches: [{ network: "ring:5", seed: 1 }, { network: "complete:4", scheduler: "slow-links", seed: 2 }, { network: "hypercube:3" }, { network: "torus:3x3" }],
-    agent: `${JOIN}async function main(host, port, key) {\n    const { agent, here } = await join(host, Number(port), key);\n    // go through port 0, and write there by which port you came\n\n    await agent.leave();\n    agent.close();\n}\n${MAIN}`,
+    agent: joined("// go through port 0, and write there by which port you came", "", "await agent.leave();"),
     check: (match) => {
       const [behind, port] = farOf(match.network)[match.match.home][0], departures = successes(match, "depart");
       if (!departures.length) return ["your agent never departed: const next = await agent.depart(0) goes through port 0, and waits until it arrives"];
@@ -61,14 +95,10 @@ const EXERCISES = [
     },
   },
   {
-    name: "3-compare-and-write", title: "Compare and write",
+    name: "3-compare-and-write",
     text: "Two agents count on the whiteboard of the home base. Each adds 1 five times, so that it shows 10 in the end, whoever is faster. Then both leave. The program below loses counts: find out when, and mend it.",
     hint: "write(expect, put) writes only if the whiteboard shows `expect`. Otherwise swap.written is false and swap.board is what stands there: count on from that, and try again.",
-    agents: 2, matches: [
-      { network: "ring:3" }, { network: "ring:3", scheduler: "slow-agents", seed: 1 }, { network: "ring:3", seed: 2 }, { network: "ring:3", scheduler: "oblivious" },
-      { network: "ring:3", seed: 3 }, { network: "ring:3", seed: 4 }, { network: "ring:3", scheduler: "slow-agents", seed: 5 },
-    ],
-    agent: `${JOIN}async function main(host, port, key) {\n    const { agent, here } = await join(host, Number(port), key);\n    let { board } = here;\n    for (let count = 0; count < 5; count += 1) {\n        const now = Number(board) + 1;\n        const swap = await agent.write(board, String(now));\n        board = swap.board;\n    }\n    await agent.leave();\n    agent.close();\n}\n${MAIN}`,
+    agent: joined("let { board } = here;", "for (let count = 0; count < 5; count += 1) {", "    const now = Number(board) + 1;", "    const swap = await agent.write(board, String(now));", "    board = swap.board;", "}", "await agent.leave();"),
     check: (match) => {
       const board = boardAt(match, match.match.home), writes = successes(match, "write").filter(isWritten);
       const jump = writes.find(({ expect, put }) => !/^\d*$/.test(expect) || put !== String(Number(expect) + 1));
@@ -82,4 +112,84 @@ const EXERCISES = [
       return accusations(match);
     },
   },
-];
+  {
+    name: "4-walk-round", agent: joined("let nodes = 1;", "// walk round, and count", "", "await agent.write(here.board, String(nodes));", "await agent.leave();"),
+    check: (match) => {
+      const { nodes } = match.network, moves = successes(match, "depart").length, board = boardAt(match, match.match.home);
+      if (board === String(nodes)) return [];
+      if (!moves) return ["your agent never departed: it cannot count what it has not seen"];
+      if (moves < nodes) return [`your agent made ${moves} moves and wrote '${board}', and the ring has ${nodes} nodes: it was not home again, or took another node for it; a mark on the whiteboard tells`];
+      return [`the whiteboard of the home base shows '${board}', and the ring has ${nodes} nodes: is each counted once, and the number written at home?`];
+    },
+  },
+  {
+    name: "5-two-sides", agent: joined("// which side is this agent's?", "const side = 0;", "await agent.depart(side);", "await agent.leave();"),
+    check: (match) => {
+      const [first, second] = [0, 1].map((agent) => successes(match, "depart", agent)[0]);
+      if (!first || !second) return ["an agent never departed: each goes through one port of the home base"];
+      if (first.port !== second.port) return [];
+      const text = `both agents went through port ${first.port}`, writes = successes(match, "write").length;
+      if (writes + successes(match, "look").length === 0) return [`${text}: their programs are the same, so only the whiteboard can part them`];
+      if (!writes) return [`${text}: they looked, and neither wrote anything`];
+      return [`${text}: both saw the whiteboard before either had written; a write that expects what was seen tells who was first`];
+    },
+  },
+  {
+    name: "6-cautious-step",
+    agent: joined("// go through port 0 and come back, unless somebody is on the way there", "const there = await agent.depart(0);", "const home = await agent.depart(there.came);", 'await agent.write(home.board, "safe");', "await agent.leave();"),
+    check: (match) => {
+      if (!successes(match, "depart").length) return ["no agent went through port 0: one of them has to look"];
+      if (lostCount(match) > 1) return [`${lostCount(match)} agents were lost in the same black hole: before it goes an agent writes so at the home base, and who reads that does not follow`];
+      if (!match.match.holes.includes(1) && boardAt(match, match.match.home) !== "safe") return [`the node behind port 0 is safe, and the home base shows '${boardAt(match, match.match.home)}': who is back writes 'safe' in the place of what it wrote before`];
+      return [];
+    },
+  },
+  {
+    name: "7-triangle", agent: joined('const swap = await agent.write("", "taken");', "const side = swap.written ? 0 : 1;", "await agent.depart(side);", "await agent.leave();"),
+    check: (match) => {
+      if (isSolved(match)) return [];
+      if (areAllLost(match)) return ["both agents were lost: they took the same side"];
+      if (!successes(match, "accuse").length) return [nobodyAccused];
+      const at = match.events.findIndex((event, place) => event.do === "accuse" && event.reply.ok && !isRightAccusation(match.events, match, place));
+      return [`an agent accused port ${match.events[at].port} of node ${nodesOf(match)[at]}, which leads to a safe node: a port means something at its own node alone, and the black hole is on the side from which nobody has come back`];
+    },
+  },
+  {
+    name: "8-why-no-clock",
+    agent: joined('const swap = await agent.write("", "gone");', "if (swap.written) {", "    const there = await agent.depart(0);", "    const home = await agent.depart(there.came);", '    await agent.write(home.board, "back");',
+      "    await agent.leave();", "} else {", "    let { board } = swap;", '    for (let looks = 0; looks < 10 && board !== "back"; looks += 1) ({ board } = await agent.look());', '    await agent.accuse(board === "back" ? 1 : 0);', "}"),
+    check: (match) => {
+      const waiter = successes(match, "accuse").find(({ agent }) => !successes(match, "depart", agent).length);
+      if (waiter) return [`agent ${waiter.agent} accused a port without having gone anywhere: it took an agent for lost that was only slow, or would have; how long one waits tells nothing`];
+      if (isSolved(match)) return [];
+      return [successes(match, "accuse").length ? "an agent accused a safe link: only who comes back knows what is safe" : nobodyAccused];
+    },
+  },
+  {
+    name: "9-every-schedule", agent: HASTY,
+    // schedules are drawn otherwise than in Python: under these the program solves the ring of 8
+    matches: [{ network: "ring:8", seed: 8, holes: [3] }, { network: "ring:8", scheduler: "slow-agents", seed: 2, holes: [6] }, { network: "ring:8", scheduler: "slow-links", seed: 2, holes: [5] }],
+    check: (match) => {
+      if (isSolved(match)) return [];
+      const notes = successes(match, "write").filter((event) => event.expect), erased = notes.find((event) => event.reply.ok === "written" && hasErased(event));
+      if (erased) return [`agent ${erased.agent} writes '${erased.put}' where '${erased.expect}' stands: what the other agent has noted is gone; change your own number alone, in what stands there now`];
+      const forgotten = notes.find((event) => event.reply.ok === "changed" && !isWrittenAgain(match, event));
+      if (forgotten) return [`agent ${forgotten.agent} notes '${forgotten.put}', is answered \`changed\`, and goes on: nobody learns that these nodes are safe; note again until swap.written`];
+      if (areAllLost(match)) return ["both agents were lost: they explored the same side; only one of them may take a side"];
+      return [successes(match, "accuse").length ? "an agent accused a safe link: it has to see first that all nodes but that one are safe" : "nobody accused: who sees that one node is left knows where the black hole is"];
+    },
+  },
+  {
+    name: "10-halves", agent: CAREFUL,
+    check: (match) => {
+      const moves = successes(match, "depart").length, nodes = nodesOf(match);
+      if (isSolved(match) && moves <= MOST_MOVES) return [];
+      if (isSolved(match)) {
+        const returns = match.events.filter((event, at) => event.do === "deliver" && event.reply && nodes[at] === match.match.home).length;
+        return [`your agents made ${moves} moves, and ${MOST_MOVES} are enough: ${returns} times one of them came home; what is marked at the nodes themselves need not be noted at home, and what is left is divided in halves`];
+      }
+      if (areAllLost(match)) return ["both agents were lost: the halves have a node in common, or an agent went into a link in front of which the other had written `going`"];
+      return [successes(match, "accuse").length ? "an agent accused a safe link: only the one node that nobody has explored is the black hole" : "nobody accused: an agent that has explored its half goes on, for the other may be lost; divide what is left, and accuse once that is one node"];
+    },
+  },
+].map((exercise) => ({ ...EXERCISE_TEXTS[exercise.name], ...exercise }));

@@ -36,10 +36,10 @@ function matchOfFields(isSearch, hole) {
   return { network, match, words: argumentsOf(network, home), networkText: isOwnText ? byId("text").value : networkText(network), seed, scheduler: byId("scheduler").value };
 }
 // A match of an exercise.
-function matchOfExercise(exercise, { network: name, scheduler = "fair", seed = 0, holes = [] }) {
-  const network = networkNamed(name);
+function matchOfExercise(exercise, { network: name, scheduler = "fair", seed = 0, holes = [], links }) {
+  const own = networkNamed(name), network = links ? { ...own, links } : own;
   const match = { home: 0, holes, dark: [], held: [], quota: 1000, board: 256, agents: exercise.agents };
-  return { network, match, words: [], networkText: networkText(network), seed, scheduler };
+  return { network, match, words: exercise.isTold ? [network.nodes] : [], networkText: networkText(network), seed, scheduler };
 }
 // the files by which the program reads a match
 const filesOf = (asked) => ({ "tournament.toml": tournamentText(asked.match), "network.toml": asked.networkText });

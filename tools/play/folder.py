@@ -17,6 +17,12 @@ import shutil
 import sys
 from typing import Dict
 
+from arena_lab.course.exercises import (
+    TOLD_COMMAND,
+    Exercise,
+    ExerciseMatch,
+    exercises,
+)
 from arena_lab.pages.page import SCRIPTS
 from arena_lab.pages.parts import fill_page, part
 from tools.port import crates, module
@@ -67,6 +73,29 @@ def kits() -> Dict[str, object]:
     }
 
 
+def exercise_texts() -> Dict[str, object]:
+    """Returns what the exercises in JavaScript have of those in Python, by their names."""
+    return {
+        name: {
+            "title": exercise.title,
+            "text": exercise.text,
+            "hint": exercise.hint,
+            "agents": exercise.agents,
+            "matches": [match_texts(exercise, match) for match in exercise.matches],
+            "isTold": exercise.command == TOLD_COMMAND,
+            "every": exercise.every,
+        }
+        for name, exercise in exercises().items()
+    }
+
+
+def match_texts(exercise: Exercise, match: ExerciseMatch) -> Dict[str, object]:
+    """Returns a match of an exercise; its links if its ports are numbered anew."""
+    setup = exercise.fixture(match).setup
+    links = {} if match.ports is None else {"links": setup.links}
+    return {**match._asdict(), **links}
+
+
 def constants(**values: object) -> str:
     """A script that defines these."""
     lines = [f"const {name} = {json.dumps(value)};" for name, value in values.items()]
@@ -104,7 +133,9 @@ def write(out: pathlib.Path) -> None:
     texts = {
         "arena.wasm.js": constants(ARENA_WASM=base64.b64encode(archive).decode()),
         "worker.text.js": constants(WORKER=worker),
-        "kits.js": constants(KITS=kits(), MODULE_TEXT=MODULE_TEXT),
+        "kits.js": constants(
+            KITS=kits(), MODULE_TEXT=MODULE_TEXT, EXERCISE_TEXTS=exercise_texts()
+        ),
         "replay.html": replay_page(),
     }
     for name, text in texts.items():

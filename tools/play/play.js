@@ -97,11 +97,24 @@ async function playExercise() {
     show(result, task, lacks);
     if (lacks.length || isFaulty(result)) return wrong(`${words.mend} ${count} / ${exercise.matches.length}`);
   }
+  if (exercise.every && !await searchesExercise()) return null;
   const next = EXERCISES[EXERCISES.indexOf(exercise) + 1];
   if (next) say("").append(button(`${words.next}: ${next.title}`, () => { byId("start").value = next.name; begin(); }));
   store({ ...kept(), done: { ...kept().done, [exercise.name]: true } });
   showStarts();
   return right(words.right);
+}
+
+// whether every schedule of the small network of an exercise solves it, with each black hole; shows the first that fails
+async function searchesExercise() {
+  const holes = range(networkNamed(exercise.every).nodes).slice(1);
+  for (const hole of holes) {
+    const task = taskOf(matchOfExercise(exercise, { network: exercise.every, holes: [hole] }));
+    const { status, errors, finding } = await work("explore", task, (told) => progress(hole, holes, told.visited || 0, told.asked || 0));
+    if (!finding) throw new Error(errors.trim().split("\n").pop() || `status ${status}`);
+    if (finding.found !== "solves") { await showCounterexample(finding, task); return false; }
+  }
+  return true;
 }
 
 // every schedule, with one black hole after the other
@@ -150,7 +163,8 @@ async function showCounterexample(finding, task) {
   const turns = [...(finding.schedule || []), ...(finding.round || [])];
   if (finding.schedule) {
     const result = await work("play", { ...task, turns });
-    show(result, task, [`Black hole at node ${task.match.holes}. The turns of the agents: ${turns.join(" ")}.`], 0);
+    const lacks = exercise ? exercise.check({ ...result, network: task.network, match: task.match }) : [];
+    show(result, task, [...lacks, `Black hole at node ${task.match.holes}. The turns of the agents: ${turns.join(" ")}.`], 0);
   }
   wrong(FINDINGS[finding.found](finding));
 }
