@@ -1,6 +1,7 @@
 """Writes a page that shows a match that has ended, or the pages of a contest.
 
     ./arena-lab page REPLAY [--out PAGE] [--twin V] [--program PATH | --engine model]
+    ./arena-lab page REPLAY --link ADDRESS [--program PATH | --engine model]
     ./arena-lab page TOURNAMENT PREFIX --out FOLDER [--again FOLDER] [--program PATH | --engine model]
 
 The page is one HTML file that opens without a network: REPLAY with the ending `.html`,
@@ -9,6 +10,10 @@ program `arena` judges the replay, explains it and makes the twin; a replay that
 refuses is refused here with its line and its status. With --engine model the Python
 model judges and explains, which needs no build of the program and proves nothing; it
 makes no twins.
+
+With --link nothing is written. A link is printed that shows the match on the page of
+ADDRESS, which is `play/index.html` of the site that tools/site builds, or a file of that
+name. The link holds the replay, so that no server has to keep it.
 
 Of a contest, TOURNAMENT is the file that was served, and PREFIX what its --replay
 named: the replay of match M is PREFIXM.jsonl. The folder gets index.html, which has the
@@ -26,7 +31,8 @@ import pathlib
 
 from arena_lab.commands.words import add_engine, program_of
 from arena_lab.pages.contest_pages import BETTER, LAST, Tries, write_pages
-from arena_lab.pages.page import write_page
+from arena_lab.pages.links import replay_link
+from arena_lab.pages.page import data_of, write_page
 
 
 def add_arguments(parser: argparse.ArgumentParser) -> None:
@@ -58,6 +64,11 @@ def add_arguments(parser: argparse.ArgumentParser) -> None:
         help="show the twin whose black hole is node V beside it",
     )
     parser.add_argument(
+        "--link",
+        metavar="ADDRESS",
+        help="print a link to the page that plays in the browser, at this address",
+    )
+    parser.add_argument(
         "--again",
         metavar="FOLDER",
         type=pathlib.Path,
@@ -76,6 +87,14 @@ def add_arguments(parser: argparse.ArgumentParser) -> None:
 
 
 def run(args: argparse.Namespace) -> int:
+    if args.link is not None:
+        if args.prefix or args.out or args.twin is not None or args.again:
+            args.refuse("--link prints a link to one REPLAY, and writes no page")
+        program = program_of(args)
+        # whoever refuses the replay says so before a link is printed
+        data_of(program, args.file, None, "")
+        print(replay_link(args.link, args.file.read_bytes()))
+        return 0
     if args.prefix is None:
         if args.again:
             args.refuse(

@@ -10,6 +10,7 @@ import json
 import pathlib
 from typing import Any, Dict, Iterator, List, NamedTuple, Optional, Sequence, Union
 
+from arena_lab.pages.links import replay_link
 from arena_lab.pages.page import page_of_replay
 from arena_lab.play import kept_matches, referee, schedulers
 from arena_lab.play.agent_files import AgentError, member
@@ -101,6 +102,11 @@ class Record(NamedTuple):
         return page_of_replay(
             self.program, self.match.replay, self.schedule.title(), self.match.refusals
         )
+
+    def link(self, address: str) -> str:
+        """Returns a link that shows the match on the page that plays in the browser,
+        which is at this address: `play/index.html` of the site."""
+        return replay_link(address, self.match.replay)
 
     def keep(self, folder: Union[str, pathlib.Path]) -> List[str]:
         """Writes the schedule, replay and page to a folder, as `--keep` does; returns

@@ -26,6 +26,8 @@ from selenium.webdriver.common.action_chains import ActionChains
 from selenium.webdriver.common.keys import Keys
 from selenium.webdriver.support.ui import WebDriverWait
 
+from arena_lab.pages.links import replay_link
+from arena_lab.support.built import TOP
 from tests.browser.contrast import pale_texts
 from tests.browser.watch_in_browser import browser
 from tests.support.counts import report_counts
@@ -375,6 +377,29 @@ def shares(page: Page, counts: Counts, fresh: Page) -> None:
             fresh.js("return byId('state').textContent") == "",
         )
     refuses(fresh, counts)
+    replays(fresh, counts)
+
+
+def replays(page: Page, counts: Counts) -> None:
+    """A replay in a link is shown, and nothing else of it is taken."""
+    text = (TOP / "examples" / "first0.jsonl").read_bytes()
+    link = replay_link(page.address, text)
+    counts.check("a replay is a short link", len(link) < 2000, len(link))
+    page.open(link[len(page.address) :])
+    page.wait("return byId('state').className !== ''")
+    state = page.js("return byId('state').textContent")
+    counts.check("a replay is judged", state.startswith("\u2713 solved"), state)
+    WebDriverWait(page.driver, SECONDS).until(
+        lambda _: page.replay("return document.querySelectorAll('#eyes option').length")
+        == 3
+    )
+    for strange in (b"", b"x", b'{"nodes":3}\n', text[:-20], text.replace(b"5", b"7")):
+        page.open("#" + replay_link("", strange)[1:])
+        page.wait("return byId('state').className !== ''")
+        state = page.js("return byId('state').textContent")
+        counts.check(
+            f"{strange[:20]!r} is no replay", "this is no replay: " in state, state
+        )
 
 
 def refuses(page: Page, counts: Counts) -> None:

@@ -265,6 +265,14 @@ async function share() {
   const size = `${location.href.length} ${words.characters}`;
   try { await navigator.clipboard.writeText(location.href); byId("shared").textContent = `${words.copied}: ${size}`; } catch { byId("shared").textContent = `${words.in_bar}: ${size}`; }
 }
+// a match that a link holds: the program judges and explains it, and no agent runs
+async function showReplay(replay) {
+  const result = await work("replay", { module, replay });
+  last = result;
+  watch(replayData(words.replay, result), null);
+  say(words.replay_here);
+  (result.verdict.startsWith("solved") ? right : wrong)(result.verdict);
+}
 // Takes what a link holds, and runs nothing of it.
 async function takeLink() {
   if (location.hash.length < 2) return false;
@@ -272,6 +280,12 @@ async function takeLink() {
   if (!shared) {
     byId("saved").textContent = words.bad_link;
     return false;
+  }
+  if (shared.replay !== undefined) {
+    if (STARTS.includes(kept().start)) byId("start").value = kept().start;
+    begin();
+    run(() => showReplay(shared.replay));
+    return true;
   }
   byId("start").value = shared.start;
   for (const [id, value] of Object.entries(shared.fields)) byId(id).value = value;

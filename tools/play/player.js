@@ -16,6 +16,23 @@ function outputOf(module, files, words, input = "") {
   return { status, printed: texts[1], errors: texts[2] };
 }
 
+// what the program says of a replay, and how the page shows it
+function judgedReplay(module, replay) {
+  const files = { "P0.jsonl": replay }, { status, printed, errors } = outputOf(module, files, ["judge", "P0.jsonl"]);
+  if (status) throw new Error(`this is no replay: ${errors.trim()}`);
+  const [head, ...lines] = replay.trim().split("\n").map((line) => JSON.parse(line)), pasts = {};
+  for (const number of range(head.agents)) {
+    const { printed: past } = outputOf(module, files, ["explain", "P0.jsonl", String(number)]);
+    pasts[number] = past.split("\n").filter((line) => /^\d/.test(line)).map((line) => Number(line.split(" ")[0]));
+  }
+  return { replay, events: lines.slice(0, -1), pasts, verdict: printed.trim(), spots: layout(head) };
+}
+// the same of a replay whose agents are not here
+function resultOfReplay(module, replay) {
+  const judged = judgedReplay(module, replay);
+  return { ...judged, sources: judged.events.map(() => null), refusals: [], printed: [], faults: [], hangs: [], turns: [] };
+}
+
 class Player {
   constructor(task, programs, choose) {
     Object.assign(this, { task, choose, far: farOf(task.network), unread: "", errors: "", events: 0, turns: [], refusals: [] });
@@ -128,16 +145,9 @@ class Player {
   }
 
   result(replay) {
-    const { module, network } = this.task, files = { "P0.jsonl": replay };
-    const events = replay.trim().split("\n").slice(1, -1).map((line) => JSON.parse(line));
-    const pasts = {};
-    for (const { number } of this.agents) {
-      const lines = outputOf(module, files, ["explain", "P0.jsonl", String(number)]).printed.split("\n");
-      pasts[number] = lines.filter((line) => /^\d/.test(line)).map((line) => Number(line.split(" ")[0]));
-    }
+    const judged = judgedReplay(this.task.module, replay);
     return {
-      replay, events, pasts, sources: this.sources(events), verdict: outputOf(module, files, ["judge", "P0.jsonl"]).printed.trim(),
-      spots: layout(network), refusals: this.refusals, printed: this.agents.map((agent) => agent.printed),
+      ...judged, sources: this.sources(judged.events), refusals: this.refusals, printed: this.agents.map((agent) => agent.printed),
       faults: this.agents.map((agent) => agent.fault), hangs: this.agents.map((agent) => Boolean(agent.hangs) && !agent.isOver),
       turns: this.turns,
     };

@@ -25,8 +25,8 @@ function work(kind, task, tell = () => {}) {
     }, TICK);
     one.onmessage = ({ data }) => {
       silent = 0;
-      // a search of a module says nothing until it has ended
-      if (data.begun) most = kind === "exploreModule" || kind === "check" ? Infinity : MOST_TICKS;
+      // what runs no program of a stranger says nothing until it has ended
+      if (data.begun) most = ["exploreModule", "check", "replay"].includes(kind) ? Infinity : MOST_TICKS;
       if (data.place) place = data.place;
       if (data.visited || data.asked) tell(data);
       if (data.failed !== undefined) fail(data.failed, { place: data.place });

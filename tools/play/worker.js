@@ -22,6 +22,7 @@ const TASKS = {
     const { status, errors, printed } = outputOf(task.module, files, ["explore", "tournament.toml", "0", "--module", word, ...more]);
     return { status, errors, lines: linesOf(printed) };
   },
+  replay: ({ module, replay }) => resultOfReplay(module, replay),
   check: (task) => outputOf(task.module, task.files, ["check", "tournament.toml"]),
 };
 self.onmessage = async ({ data: { kind, task } }) => {

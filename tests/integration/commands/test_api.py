@@ -13,6 +13,7 @@ from unittest import mock
 import networkx
 
 import arena_lab.api as lab
+from arena_lab.pages.links import replay_link
 from arena_lab.play.agent_files import AgentError
 from arena_lab.rules.engines import BY_MODEL, TOP, EnginesDifferError, name_of
 from arena_lab.rules.networks import NetworkError, of_graph, ring
@@ -305,6 +306,7 @@ class Api(InFolder):
         view = record._repr_html_()
         self.assertTrue(view.startswith('<iframe srcdoc="&lt;!DOCTYPE html&gt;'))
         self.assertNotIn("<script", view)
+        self.assertEqual(record.link("x"), replay_link("x", record.replay.encode()))
         self.assertIn(
             "the Python model played it", "\n".join(record.keep(self.folder / "kept"))
         )
