@@ -14,6 +14,7 @@ from tests import TOP
 from tests.support.output import InTemporary, write
 from tests.test_gate import module
 from tools import site_links
+from tools.play import folder
 
 HAS_BROWSER = shutil.which("chromedriver") and importlib.util.find_spec("selenium")
 site = module(TOP / "tools" / "site")
@@ -125,6 +126,31 @@ class Site(InTemporary):
         self.assertEqual((result.returncode, errors), (0, []))
         return out
 
+    def test_commands_on_a_network_are_followed_by_a_link_to_the_page(self) -> None:
+        text = """Play:
+
+    ./arena-lab run --network ring:8 --runs 3 \\
+        --agent x
+    ./arena-lab run --network ring:99
+
+1. A list
+
+    ./arena-lab run --network ring:8
+
+End.
+"""
+        lines = site_links.with_play_links(text, "../", ["ring:8", "ring:3"])
+        added_lines = [
+            line for line in lines.split("\n") if line not in text.split("\n")
+        ]
+        self.assertEqual(len(added_lines), 1)
+        self.assertLess(lines.index(added_lines[0]), lines.index("1. A list"))
+        self.assertRegex(
+            added_lines[0],
+            r"^\[Open ring:8 in the browser\]\(\.\./play/index\.html#[\w-]+\)$",
+        )
+        self.assertIn("ring:8", folder.networks())
+
     @unittest.skipUnless(has_mkdocs(), "Debian's mkdocs-material is not installed")
     def test_it_is_built_and_each_link_leads_somewhere(self) -> None:
         out = self.built("site", 0o022, TZ="UTC", LC_ALL="C", SOURCE_DATE_EPOCH="1")
@@ -145,6 +171,7 @@ class Site(InTemporary):
             ("api.html", 'id="arena_lab.api.explore"'),
             ("commands.html", "<code>arena-lab page</code>"),
             ("matches/guess0.html", "guess0.jsonl"),
+            ("docs/PROTOCOLS.html", ">Open ring:8 in the browser</a>"),
         ):
             self.assertIn(text, (out / page).read_text(encoding="utf-8"), page)
         if HAS_BROWSER:

@@ -3,9 +3,16 @@ import html.parser
 import pathlib
 import re
 import urllib.parse
-from typing import Dict, Iterator, List, NamedTuple, Set, Tuple
+from typing import Collection, Dict, Iterator, List, NamedTuple, Set, Tuple
+
+from arena_lab.pages.links import fragment_of
 
 LINK = re.compile(r"\]\(([^)\s#]+)")
+# commands behind a paragraph, which belongs to no list
+COMMANDS = re.compile(r"(?m)^(?![-*|]|\d+\.)\S.*\n\n((?:    .*\n)+)")
+NETWORK = re.compile(r"--network ([\w:]+)(?!\S)")
+# where the page on which one writes agents stands in the site
+PLAY = "play/index.html"
 # what a browser requests by itself when it shows a page
 REQUESTING_TAGS = {"img", "script", "link", "iframe", "source"}
 
@@ -18,6 +25,22 @@ def links_of(text: str) -> Iterator[str]:
 def with_links(text: str, new_links: Dict[str, str]) -> str:
     """The text with these links instead."""
     return LINK.sub(lambda match: f"]({new_links.get(match[1], match[1])}", text)
+
+
+def with_play_links(text: str, up: str, networks: Collection[str]) -> str:
+    """The text in which commands on one of these networks are followed by a link that
+    opens it on the page on which one writes agents; `up` leads to the site's top."""
+
+    def link_behind(match: "re.Match[str]") -> str:
+        names = [name for name in NETWORK.findall(match[1]) if name in networks]
+        if not names:
+            return match[0]
+        fields = {"network": names[0]}
+        contents = {"version": 1, "start": "javascript", "files": {}, "fields": fields}
+        address = f"{up}{PLAY}#{fragment_of(contents)}"
+        return f"{match[0]}\n[Open {names[0]} in the browser]({address})\n"
+
+    return COMMANDS.sub(link_behind, text)
 
 
 class Page(html.parser.HTMLParser):
@@ -74,6 +97,9 @@ def fault_of(link: Link, pages: Dict[pathlib.Path, Page]) -> str:
     if not target.is_file():
         return "leads nowhere"
     anchor = urllib.parse.unquote(url.fragment)
+    if target.as_posix().endswith(f"/{PLAY}"):
+        # the page takes what a link holds from its fragment
+        return ""
     if anchor and target in pages and anchor not in pages[target].places:
         return "leads to no heading"
     return ""

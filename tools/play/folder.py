@@ -13,9 +13,10 @@ import hashlib
 import json
 import os
 import pathlib
+import re
 import shutil
 import sys
-from typing import Dict
+from typing import Dict, List
 
 from arena_lab.course.exercises import (
     TOLD_COMMAND,
@@ -54,6 +55,13 @@ def missing() -> str:
     if not CODEMIRROR.is_dir():
         lacking = f"{lacking or 'apt-get install'} libjs-codemirror"
     return lacking
+
+
+def networks() -> List[str]:
+    """Returns the networks of the page's menu."""
+    text = (HERE / "fields.js").read_text(encoding="utf-8")
+    menu = re.search(r"const NETWORKS = \[([^]]*)\]", text)
+    return re.findall(r'"([^"]+)"', menu[1] if menu else "")
 
 
 def kits() -> Dict[str, object]:
