@@ -32,6 +32,7 @@ READABLE = wheel.READABLE
 RUNNABLE = wheel.RUNNABLE
 PROGRAMS = ("arena", "bhs_player")
 RELEASED = {
+    "play/index.html": "writes\n",
     "README.md": "read\n",
     "CHANGELOG.md": "changes\n",
     "docs/THEOREMS.md": "claims\n",
@@ -357,6 +358,8 @@ class DebianPackages(InTemporary):
             gzip.decompress((top / "usr/share/man/man1/arena.1.gz").read_bytes()),
             b"page\n",
         )
+        # the package has this page inside its site
+        self.assertFalse((top / "usr/lib/arena/play").exists())
         text = (top / "DEBIAN/control").read_text()
         for line in (
             "Package: arena\n",

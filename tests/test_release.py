@@ -22,6 +22,7 @@ from tests import TOP, needs
 from tests.support.output import run_call, write
 from tests.test_gate import module
 from tools import packages
+from tools.pack import wheel
 from tools.prove import prover, version
 
 release = module(TOP / "tools" / "release")
@@ -47,6 +48,7 @@ FILES = {
 }
 
 # stands for tools/site, which tests/test_site.py has built twice
+PLAY_PAGE = {"play/index.html": wheel.File(b"a page", wheel.READABLE)}
 SITE = """
 import pathlib, sys
 text = (pathlib.Path(__file__).parents[1] / "README.md").read_text()
@@ -94,6 +96,7 @@ class Repositories(unittest.TestCase):
                     "KIT": kit,
                     "SITE": site,
                     "proved_program": lambda _: self.proved,
+                    "play_page": lambda: dict(PLAY_PAGE),
                 },
             ),
             (prover, {"CRATES": crates, "KIT": kit}),
@@ -161,6 +164,7 @@ class Releases(Repositories):
                     "bin/bhs_player",
                     "bin/ring",
                     "docs/THEOREMS.md",
+                    "play/index.html",
                     "examples/agents/ring.c",
                     "examples/contest.py",
                     "arena_lab/support/built.py",
@@ -210,7 +214,7 @@ class Releases(Repositories):
         subprocess.run(
             ["sha256sum", "--quiet", "-c", "SHA256SUMS"], cwd=folder / NAME, check=True
         )
-        self.assertEqual((folder / NAME / "SHA256SUMS").read_text().count("\n"), 15)
+        self.assertEqual((folder / NAME / "SHA256SUMS").read_text().count("\n"), 16)
 
     def test_two_archives_of_one_commit_are_alike(self) -> None:
         archive = self.top / "out" / "release" / f"{NAME}.tar.gz"

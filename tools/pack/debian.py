@@ -13,6 +13,8 @@ from tools.pack.wheel import READABLE, RUNNABLE, File, Files
 HOME = "usr/lib/arena/"
 DOCUMENTS = "usr/share/doc/arena/"
 SITE = DOCUMENTS + "html/"
+# the page on which one writes agents, in an archive
+PLAY = "play/"
 # files installed in the documents' folder instead of the program's
 DOCUMENT_FILES = ("README.md", "CHANGELOG.md", "docs/")
 # what leads elsewhere
@@ -83,7 +85,8 @@ def files_of(
     package_files = {
         (DOCUMENTS if path.startswith(DOCUMENT_FILES) else HOME) + path: file
         for path, file in files.items()
-        if path != "SHA256SUMS"
+        # the site has the page on which one writes agents
+        if path != "SHA256SUMS" and not path.startswith(PLAY)
     }
     for name in ("PROVED.txt", "UNPROVED.txt"):
         if name in files:
