@@ -23,6 +23,7 @@ from tests.support.output import run_call, write
 from tests.test_gate import module
 from tools import packages
 from tools.pack import wheel
+from tools.port.module import PACKAGES
 from tools.prove import prover, version
 
 release = module(TOP / "tools" / "release")
@@ -87,6 +88,7 @@ class Repositories(unittest.TestCase):
         )
         crates = self.top / "crates"
         kit = self.top / "kit"
+        self.play_page = release.play_page
         site = write(self.top / "out" / "site.py", SITE)
         for owner, result in (
             (
@@ -273,6 +275,15 @@ class Releases(Repositories):
         page = self.top / "there" / release.debian.SITE / "docs" / "index.html"
         self.assertEqual(page.read_text(), "read\n")
 
+    def test_without_the_page_of_the_browser_there_is_no_release(self) -> None:
+        with unittest.mock.patch.object(
+            release.play, "missing", lambda: "apt-get install rustc"
+        ), unittest.mock.patch.object(release, "play_page", self.play_page):
+            self.assertIn(
+                "release: the page on which one writes agents cannot be made: apt-get install rustc\n",
+                self.make_release(status=1)[1],
+            )
+
     def test_without_the_site_there_is_no_release(self) -> None:
         write(self.top / "out" / "site.py", "raise SystemExit(1)")
         self.assertIn(
@@ -420,5 +431,6 @@ class SourcePackage(unittest.TestCase):
             name for name in packages.package_names("gate") if name.startswith("mkdocs")
         }
         pages = {missing.PACKAGES[need] for need in COMMANDS["page"].needs}
+        browser = {*PACKAGES.split(), "libjs-codemirror"}
         rest = {"binutils", "git", "libc6-dev", "python3"}
-        self.assertEqual(needs, site | pages | rest)
+        self.assertEqual(needs, site | pages | browser | rest)
