@@ -5,6 +5,7 @@
 - The kit is played under every schedule that the page has, and every schedule is tried.
 - A wrong agent is written: its line is marked, a schedule that fails is found and shown.
 - An agent is checked that is right on one numbering of ports alone.
+- A module is played, searched and checked.
 - A link is followed in a fresh profile, and runs nothing. A strange one is refused.
 - Agents that never end, print or send without end, or fill the memory are ended.
 - The exercises are done.
@@ -319,6 +320,27 @@ def checks(page: Page, counts: Counts) -> None:
     )
 
 
+def modules(page: Page, counts: Counts) -> None:
+    """A module that was built elsewhere is played, searched and checked; a file that is
+    none is refused."""
+    page.kit()
+    page.choose("start", "module")
+    state = page.run()
+    counts.check("without a file", "module (.wasm)?" in state, state)
+    upload = page.driver.find_element("id", "file")
+    upload.send_keys(str(TOP / "examples" / "triangle.toml"))
+    page.wait("return byId('file-name').textContent !== ''")
+    state = page.run()
+    counts.check("a file that is no module", state.startswith("\u2717"), state)
+    upload.send_keys(str(TOP / "examples" / "agents" / "wasm" / "ring.wasm"))
+    page.wait("return byId('file-name').textContent.startsWith('ring.wasm')")
+    for small, button in (("", "play"), ("ring:4", "explore"), ("", "check")):
+        if small:
+            page.choose("small", small)
+        state = page.run(button)
+        counts.check(f"a module: {button}", state.startswith("\u2713"), state)
+
+
 def ends(page: Page, counts: Counts) -> None:
     """Programs that never end, and that fill what they can."""
     for name, text in ENDLESS.items():
@@ -557,6 +579,7 @@ def main() -> int:
             plays(page, counts)
             fails(page, counts)
             checks(page, counts)
+            modules(page, counts)
             time.sleep(1)
             page.driver.save_screenshot(str(shots / "play-1200.png"))
             ends(page, counts)
