@@ -43,11 +43,12 @@ def check_answer(
     agent: AgentWords,
     program: Optional[str] = None,
     seconds: float = SECONDS,
+    may_run_inside: bool = False,
 ) -> Answer:
     """Plays the matches of an exercise up to the first mistake. If there is none, and the
     exercise asks for it, tries every schedule until `seconds` are over, matches
-    included. Without a program the Python model plays, and the search plays the agent
-    inside the lab."""
+    included. Without a program the Python model plays. Its search needs agents inside
+    this process, which only who runs a program of one's own may allow."""
     until = time.monotonic() + seconds
     records: List[Record] = []
     for match in exercise.matches:
@@ -61,7 +62,9 @@ def check_answer(
     )
     if lines or not exercise.every:
         return Answer(records[-1], lines)
-    failure, lines = every_schedule(exercise, agent, program, until)
+    is_inside = may_run_inside and not program
+    inside = script_agent(exercise.is_told()) if is_inside else None
+    failure, lines = every_schedule(exercise, agent, program, until, inside)
     return Answer(failure or records[-1], lines)
 
 
@@ -87,19 +90,23 @@ def played_outside(record: Record, agent: AgentWords) -> Record:
 
 
 def every_schedule(
-    exercise: Exercise, agent: AgentWords, program: Optional[str], until: float
+    exercise: Exercise,
+    agent: AgentWords,
+    program: Optional[str],
+    until: float,
+    inside: Optional[AgentWords] = None,
 ) -> Tuple[Optional[Record], List[str]]:
     """Tries every schedule of the exercise's network, with each black hole, until this
-    time: the match of a schedule that fails, and what is to be mended."""
+    time, by the agent `inside` the lab if there is one: the match of a schedule that
+    fails, and what is to be mended."""
     of_all = f"every schedule of {exercise.every}"
     alarm = Alarm(CheckBudget(max(0.0, until - time.monotonic())))
-    explored_agent = agent if program else script_agent(exercise.is_told())
     silence = contextlib.ExitStack()
     silence.enter_context(contextlib.redirect_stderr(io.StringIO()))
     silence.enter_context(contextlib.redirect_stdout(io.StringIO()))
     try:
         with alarm, silence:
-            games = games_of(exercise, explored_agent)
+            games = games_of(exercise, inside or agent)
             result: Any = api.explore_games(
                 games, MAX_STATES, program or MODEL, check=CHECKED_SAMPLES
             )
@@ -110,7 +117,7 @@ def every_schedule(
             raise
         result = None
     if result is not None and result.fails and result.worst is not None:
-        record = result.worst if program else played_outside(result.worst, agent)
+        record = played_outside(result.worst, agent) if inside else result.worst
         where = f"under a schedule of {exercise.every}"
         lines = to_mend(exercise, record) or [str(record.judge())]
         return record, [f"{lines[0]} ({where})", *lines[1:]]

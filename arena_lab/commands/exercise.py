@@ -81,7 +81,7 @@ def check(exercise: Exercise, folder: pathlib.Path, keep: pathlib.Path) -> int:
     """Checks what stands in a folder."""
     agent = AgentWords(OUTSIDE, exercise.command)
     with contextlib.chdir(folder):
-        answer = check_answer(exercise, agent)
+        answer = check_answer(exercise, agent, may_run_inside=True)
     if not answer.lines:
         print(exercise.praise())
         return 0

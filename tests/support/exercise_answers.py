@@ -75,7 +75,7 @@ def findings(exercise: Exercise, agent: str) -> List[str]:
     """Returns what the check of an exercise finds to mend in a program, which is played
     by the model of the lab."""
     with answer_folder(exercise, agent) as words:
-        return check_answer(exercise, words).lines
+        return check_answer(exercise, words, may_run_inside=True).lines
 
 
 def records(exercise: Exercise, agent: str) -> List[Record]:

@@ -112,7 +112,21 @@ class Exercises(InTemporary):
     def answer(self, exercise: Exercise, **extra: Any) -> Answer:
         """Checks the program in the folder."""
         words = exercise.command.replace("python3", sys.executable)
+        extra = {"may_run_inside": True, **extra}
         return check_answer(exercise, AgentWords(OUTSIDE, words), **extra)
+
+    def test_no_program_runs_in_a_process_that_does_not_allow_it(self) -> None:
+        """The process of a trial in a hall has no sandbox of its own."""
+        exercise = exercises.read_exercise("9-every-schedule")
+        agent = (exercise.folder / exercise.paths[1]).read_text(encoding="utf-8")
+        note = "import os\nopen(f'{os.getpid()}.pid', 'w').close()\n"
+        (self.folder / exercises.AGENT).write_text(note + agent, encoding="utf-8")
+        lines = self.answer(exercise, may_run_inside=False).lines
+        self.assertIn("cannot be tried", lines[0])
+        self.assertFalse((self.folder / f"{os.getpid()}.pid").exists())
+        self.assertGreater(len(list(self.folder.glob("*.pid"))), 0)
+        self.answer(exercise)
+        self.assertTrue((self.folder / f"{os.getpid()}.pid").exists())
 
     def test_they_are_in_order_and_whole(self) -> None:
         result = exercises.exercises()
