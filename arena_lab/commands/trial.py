@@ -60,7 +60,7 @@ from arena_lab.play.teams import OUTSIDE, AgentWords
 from arena_lab.sandbox import calls, isolation
 from arena_lab.sandbox.isolation import CellError
 from arena_lab.sandbox.own_sandboxes import OwnSandboxes
-from arena_lab.sandbox.sandboxes import Isolation, SandboxOptions
+from arena_lab.sandbox.sandboxes import MAX_PROCESSES, Isolation, SandboxOptions
 from arena_lab.support.faults import ArenaError
 
 STEPS = {CHECK: (check.matches, check.draw_few), EXPLORE: (check.every,)}
@@ -103,6 +103,8 @@ class TrialRequest(NamedTuple):
     line: int
     isolation: str
     program: Optional[str]
+    nice: int = 0
+    processes: int = MAX_PROCESSES
 
 
 class TriedProgram:
@@ -116,7 +118,9 @@ class TriedProgram:
     def agent(self, handed_in: HandIn) -> AgentWords:
         """An agent that runs these files in a sandbox."""
         words = self.asked.command
-        options = SandboxOptions(Isolation[self.asked.isolation])
+        options = SandboxOptions(
+            Isolation[self.asked.isolation], processes=self.asked.processes
+        )
         files_in = functools.partial(files_of, handed_in, words)
         return AgentWords(OUTSIDE, words, ground=OwnSandboxes(options, files_in))
 
@@ -358,6 +362,8 @@ def end(folder: pathlib.Path, temporary: str, parent: int) -> NoReturn:
             os.dup2(stream, descriptor)
             os.close(stream)
         os.dup2(1, 2)
+        # gradings are not kept waiting
+        os.nice(read_request(folder).nice)
         try_in(folder)
         status = 0
     except BaseException as fault:

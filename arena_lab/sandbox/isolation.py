@@ -91,9 +91,6 @@ def words(tools: Sequence[str], has_proc: bool, root: str = "") -> List[str]:
         "--setenv",
         "TMPDIR",
         "/tmp",
-        "--setenv",
-        "COUNTED",
-        "yes",
     ]
     command += [
         *disk_words(root),

@@ -65,8 +65,13 @@ SECONDS_TO_BEGIN = 60
 PACKAGES = "apt-get install bubblewrap python3-seccomp"
 # an archive of no files
 NOTHING = bytes(tarfile.RECORDSIZE)
+# processes of a program at a time, with their threads where the system counts them; and
+# those of its sandbox itself
+MAX_PROCESSES = 256
+SANDBOX_PROCESSES = 4
+TOO_MANY = "has started more than {} processes"
 # pattern of last words at a resource limit -> advice
-THREADS = "a program may have 256 processes and threads"
+THREADS = "a program may have {processes} processes and threads"
 HINTS = {
     "can't start new thread": THREADS,
     "unable to create native thread": THREADS,
@@ -107,7 +112,7 @@ class SandboxOptions(NamedTuple):
     """Options shared by sandboxes: the `isolation`; folders visible besides the
     system's (`tools`), and /proc if `has_proc`; `root`, the copy of the system, or "";
     system calls allowed besides those of the language (`calls`); `groups`, the folder
-    of control groups, or ""."""
+    of control groups, or ""; how many `processes` a program may have at a time."""
 
     isolation: Isolation
     tools: Tuple[str, ...] = ()
@@ -115,6 +120,7 @@ class SandboxOptions(NamedTuple):
     root: str = ""
     calls: Tuple[str, ...] = ()
     groups: str = ""
+    processes: int = MAX_PROCESSES
 
 
 class ProgramFiles(NamedTuple):
@@ -171,6 +177,7 @@ class Sandbox:
                     self.options.tools, self.options.has_proc, self.options.root
                 )
                 command += ["--seccomp", str(descriptors[-1])]
+                command += ["--setenv", "COUNTED", str(self.options.processes)]
             command += [
                 python(),
                 "-I",
@@ -191,7 +198,10 @@ class Sandbox:
                 stdout=subprocess.DEVNULL,
                 stderr=errors,
                 cwd=self.place,
-                env={"PATH": path, "COUNTED": "" if self.user is None else "yes"},
+                env={
+                    "PATH": path,
+                    "COUNTED": "" if self.user is None else str(self.options.processes),
+                },
                 start_new_session=True,
             )
         return child, functools.partial(self._listener_of, child, ours, errors)
@@ -275,6 +285,7 @@ class Sandbox:
     def hint(self, words: str) -> str:
         """Returns advice suggested by a program's last words."""
         hint = next((hint for pattern, hint in HINTS.items() if pattern in words), "")
+        hint = hint.format(processes=self.options.processes)
         if not hint and self.place is None and NO_CALL.search(words):
             hint = A_CALL.format(
                 language="a program" if self._language == calls.ANY else self._language
@@ -287,20 +298,21 @@ class Sandbox:
             self._fault = TOO_MUCH
         return self._fault
 
-    def takes_too_much(self) -> bool:
-        """Returns whether the program exceeds its memory limit; in a cgroup the kernel
-        enforces it."""
-        return (
-            self._group.has_met_its_bound()
-            if self._group
-            else self.memory_used() > watch.MAX_MEMORY
-        )
-
-    def memory_used(self) -> int:
-        """The bytes of memory that the program takes."""
+    def excess(self) -> str:
+        """Returns of what the program takes too much, or "". In a control group the
+        kernel bounds its memory."""
+        if self._group and self._group.has_met_its_bound():
+            return TOO_MUCH
         if self._child is None or self._child.returncode is not None:
-            return 0
+            return ""
         running = processes.below(self._child.pid)
+        if len(running) > self.options.processes + SANDBOX_PROCESSES:
+            return TOO_MANY.format(self.options.processes)
+        has_all = not self._group and self.memory_used(running) > watch.MAX_MEMORY
+        return TOO_MUCH if has_all else ""
+
+    def memory_used(self, running: Sequence[int]) -> int:
+        """The bytes of memory that the program takes, which has these processes."""
         inside = running[1:2] if self.place is None else []
         spaces = [
             space_of(f"/proc/{first}/root{path}") for first in inside for path in SPACES
@@ -354,7 +366,7 @@ def sandboxes_for(
             )
         stack.enter_context(
             MemoryWatch(
-                [sandbox.takes_too_much for sandbox in sandboxes],
+                [sandbox.excess for sandbox in sandboxes],
                 [sandbox.end_for for sandbox in sandboxes],
             )
         )

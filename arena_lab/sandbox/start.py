@@ -17,15 +17,13 @@ from typing import List, NoReturn
 HOST = "127.0.0.1"
 READY = b"ready"
 GO = b"go"
-# bytes of a file, bytes of memory, bytes of addresses, open files, processes with their
-# threads
+# bytes of a file, bytes of memory, bytes of addresses, open files
 LIMITS = {
     resource.RLIMIT_CORE: 0,
     resource.RLIMIT_FSIZE: 64 << 20,
     resource.RLIMIT_DATA: 2 << 30,
     resource.RLIMIT_AS: 256 << 30,
     resource.RLIMIT_NOFILE: 256,
-    resource.RLIMIT_NPROC: 256,
 }
 NO_FIRST_LINE = "it is no program of this machine; a script's first line says what runs it, such as #!/bin/sh"
 # bytes of a script's first line that the kernel looks at
@@ -37,12 +35,15 @@ AHEAD = 4 << 20
 
 def limit() -> None:
     """Sets the resource limits of the program. Users with a name have other processes,
-    so their process limit is not set."""
-    for kind, limit in LIMITS.items():
+    so their process limit is not set: COUNTED is empty then, and else this limit."""
+    limits = dict(LIMITS)
+    process_limit = os.environ.get("COUNTED")
+    if process_limit:
+        limits[resource.RLIMIT_NPROC] = int(process_limit)
+    for kind, limit in limits.items():
         hard = resource.getrlimit(kind)[1]
         least = limit if hard == resource.RLIM_INFINITY else min(limit, hard)
-        if kind != resource.RLIMIT_NPROC or os.environ.get("COUNTED"):
-            resource.setrlimit(kind, (least, least))
+        resource.setrlimit(kind, (least, least))
 
 
 def unpack(files: int) -> None:

@@ -35,9 +35,9 @@ class MemoryWatch:
     own call."""
 
     def __init__(
-        self, looks: Sequence[Callable[[], bool]], ends: Sequence[Callable[[str], None]]
+        self, looks: Sequence[Callable[[], str]], ends: Sequence[Callable[[str], None]]
     ) -> None:
-        """The first say of each program whether it takes too much."""
+        """The first say of each program of what it takes too much, or nothing."""
         self._looks = looks
         self._ends = ends
         self._is_over = threading.Event()
@@ -53,10 +53,10 @@ class MemoryWatch:
 
     def _look(self) -> None:
         while not self._is_over.wait(EVERY):
-            for takes_too_much, end in zip(self._looks, self._ends):
+            for excess, end in zip(self._looks, self._ends):
                 with contextlib.suppress(OSError):
-                    if takes_too_much():
-                        end(TOO_MUCH)
+                    if fault := excess():
+                        end(fault)
 
 
 def memory_of(processes: Sequence[int]) -> int:

@@ -29,8 +29,9 @@ from arena_lab.hall.drafts.forking import trial_in
 from arena_lab.hall.drafts.kits import WrittenKit, exercise_of, kit_of
 from arena_lab.hall.drafts.models import Draft, Trial
 from arena_lab.hall.handins.windows import window_of
-from arena_lab.hall.place import write_whole
+from arena_lab.hall.place import OWNER, write_whole
 from arena_lab.hall.steps import Lease, Stages, WorkLostError, do_in_folder, step
+from arena_lab.hall.teams.models import Team
 from arena_lab.rules import draws
 from arena_lab.sandbox import sandboxes
 from arena_lab.support import fields
@@ -43,6 +44,9 @@ MAX_RESULT = 1 << 20
 # has stopped it
 LOOK = 0.05
 ASKS = 0.7
+# gradings and the hall come first on a busy processor, then members of teams, then guests
+MEMBERS_SHARE = {"nice": 5, "processes": sandboxes.MAX_PROCESSES}
+GUESTS_SHARE = {"nice": 19, "processes": 64}
 # what a check plays if nothing is handed in
 DEFAULT_CONDITIONS: Dict[str, Any] = {
     "holes": 1,
@@ -83,8 +87,16 @@ def prepare(work: Trial, folder: pathlib.Path) -> None:
         # what is possible here is tried out once by each worker
         "isolation": sandboxes.strongest().name,
         "program": settings.PLACE.program,
+        **share_of(work.team),
     }
     write_whole(folder / REQUEST_FILE, json.dumps(request))
+
+
+def share_of(team: Team) -> Dict[str, int]:
+    """Returns how nice the trials of a team are, and how many processes a program may
+    have. Who has begun `arena-lab try` is no stranger there."""
+    is_stranger = team.is_guest and not (settings.PLACE.folder / OWNER).exists()
+    return GUESTS_SHARE if is_stranger else MEMBERS_SHARE
 
 
 def seconds_of(work: Trial) -> int:

@@ -215,7 +215,7 @@ class TestPrograms(Fake):
             self.assertEqual((position / "memory.max").read_text(), str(200 << 20))
             (position / "memory.events").write_text(ENDED)
             self.assertEqual(
-                (made[0].takes_too_much(), made[0].fault()), (True, watch.TOO_MUCH)
+                (made[0].excess(), made[0].fault()), (watch.TOO_MUCH, watch.TOO_MUCH)
             )
         self.assertEqual(list(self.own.glob("arena-*")), [])
 

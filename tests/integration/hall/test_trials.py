@@ -3,13 +3,14 @@ which lines; programs that hang, flood and attack; and trials that are stopped."
 import contextlib
 import json
 import os
+import pathlib
 import shutil
 import signal
 import subprocess
 import sys
 import time
 import unittest
-from typing import Any, Dict
+from typing import Any, Dict, Iterator, Set
 from unittest import mock
 
 from tests.integration.hall.test_drafts import RULES, DraftFile
@@ -22,6 +23,7 @@ from arena_lab.hall import machine, worker
 from arena_lab.hall.drafts import forking, kits, playing
 from arena_lab.hall.drafts.models import Trial
 from arena_lab.hall.steps import claim_work, step
+from arena_lab.hall.teams.models import Team
 from arena_lab.play.agent_files import AGENTS
 from arena_lab.sandbox import processes, sandboxes
 from arena_lab.support.built import TOP
@@ -95,6 +97,12 @@ with forking.trial_in(pathlib.Path(sys.argv[2])) as has_ended:
     print("forked", flush=True)
     while not has_ended(60): pass
 """
+# starts more and more processes
+SPINS = """import sys, os, time
+for _ in range(200):
+    if os.fork() == 0:
+        time.sleep(60)
+"""
 FLOOD = """import sys
 while True:
     sys.stderr.write("x" * 100_000 + "\\n")
@@ -124,6 +132,49 @@ class Tried(DraftFile):
         self.assertEqual((trial.state, trial.fault), (machine.OVER, ""))
         results: Dict[str, Any] = trial.found
         return results
+
+
+class Shares(Tried):
+    """Trials stand behind gradings, those of guests behind those of members."""
+
+    def niceness_of(self, agent: str) -> Set[int]:
+        """How nice the processes of a trial are."""
+        values: Set[int] = set()
+
+        @contextlib.contextmanager
+        def watched_trial(folder: pathlib.Path) -> Iterator[Any]:
+            with forking.trial_in(folder) as has_ended:
+                server = forking.FORK_SERVER._child
+                assert server is not None
+
+                def look(seconds: float) -> bool:
+                    for process in processes.below(server.pid)[1:]:
+                        with contextlib.suppress(ProcessLookupError):
+                            values.add(os.getpriority(os.PRIO_PROCESS, process))
+                    return has_ended(seconds)
+
+                yield look
+
+        with mock.patch.object(playing, "trial_in", watched_trial):
+            self.run_trial(agent)
+        return values
+
+    def test_who_is_nice(self) -> None:
+        before = os.getpriority(os.PRIO_PROCESS, 0)
+        for is_guest, nice in ((False, 5), (True, 19)):
+            Team.objects.filter(name="amber").update(is_guest=is_guest)
+            values = self.niceness_of(CAREFUL)
+            self.assertEqual(max(values), min(19, before + nice), values)
+
+    def test_how_many_processes_a_program_of_a_guest_has(self) -> None:
+        """A fork is refused, or the program ended, as the machine allows."""
+        Team.objects.filter(name="amber").update(is_guest=True)
+        spins = CAREFUL.replace("import sys\n", SPINS, 1)
+        for bound in (sandboxes.MAX_PROCESSES, 0):
+            with mock.patch.object(sandboxes, "SANDBOX_PROCESSES", bound):
+                report = self.report_of(spins)
+            self.assertFalse(report["right"])
+            self.assertIn("64 processes", " ".join(report["said"]))
 
 
 class Found(Tried):
