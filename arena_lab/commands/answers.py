@@ -17,6 +17,7 @@ from arena_lab.play.schedules import schedule_of
 from arena_lab.play.teams import DRAWS, AgentWords, Game
 from arena_lab.rules import draws, networks
 from arena_lab.rules.engines import MODEL
+from arena_lab.rules.networks import Network
 from arena_lab.search.history_tree import NoFunctionError
 
 # seconds for a line, and the beginning of the fault of an agent whose first line was
@@ -135,8 +136,12 @@ def games_of(exercise: Exercise, agent: AgentWords) -> List[Game]:
     network = networks.network_named(exercise.every)
     agents = [agent] * exercise.agents
     game = Game(exercise.every, network, agents, limit=LINE)
-    numberings = draws.numberings(network, exercise.numberings, range(DRAWS))
-    return [game._replace(ports=ports) for ports in numberings]
+    return [game._replace(ports=ports) for ports in numberings_of(exercise, network)]
+
+
+def numberings_of(exercise: Exercise, network: Network) -> List[int]:
+    """Returns the seeds by which the ports of the exercise's network are numbered."""
+    return draws.numberings(network, exercise.numberings, range(DRAWS))
 
 
 def to_mend(exercise: Exercise, record: Record) -> List[str]:

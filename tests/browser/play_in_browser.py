@@ -8,7 +8,7 @@
 - A module is played, searched and checked.
 - A link is followed in a fresh profile, and runs nothing. A strange one is refused.
 - Agents that never end, print or send without end, or fill the memory are ended.
-- The exercises are done.
+- The exercises are done, and wrong answers are not called right.
 - All at 1200 and 400 pixels, by the keyboard, in three languages, without a network.
 
 Nothing may be requested of another host, and the console must show no error. Screenshots
@@ -30,6 +30,7 @@ from selenium.webdriver.support.ui import WebDriverWait
 from arena_lab.pages.links import replay_link
 from arena_lab.support.built import TOP
 from tests.browser.contrast import pale_texts
+from tests.browser.play_answers import EXERCISES, WRONG_ANSWERS
 from tests.browser.watch_in_browser import browser
 from tests.support.counts import report_counts
 from tools.play import folder
@@ -70,57 +71,6 @@ STRANGE_FIELDS = (
     ("text", "nodes = 3\nlinks = [[0,0,7000,0]]", "link 0 is no [v, p, w, q]"),
     ("text", "nodes = 3\nlinks = [[0,0,", "`nodes = N` and `links"),
 )
-# exercises, each with the replacements that mend its program; the last one keeps its first program
-EXERCISES = {
-    "1-enter-and-look": {
-        "    // look, leave\n": "    await agent.look();\n    await agent.leave();\n"
-    },
-    "2-two-answers": {
-        "    // go through port 0, and write there by which port you came\n": (
-            "    const next = await agent.depart(0);\n"
-            "    await agent.write(next.board, String(next.came));\n"
-        )
-    },
-    "3-compare-and-write": {
-        "count += 1) {\n        const now": "count += 0) {\n        const now",
-        "        board = swap.board;\n": "        board = swap.board;\n        count += swap.written;\n",
-    },
-    "4-walk-round": {
-        "    // walk round, and count\n": (
-            '    await agent.write("", "home");\n    let next = await agent.depart(0);\n'
-            '    for (; next.board !== "home"; nodes += 1) next = await agent.depart(1 - next.came);\n'
-        ),
-        "agent.write(here.board, String(nodes))": 'agent.write("home", String(nodes))',
-    },
-    "5-two-sides": {
-        "const side = 0;": 'const side = (await agent.write("", "taken")).written ? 0 : 1;'
-    },
-    "6-cautious-step": {
-        "    const there =": (
-            '    if (!(await agent.write("", "gone")).written) return agent.leave();\n'
-            "    const there ="
-        )
-    },
-    "7-triangle": {
-        "    await agent.depart(side);\n    await agent.leave();\n": (
-            "    const there = await agent.depart(side);\n    await agent.depart(there.came);\n"
-            "    await agent.accuse(1 - side);\n"
-        )
-    },
-    "8-why-no-clock": {
-        "        await agent.leave();\n": "        await agent.accuse(1);\n",
-        "        let { board } = swap;\n": "        await agent.depart((await agent.depart(1)).came);\n",
-        'accuse(board === "back" ? 1 : 0)': "accuse(0)",
-        "        for (let looks": "        let board = '';\n        if (false) for (let looks",
-    },
-    "9-every-schedule": {
-        "    while (!swap.written) swap = await agent.write(swap.board, boardOf(safe));\n": (
-            "    while (!swap.written) {\n        const now = safeOn(swap.board);\n        now[side] = mine;\n"
-            "        swap = await agent.write(swap.board, boardOf(now));\n    }\n"
-        )
-    },
-    "10-halves": {},
-}
 NETWORK = "version = 1\nnodes = 3\nlinks = [[0,0,1,0],[1,1,2,0],[2,1,0,1]]\n"
 UNNAMED = """
 const controls = [...document.querySelectorAll('button, select, input, textarea, iframe')];
@@ -232,7 +182,7 @@ def plays(page: Page, counts: Counts) -> None:
         lambda _: page.replay("return document.querySelectorAll('#eyes option').length")
         == 3
     )
-    for scheduler in ("slow-agents", "slow-links", "last-departed", "oblivious"):
+    for scheduler in page.js("return SCHEDULERS"):
         page.choose("scheduler", scheduler)
         state = page.run()
         counts.check(scheduler, state.startswith("\u2713 solved"), state)
@@ -454,7 +404,8 @@ def exercises(page: Page, counts: Counts) -> None:
         state = page.run()
         counts.check(f"{name}, as it begins", state.startswith("\u2717"), state)
         counts.check(f"{name}: what is wrong is told", page.messages() != [])
-        if page.js("return exercise.every"):
+        # the first program of this one is right in the matches that are played
+        if name == "9-every-schedule":
             counts.check(f"{name}: the schedule", "a schedule fails" in state, state)
         for old, new in changes.items():
             page.change(old, new)
@@ -462,6 +413,16 @@ def exercises(page: Page, counts: Counts) -> None:
         counts.check(
             f"{name}, {'done' if changes else 'still'}",
             state.startswith("\u2713" if changes else "\u2717"),
+            (state, page.messages()),
+        )
+    for name, old, new, sentence in WRONG_ANSWERS:
+        page.kit()
+        page.choose("start", name)
+        page.change(old, new)
+        state = page.run()
+        counts.check(
+            f"{name}, by {new or 'less'}",
+            state.startswith("\u2717") and sentence in "".join(page.messages()),
             (state, page.messages()),
         )
     page.kit()

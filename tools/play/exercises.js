@@ -2,8 +2,8 @@
 // played. Titles, texts and matches are those of the exercises in Python (EXERCISE_TEXTS, which tools/play/folder.py
 // writes), but for texts that name a command of Python.
 "use strict";
-const JOIN = 'const { join } = require("./client");\n\n';
-const MAIN = "\nmain(...process.argv.slice(2)).catch((why) => {\n    console.error(why.message);\n    process.exitCode = 1;\n});\n";
+const JOIN = 'const { MatchOver, join } = require("./client");\n\n';
+const MAIN = "\nmain(...process.argv.slice(2)).catch((why) => {\n    console.error(why.message);\n    if (!(why instanceof MatchOver)) process.exitCode = 1;\n});\n";
 const CAREFUL = KITS.javascript.files["careful.js"];
 // a program of these lines between joining and closing
 const joined = (...lines) => `${JOIN}async function main(host, port, key) {\n    const { agent, here } = await join(host, Number(port), key);\n${lines.map((line) => line && `    ${line}`).join("\n")}\n    agent.close();\n}\n${MAIN}`;
@@ -19,13 +19,14 @@ const HASTY_NOTE = `async function note(agent, side, mine, board) {
 const HASTY = CAREFUL.replace(/async function note\([^]*?\n}\n/, () => HASTY_NOTE);
 const MOST_MOVES = 130;
 
-// the events of a kind that were answered and not refused, of an agent or of all
-const successes = ({ events }, does, agent) => events.filter((event) => event.do === does && event.reply && event.reply.no === undefined && [undefined, event.agent].includes(agent));
+// whether an event was answered and not refused, and those of a kind, of an agent or of all
+const isAccepted = ({ reply }) => Boolean(reply) && reply.no === undefined;
+const successes = ({ events }, does, agent) => events.filter((event) => event.do === does && isAccepted(event) && [undefined, event.agent].includes(agent));
 const isWritten = ({ do: does, reply }) => does === "write" && reply.ok === "written";
 // the answered events with the nodes of their agents: of a departure the one that it leaves, of an arrival the one that it reaches
 function placedEvents({ events, network, match }) {
   const far = farOf(network), nodes = Array(match.agents).fill(match.home), ports = [];
-  return events.filter(({ reply }) => reply && reply.no === undefined).map((event) => {
+  return events.filter(isAccepted).map((event) => {
     const { agent } = event;
     if (event.do === "deliver") [nodes[agent]] = far[nodes[agent]][ports[agent]];
     if (event.do === "depart") ports[agent] = event.port;
@@ -42,14 +43,42 @@ const accusations = (match) => successes(match, "accuse").slice(0, 1).map(({ age
 const isSolved = ({ verdict }) => verdict.startsWith("solved");
 const lostCount = ({ verdict }) => Number(/lost (\d+)/.exec(verdict)[1]);
 const areAllLost = (match) => lostCount(match) === match.match.agents;
-// for each event the node where its agent then is
-function nodesOf({ events, network, match }) {
-  const far = farOf(network), nodes = Array(match.agents).fill(match.home), ports = [];
-  return events.map(({ do: does, agent, port, reply }) => {
-    if (does === "depart" && reply.ok) ports[agent] = port;
-    if (does === "deliver" && reply) [nodes[agent]] = far[nodes[agent]][ports[agent]];
-    return nodes[agent];
-  });
+// the node and the port of the first accusation of a safe link, or undefined
+function wrongEnd(match) {
+  const far = farOf(match.network), accused = placedEvents(match).filter(({ event }) => event.do === "accuse");
+  return accused.map(({ event, node }) => [node, event.port]).find(([node, port]) => !isDestroyed(match.match, far, node, port));
+}
+const SAME = "their programs are the same, so only the whiteboard can part them";
+// why both agents may have gone the same way
+function causeOf(match) {
+  const writes = successes(match, "write").length;
+  if (writes + successes(match, "look").length === 0) return SAME;
+  if (!writes) return "they looked, and neither wrote anything";
+  return "both saw the whiteboard before either had written; a write that expects what was seen tells who was first";
+}
+// what agents did at the home base too early
+function orderFaults(match) {
+  const { home } = match.match, [behind] = farOf(match.network)[home][0], wereThere = new Set(), faults = [];
+  let onWay = [], hasComeBack = false, hasWritten = false;
+  for (const { event, node } of placedEvents(match)) {
+    const { agent } = event;
+    if (event.do === "deliver" && node === behind) wereThere.add(agent);
+    if (node !== home) continue;
+    if (event.do === "deliver") {
+      hasComeBack = hasComeBack || wereThere.has(agent);
+      onWay = onWay.filter((number) => number !== agent);
+    }
+    if (isWritten(event)) {
+      hasWritten = true;
+      if (event.put === "safe" && !hasComeBack) faults.push(`agent ${agent} wrote 'safe' at the home base, and nobody had come back from the node behind port 0: a link may be slow, and an agent on it may be lost`);
+    }
+    if (event.do === "depart" && event.port === 0) {
+      if (onWay.length && !hasComeBack) faults.push(`agent ${agent} went through port 0 while agent ${onWay[0]} was on its way there: who reads that somebody goes does not follow`);
+      if (!hasWritten) faults.push(`agent ${agent} went through port 0 and had written nothing: before it goes an agent writes so at the home base`);
+      onWay.push(agent);
+    }
+  }
+  return faults;
 }
 const nobodyAccused = "nobody accused: who comes back from its side knows where the black hole is";
 // what a note of another agent has lost by a write: a side of which fewer nodes are safe than stood there
@@ -116,22 +145,39 @@ const EXERCISES = [
     name: "4-walk-round", agent: joined("let nodes = 1;", "// walk round, and count", "", "await agent.write(here.board, String(nodes));", "await agent.leave();"),
     check: (match) => {
       const { nodes } = match.network, moves = successes(match, "depart").length, board = boardAt(match, match.match.home);
-      if (board === String(nodes)) return [];
+      if (board === String(nodes)) return accusations(match);
       if (!moves) return ["your agent never departed: it cannot count what it has not seen"];
-      if (moves < nodes) return [`your agent made ${moves} moves and wrote '${board}', and the ring has ${nodes} nodes: it was not home again, or took another node for it; a mark on the whiteboard tells`];
+      if (moves < nodes) return [`your agent made ${moves} moves and wrote '${board}', and the ring has ${nodes} nodes: it was not home again, or took another node for it; a mark on the whiteboard tells, and who came by one of two ports goes on by the other`];
       return [`the whiteboard of the home base shows '${board}', and the ring has ${nodes} nodes: is each counted once, and the number written at home?`];
     },
   },
   {
-    name: "5-two-sides", agent: joined("// which side is this agent's?", "const side = 0;", "await agent.depart(side);", "await agent.leave();"),
+    name: "5-two-sides",
+    // schedules are drawn otherwise than in Python: under these two agents that look first both see nothing
+    matches: [...EXERCISE_TEXTS["5-two-sides"].matches, ...[6, 7, 8, 9].map((seed) => ({ network: "ring:6", seed }))],
+    agent: joined("// which side is this agent's?", "const side = 0;", "await agent.depart(side);", "await agent.leave();"),
     check: (match) => {
       const [first, second] = [0, 1].map((agent) => successes(match, "depart", agent)[0]);
       if (!first || !second) return ["an agent never departed: each goes through one port of the home base"];
-      if (first.port !== second.port) return [];
-      const text = `both agents went through port ${first.port}`, writes = successes(match, "write").length;
-      if (writes + successes(match, "look").length === 0) return [`${text}: their programs are the same, so only the whiteboard can part them`];
-      if (!writes) return [`${text}: they looked, and neither wrote anything`];
-      return [`${text}: both saw the whiteboard before either had written; a write that expects what was seen tells who was first`];
+      if (first.port === second.port) return [`both agents went through port ${first.port}: ${causeOf(match)}`];
+      const [departure] = successes(match, "depart"), before = match.events.slice(0, match.events.indexOf(departure));
+      if (!before.some(isWritten)) return [`agent ${departure.agent} went through port ${departure.port} before anybody had written: the other would see the same and go the same way; ${SAME}`];
+      return accusations(match);
+    },
+    // whether agents that had been told the same went through different ports
+    checkAll: (matches) => {
+      const ports = new Map();
+      for (const { events, keys } of matches) {
+        for (const [agent, key] of keys.entries()) {
+          let past = "";
+          for (const event of events.filter((one) => one.agent === agent && isAccepted(one))) {
+            if (event.do === "depart" && !ports.has(past)) ports.set(past, event.port);
+            if (event.do === "depart" && ports.get(past) !== event.port) return [`agents that had been told the same went through different ports: chance, a key or a clock chose; ${SAME}`];
+            past += `${JSON.stringify({ ...event, agent: undefined }).replaceAll(key, "its key")}\n`;
+          }
+        }
+      }
+      return [];
     },
   },
   {
@@ -140,8 +186,10 @@ const EXERCISES = [
     check: (match) => {
       if (!successes(match, "depart").length) return ["no agent went through port 0: one of them has to look"];
       if (lostCount(match) > 1) return [`${lostCount(match)} agents were lost in the same black hole: before it goes an agent writes so at the home base, and who reads that does not follow`];
-      if (!match.match.holes.includes(1) && boardAt(match, match.match.home) !== "safe") return [`the node behind port 0 is safe, and the home base shows '${boardAt(match, match.match.home)}': who is back writes 'safe' in the place of what it wrote before`];
-      return [];
+      const { home, holes } = match.match, board = boardAt(match, home), faults = orderFaults(match);
+      const isSafe = !holes.includes(farOf(match.network)[home][0][0]);
+      if (!faults.length && isSafe && board !== "safe") return [`the node behind port 0 is safe, and the home base shows '${board}': who is back writes 'safe' in the place of what it wrote before`];
+      return faults.length ? faults.slice(0, 1) : accusations(match);
     },
   },
   {
@@ -150,8 +198,9 @@ const EXERCISES = [
       if (isSolved(match)) return [];
       if (areAllLost(match)) return ["both agents were lost: they took the same side"];
       if (!successes(match, "accuse").length) return [nobodyAccused];
-      const at = match.events.findIndex((event, place) => event.do === "accuse" && event.reply.ok && !isRightAccusation(match.events, match, place));
-      return [`an agent accused port ${match.events[at].port} of node ${nodesOf(match)[at]}, which leads to a safe node: a port means something at its own node alone, and the black hole is on the side from which nobody has come back`];
+      const end = wrongEnd(match);
+      if (!end) return ["an agent accused the black hole, and nobody had come from the other node: it has guessed; how long one waits tells nothing"];
+      return [`an agent accused port ${end[1]} of node ${end[0]}, which leads to a safe node: a port means something at its own node alone, and the black hole is on the side from which nobody has come back`];
     },
   },
   {
@@ -159,16 +208,18 @@ const EXERCISES = [
     agent: joined('const swap = await agent.write("", "gone");', "if (swap.written) {", "    const there = await agent.depart(0);", "    const home = await agent.depart(there.came);", '    await agent.write(home.board, "back");',
       "    await agent.leave();", "} else {", "    let { board } = swap;", '    for (let looks = 0; looks < 10 && board !== "back"; looks += 1) ({ board } = await agent.look());', '    await agent.accuse(board === "back" ? 1 : 0);', "}"),
     check: (match) => {
-      const waiter = successes(match, "accuse").find(({ agent }) => !successes(match, "depart", agent).length);
-      if (waiter) return [`agent ${waiter.agent} accused a port without having gone anywhere: it took an agent for lost that was only slow, or would have; how long one waits tells nothing`];
       if (isSolved(match)) return [];
+      const waiter = successes(match, "accuse").find(({ agent }) => !successes(match, "depart", agent).length);
+      if (waiter) return [`agent ${waiter.agent} accused a port without having gone anywhere: it took an agent for lost that was only slow; how long one waits tells nothing`];
+      if (areAllLost(match)) return ["both agents were lost: they took the same side"];
       return [successes(match, "accuse").length ? "an agent accused a safe link: only who comes back knows what is safe" : nobodyAccused];
     },
   },
   {
     name: "9-every-schedule", agent: HASTY,
-    // schedules are drawn otherwise than in Python: under these the program solves the ring of 8
-    matches: [{ network: "ring:8", seed: 8, holes: [3] }, { network: "ring:8", scheduler: "slow-agents", seed: 2, holes: [6] }, { network: "ring:8", scheduler: "slow-links", seed: 2, holes: [5] }],
+    // under these, too, the program solves the ring of 8, and one that notes once, written or not, does not
+    matches: [...EXERCISE_TEXTS["9-every-schedule"].matches, ...[["fair", 0, 5], ["slow-agents", 7, 4], ["slow-links", 3, 3]]
+      .map(([scheduler, seed, hole]) => ({ network: "ring:8", scheduler, seed, holes: [hole] }))],
     check: (match) => {
       if (isSolved(match)) return [];
       const notes = successes(match, "write").filter((event) => event.expect), erased = notes.find((event) => event.reply.ok === "written" && hasErased(event));
@@ -182,10 +233,10 @@ const EXERCISES = [
   {
     name: "10-halves", agent: CAREFUL,
     check: (match) => {
-      const moves = successes(match, "depart").length, nodes = nodesOf(match);
+      const moves = successes(match, "depart").length;
       if (isSolved(match) && moves <= MOST_MOVES) return [];
       if (isSolved(match)) {
-        const returns = match.events.filter((event, at) => event.do === "deliver" && event.reply && nodes[at] === match.match.home).length;
+        const returns = placedEvents(match).filter(({ event, node }) => event.do === "deliver" && node === match.match.home).length;
         return [`your agents made ${moves} moves, and ${MOST_MOVES} are enough: ${returns} times one of them came home; what is marked at the nodes themselves need not be noted at home, and what is left is divided in halves`];
       }
       if (areAllLost(match)) return ["both agents were lost: the halves have a node in common, or an agent went into a link in front of which the other had written `going`"];

@@ -1,7 +1,7 @@
 // The fields of the page: which match they ask for.
 "use strict";
 const byId = (id) => document.getElementById(id);
-const OWN = "own", MOST_STATES = 2e6, SCHEDULERS = ["fair", "slow-agents", "slow-links", "last-departed", "oblivious"];
+const OWN = "own", MOST_STATES = 2e6, SCHEDULERS = ["fair", "slow-agents", "slow-links", "last-departed", "starved", "oblivious"];
 const NETWORKS = ["ring:8", "ring:3", "ring:4", "ring:5", "ring:6", "ring:12", "ring:16", "complete:4", "hypercube:3", "torus:3x3", "wheel:5", "petersen:5x2"];
 const SMALL = ["ring:3", "ring:4", "ring:5", "ring:6", "complete:4"];
 // those that a link holds

@@ -18,6 +18,7 @@ import shutil
 import sys
 from typing import Dict, List
 
+from arena_lab.commands.answers import numberings_of
 from arena_lab.course.exercises import (
     TOLD_COMMAND,
     Exercise,
@@ -26,6 +27,7 @@ from arena_lab.course.exercises import (
 )
 from arena_lab.pages.page import SCRIPTS
 from arena_lab.pages.parts import fill_page, part
+from arena_lab.rules.networks import network_named
 from tools.port import crates, module
 
 HERE = pathlib.Path(__file__).resolve().parent
@@ -91,7 +93,7 @@ def exercise_texts() -> Dict[str, object]:
             "agents": exercise.agents,
             "matches": [match_texts(exercise, match) for match in exercise.matches],
             "isTold": exercise.command == TOLD_COMMAND,
-            "every": exercise.every,
+            "every": small_matches(exercise),
         }
         for name, exercise in exercises().items()
     }
@@ -102,6 +104,19 @@ def match_texts(exercise: Exercise, match: ExerciseMatch) -> Dict[str, object]:
     setup = exercise.fixture(match).setup
     links = {} if match.ports is None else {"links": setup.links}
     return {**match._asdict(), **links}
+
+
+def small_matches(exercise: Exercise) -> List[Dict[str, object]]:
+    """Returns the matches of which every schedule is tried: those of each numbering of the
+    ports, with each black hole."""
+    if not exercise.every:
+        return []
+    network = network_named(exercise.every)
+    return [
+        match_texts(exercise, ExerciseMatch(exercise.every, "fair", 0, [hole], ports))
+        for ports in numberings_of(exercise, network)
+        for hole in range(1, network.nodes)
+    ]
 
 
 def constants(**values: object) -> str:

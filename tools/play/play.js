@@ -87,17 +87,25 @@ async function playMatch() {
   show(result, task, []);
   (result.verdict.startsWith("solved") ? right : wrong)(result.verdict);
 }
+// a match as the checks of exercises read it
+const playedMatch = (result, { network, match }) => ({ ...result, network, match, keys: range(match.agents).map(keyOf) });
+// what is to be mended in the last of these matches, or, after the last match of the exercise, in all of them together
+function lacksOf(matches) {
+  const lacks = exercise.check(matches[matches.length - 1]);
+  if (lacks.length || matches.length < exercise.matches.length || !exercise.checkAll) return lacks;
+  return exercise.checkAll(matches);
+}
 async function playExercise() {
-  let count = 0;
+  const matches = [];
   for (const one of exercise.matches) {
     const task = taskOf(matchOfExercise(exercise, one));
     const result = await work("play", task);
-    const lacks = isFaulty(result) ? [] : exercise.check({ ...result, network: task.network, match: task.match });
-    count += 1;
+    matches.push(playedMatch(result, task));
+    const lacks = isFaulty(result) ? [] : lacksOf(matches);
     show(result, task, lacks);
-    if (lacks.length || isFaulty(result)) return wrong(`${words.mend} ${count} / ${exercise.matches.length}`);
+    if (lacks.length || isFaulty(result) || result.refusals.length) return wrong(`${words.mend} ${matches.length} / ${exercise.matches.length}`);
   }
-  if (exercise.every && !await searchesExercise()) return null;
+  if (!await searchesExercise()) return null;
   const next = EXERCISES[EXERCISES.indexOf(exercise) + 1];
   if (next) say("").append(button(`${words.next}: ${next.title}`, () => { byId("start").value = next.name; begin(); }));
   store({ ...kept(), done: { ...kept().done, [exercise.name]: true } });
@@ -105,12 +113,11 @@ async function playExercise() {
   return right(words.right);
 }
 
-// whether every schedule of the small network of an exercise solves it, with each black hole; shows the first that fails
+// whether every schedule solves the small matches of an exercise, if it has any; shows the first that fails
 async function searchesExercise() {
-  const holes = range(networkNamed(exercise.every).nodes).slice(1);
-  for (const hole of holes) {
-    const task = taskOf(matchOfExercise(exercise, { network: exercise.every, holes: [hole] }));
-    const { status, errors, finding } = await work("explore", task, (told) => progress(hole, holes, told.visited || 0, told.asked || 0));
+  for (const one of exercise.every) {
+    const task = taskOf(matchOfExercise(exercise, one));
+    const { status, errors, finding } = await work("explore", task, (told) => progress(one, exercise.every, told.visited || 0, told.asked || 0));
     if (!finding) throw new Error(errors.trim().split("\n").pop() || `status ${status}`);
     if (finding.found !== "solves") { await showCounterexample(finding, task); return false; }
   }
@@ -136,8 +143,8 @@ async function exploreNow() {
   say(`At most ${moves} moves. ${states.toLocaleString("en")} states were looked at, and your program answered ${answers.toLocaleString("en")} questions: what it does after it was told so much. That it always does so is not proved.`);
   return right(`${words.solves} ${byId("small").value}${isEach ? `, ${words.each} (${holes.length})` : ""}`);
 }
-function progress(hole, holes, states, answers) {
-  state(`.. ${holes.indexOf(hole) + 1} / ${holes.length}: ${states.toLocaleString("en")} ${words.states}, ${answers.toLocaleString("en")} ${words.answers}`);
+function progress(search, searches, states, answers) {
+  state(`.. ${searches.indexOf(search) + 1} / ${searches.length}: ${states.toLocaleString("en")} ${words.states}, ${answers.toLocaleString("en")} ${words.answers}`);
 }
 async function exploreModule() {
   const task = { ...await checked(matchOfFields(true)), isEachHole: byId("every").checked };
@@ -163,7 +170,7 @@ async function showCounterexample(finding, task) {
   const turns = [...(finding.schedule || []), ...(finding.round || [])];
   if (finding.schedule) {
     const result = await work("play", { ...task, turns });
-    const lacks = exercise ? exercise.check({ ...result, network: task.network, match: task.match }) : [];
+    const lacks = exercise ? exercise.check(playedMatch(result, task)) : [];
     show(result, task, [...lacks, `Black hole at node ${task.match.holes}. The turns of the agents: ${turns.join(" ")}.`], 0);
   }
   wrong(FINDINGS[finding.found](finding));

@@ -31,6 +31,11 @@ const SCHEDULES = {
     if (others.length) return drawn(others, random);
     return steps.reduce((last, step) => step.since > last.since ? step : last);
   },
+  // nothing happens to the agent whose number is the seed, counted round the team, as long as anything else can happen
+  starved: (random, seed) => (steps, agents) => {
+    const others = steps.filter((step) => step.agent !== seed % agents);
+    return drawn(others.length ? others : steps, random);
+  },
   // whose turn it is does not depend on what the agents do
   oblivious: (random) => (steps, agents) => {
     for (;;) {

@@ -11,7 +11,7 @@ const linesOf = (text) => text.split("\n").filter((line) => line).map((line) => 
 
 const TASKS = {
   play(task) {
-    const choose = task.turns ? recordedSchedule(task.turns) : SCHEDULES[task.scheduler](chance(task.seed));
+    const choose = task.turns ? recordedSchedule(task.turns) : SCHEDULES[task.scheduler](chance(task.seed), task.seed);
     return new Player(task, programsOf(task, false), choose).play();
   },
   explore: (task) => explore(task, programsOf(task, true)),

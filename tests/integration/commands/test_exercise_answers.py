@@ -1,5 +1,5 @@
 """Answers to the exercises: each right one is called right, and each wrong one is not,
-by the lab and, of the first three, by the page on which one writes agents."""
+by the lab and by the page on which one writes agents."""
 import json
 import re
 import shutil
@@ -8,6 +8,7 @@ import unittest
 from typing import Any, Dict, List
 
 from arena_lab.course import exercises
+from arena_lab.course.exercises import Exercise
 from arena_lab.play.games import Record
 from arena_lab.support.built import TOP
 from tests.support import exercise_answers
@@ -22,8 +23,10 @@ const text = process.argv.slice(1).map((path) => fs.readFileSync(path, "utf8")).
 const [constants, asked] = JSON.parse(fs.readFileSync(0, "utf8"));
 const all = new Function(`${constants}${text}; return EXERCISES`)();
 const rows = all.map(({ name, title, matches, agents }) => ({ name, title, matches, agents }));
-const found = asked.map(([name, matches]) =>
-  matches.map((match) => all.find((one) => one.name === name).check(match)));
+const found = asked.map(([name, matches]) => {
+  const { check, checkAll = () => [] } = all.find((one) => one.name === name);
+  return [...matches.map((match) => check(match)), checkAll(matches)];
+});
 console.log(JSON.stringify([rows, found]));
 """
 
@@ -48,8 +51,25 @@ def as_page(record: Record) -> Dict[str, Any]:
     return {
         "events": match.log,
         "network": {"nodes": setup.nodes, "links": setup.links},
-        "match": {"home": setup.home, "agents": setup.agents},
+        "match": {
+            "home": setup.home,
+            "holes": setup.holes,
+            "dark": setup.dark,
+            "agents": setup.agents,
+        },
+        "verdict": str(record.judge()),
+        "keys": record.schedule.fixture.keys,
     }
+
+
+def lab_rows(exercise: Exercise, records: List[Record]) -> List[List[str]]:
+    """Returns what the lab says of each match of an exercise, and of all together."""
+    return [
+        *(exercise.check(record.match.match) for record in records),
+        exercise.check_all(
+            [(record.match.match, record.schedule.fixture.keys) for record in records]
+        ),
+    ]
 
 
 def beginnings_of(lines: List[str]) -> List[str]:
@@ -83,19 +103,16 @@ class Page(unittest.TestCase):
 
     def test_its_checks_find_what_the_checks_of_the_lab_find(self) -> None:
         """Both are asked of the same matches of right and wrong answers."""
-        names = [row["name"] for row in ask_page([])[0]][:3]
         requests = []
         lab_lines = []
         for answer in exercise_answers.answers():
             exercise = answer.exercise
-            if exercise.name in names:
-                records = exercise_answers.records(exercise, answer.agent)
-                requests.append((exercise.name, list(map(as_page, records))))
-                lab_lines.append(
-                    [exercise.check(record.match.match) for record in records]
-                )
+            records = exercise_answers.records(exercise, answer.agent)
+            requests.append((exercise.name, list(map(as_page, records))))
+            lab_lines.append(lab_rows(exercise, records))
         _, page_lines = ask_page(requests)
-        for request, page_rows, lab_rows in zip(requests, page_lines, lab_lines):
-            for page_row, lab_row in zip(page_rows, lab_rows):
-                with self.subTest(request[0], lines=lab_row):
-                    self.assertEqual(*map(beginnings_of, (page_row, lab_row)))
+        for (name, _), page_rows, rows in zip(requests, page_lines, lab_lines):
+            self.assertEqual(len(page_rows), len(rows))
+            for page_row, row in zip(page_rows, rows):
+                with self.subTest(name, lines=row):
+                    self.assertEqual(*map(beginnings_of, (page_row, row)))
