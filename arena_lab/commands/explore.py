@@ -86,6 +86,7 @@ move throughout it has a turn in it; if it is not fair, agents may wait for one 
 agents use commands ends with their quota, so there the Python model's search takes over.
 """
 import argparse
+import itertools
 import os
 import pathlib
 from typing import List, Optional, Union
@@ -119,6 +120,8 @@ from arena_lab.sweep.tables import alone_in
 
 FOLDER = kept_matches.FOLDER
 FAMILY_FOLDER = pathlib.Path("out/family")
+# matches of a family at most, all of which are listed first
+MAX_MATCHES = 500_000
 # schedulers of drawn schedules, and objectives of a hunt
 SCHEDULERS = ("fair", "last-departed", "starved", "slow-agents", "slow-links")
 OBJECTIVES = ("moves", "lost")
@@ -287,7 +290,12 @@ def explore_family(args: argparse.Namespace) -> int:
         args.max_degree,
         args.ports or families.FamilyPorts(),
     )
-    matches = list(families.matches_of(family))
+    matches = list(itertools.islice(families.matches_of(family), MAX_MATCHES + 1))
+    if len(matches) > MAX_MATCHES:
+        raise families.FamilyError(
+            f"this family has more than {MAX_MATCHES} matches: name fewer sizes or draws, or bound the degree by "
+            "--degree-at-most"
+        )
     if not matches:
         raise families.FamilyError(
             "no network is in this family: raise --degree-at-most"

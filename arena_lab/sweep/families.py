@@ -4,7 +4,7 @@ import hashlib
 import pathlib
 import signal
 import sys
-from typing import Dict, Iterator, List, NamedTuple, Optional, Sequence
+from typing import Dict, List, NamedTuple, Optional, Sequence
 
 from arena_lab.play.agent_files import digests
 from arena_lab.play.parallel import Parallelism
@@ -16,6 +16,7 @@ from arena_lab.search.findings import Solves
 from arena_lab.search.history_tree import NoFunctionError
 from arena_lab.search.match_results import MatchResult
 from arena_lab.support.progress import along
+from arena_lab.sweep.proofs import FOUND_COLUMNS, MATCHES, finding_cells
 from arena_lab.sweep.tables import (
     cells_in,
     check_asked,
@@ -26,7 +27,6 @@ from arena_lab.sweep.tables import (
     with_check,
 )
 
-MATCHES = "matches.csv"
 # columns of a match: its identity in normal form, where each link is node, port, node,
 # port, and the finding
 COLUMNS = (
@@ -37,14 +37,10 @@ COLUMNS = (
     "hole",
     "agents",
     "naps",
-    "states",
-    "moves",
-    "lost",
-    "turns",
-    "asleep",
+    *FOUND_COLUMNS,
     "check",
 )
-FINDINGS = slice(COLUMNS.index("states"), COLUMNS.index("check"))
+FINDINGS = slice(-1 - len(FOUND_COLUMNS), -1)
 
 
 class FamilyJob(NamedTuple):
@@ -137,7 +133,7 @@ class FamilyFolder:
     def _write(self, match: FamilyMatch, result: MatchResult) -> None:
         """Appends the row of a match that every schedule solves."""
         note_read(self._folder, result.read_hashes)
-        cells = [*match_cells(self._job, match), *finding_cells(result)]
+        cells = [*match_cells(self._job, match), *finding_cells(result.answer)]
         with self.path.open("a", encoding="utf-8", newline="") as file:
             file.write(line_of(with_check(cells, COLUMNS)))
         self.count += 1
@@ -158,17 +154,6 @@ def match_cells(job: FamilyJob, match: FamilyMatch) -> List[str]:
     agents = len(job.settings.agents)
     numbers = (match.number, match.network.nodes, links, 0, match.hole, agents)
     return [*map(str, numbers), str(job.settings.naps)]
-
-
-def finding_cells(result: MatchResult) -> Iterator[str]:
-    """The cells of what the program found of a match that every schedule solves."""
-    answer = result.answer
-    finding = answer.finding
-    assert isinstance(finding, Solves), "only solved matches have rows"
-    return map(
-        str,
-        (answer.states, finding.moves, finding.lost, finding.turns, answer.unwoken),
-    )
 
 
 def link_text(link: Link) -> str:

@@ -116,19 +116,7 @@ class Folder:
                 "an agent may use more commands than its quota, of which the program finds nothing, and "
                 "--out writes what it finds alone: give a larger --quota"
             )
-        answer = result.answer
-        finding = result.answer.finding
-        assert isinstance(
-            finding, Solves
-        ), "a row is written of a match that every schedule solves"
-        came_to = (
-            answer.states,
-            finding.moves,
-            finding.lost,
-            finding.turns,
-            answer.unwoken,
-        )
-        cells = [*self._asked[self._count], *map(str, came_to)]
+        cells = [*self._asked[self._count], *finding_cells(result.answer)]
         note_read(self._path, result.read_hashes)
         with (self._path / MATCHES).open("a", encoding="utf-8", newline="") as file:
             file.write(line_of(with_check(cells, COLUMNS)))
@@ -142,6 +130,14 @@ class Folder:
         ]
         (self._path / PLOT).write_text(plot(most_in(rows), bounds), encoding="utf-8")
         return str(self._path / PLOT)
+
+
+def finding_cells(answer: ExploreAnswer) -> List[str]:
+    """The columns FOUND_COLUMNS of a match that every schedule solves."""
+    finding = answer.finding
+    assert isinstance(finding, Solves), "only solved matches have rows"
+    maxima = (finding.moves, finding.lost, finding.turns)
+    return list(map(str, (answer.states, *maxima, answer.unwoken)))
 
 
 def result_of(fixture: Fixture, row: Sequence[str]) -> MatchResult:

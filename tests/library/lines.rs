@@ -5,7 +5,7 @@ use std::test::Fail;
 
 const PART: [u8; 20_000] = [b'a'; 20_000];
 
-/// Returns the bytes of a line, or `over` for a line that is too long.
+/// Returns a line's bytes, or `over` if the line exceeds the limit.
 fn told<'a>(line: &'a Raw<'_>) -> &'a [u8] {
     match line {
         Raw::Whole(bytes) => bytes,

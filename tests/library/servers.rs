@@ -292,7 +292,7 @@ fn four_come_one_after_the_other(rt: HostRuntime) -> Result<(), Fail> {
     assert_eq!(rt; heard?.as_str(), expected.as_str());
     let Served { settled, ended } = served;
     let sealed = all_sealed(alloc, settled)?;
-    // clients that were not let in have no session
+    // a rejected client has no session
     assert_eq!(rt; ended.as_slice(), [Ended::Bye].as_slice());
     assert_eq!(rt; sealed.len(), 1);
     assert_eq!(rt; log_of(alloc, &sealed[0])?.as_str(), "0enter 0leave close ");

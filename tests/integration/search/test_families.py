@@ -88,3 +88,8 @@ class FamilySearches(InExplore):
             self.command("--network", "ring:4", *TEAM, "--ports", "drawn:3"), 2
         )
         self.assertIn("need --family", self.output)
+
+    def test_a_family_of_too_many_matches_is_refused(self) -> None:
+        with mock.patch("arena_lab.commands.explore.MAX_MATCHES", 3):
+            self.assertEqual(self.explore_family(), 2)
+        self.assertIn("has more than 3 matches", self.output)
