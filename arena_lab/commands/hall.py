@@ -43,8 +43,9 @@ from arena_lab.hall.course import (
 )
 from arena_lab.hall.place import HallFolder, folder_of
 from arena_lab.rules.engines import program_at
-from arena_lab.sandbox import sandboxes
+from arena_lab.sandbox import sandboxes, system_copy
 from arena_lab.sandbox.sandboxes import Isolation
+from arena_lab.sandbox.system_copy import CopyError
 from arena_lab.support.missing import check
 from arena_lab.support.ports import listen
 
@@ -238,6 +239,20 @@ def check_walls(args: argparse.Namespace, hall: Hall) -> None:
         )
 
 
+def check_copy(hall: Hall) -> None:
+    """Says at the start if gradings get no copy of the system, without which packages
+    that the course names cannot be seen."""
+    rules = hall.hand_ins
+    if rules is None or sandboxes.strongest() is not Isolation.ALL:
+        return
+    try:
+        system_copy.check_copy([rules.command], rules.packages)
+    except CopyError as fault:
+        if rules.packages:
+            raise HallError(f"[hand_ins] names packages: {fault}") from None
+        place.log_line(f"{sandboxes.SEES_DISK}: {fault}")
+
+
 def check_editor(hall: Hall) -> None:
     """Raises HallError if the hall offers its editor page and Debian's editor is not
     installed."""
@@ -270,6 +285,7 @@ def serve(
     os.umask(0o077)
     hall = of.to_serve()
     check_walls(args, hall)
+    check_copy(hall)
     check_editor(hall)
     of.make()
     with serving.alone(of), listen(args.address, args.port) as listener:
@@ -294,6 +310,7 @@ def work(args: argparse.Namespace, hall: Hall, folder: pathlib.Path) -> int:
             "workers on other machines need PostgreSQL: `database` in the course's file, and the same folder"
         )
     check_walls(args, hall)
+    check_copy(hall)
     os.umask(0o077)
     serving.serve(place.at(folder), serving.Options(args.workers), args.seconds)
     return 0

@@ -69,6 +69,10 @@ NOTHING = bytes(tarfile.RECORDSIZE)
 # those of its sandbox itself
 MAX_PROCESSES = 256
 SANDBOX_PROCESSES = 4
+# what is so where the system cannot be copied into memory
+SEES_DISK = (
+    "programs see the system's own disk, where the kernel keeps names for later ones"
+)
 TOO_MANY = "has started more than {} processes"
 # pattern of last words at a resource limit -> advice
 THREADS = "a program may have {processes} processes and threads"
@@ -397,11 +401,7 @@ def furnish(
         except system_copy.CopyError as fault:
             if packages:
                 raise CellError(f"packages: {fault}") from None
-            print(
-                f"arena-lab: programs see the system's own disk, where the kernel keeps names for later ones: "
-                f"{fault}",
-                file=sys.stderr,
-            )
+            print(f"arena-lab: {SEES_DISK}: {fault}", file=sys.stderr)
             folder = ""
         yield options._replace(
             root=folder, groups=stack.enter_context(groups.program_group())

@@ -17,12 +17,12 @@ import shutil
 import subprocess
 import sys
 import tempfile
-from typing import Dict, Iterable, Iterator, List, NamedTuple, Sequence, Set
+from typing import Dict, Iterable, Iterator, List, NamedTuple, Sequence, Set, Tuple
 
 from arena_lab.sandbox.isolation import PATH, SETTINGS, TOOLS
 
-# where file systems in memory are, and how many bytes of them a copy may take
-PLACES = ("/dev/shm", os.environ.get("XDG_RUNTIME_DIR", "/dev/shm"))
+# where file systems in memory may be, and how many bytes of them a copy may take
+PLACES = ("/dev/shm", os.environ.get("XDG_RUNTIME_DIR", "/dev/shm"), "/tmp")
 MAX_BYTES = 1 << 30
 PREFIX = "lab-system-"
 # what each program may need: its sandbox is begun by Python and tar, and scripts by a
@@ -70,12 +70,7 @@ def copy_system(
     """The folder of a copy for these commands, and these packages and tools besides, as
     long as it is open."""
     remove_left()
-    paths = files_of(closure([*ALWAYS, *packages, *owners(commands, tools)]))
-    size = sum(os.lstat(path).st_size for path in paths)
-    if size > MAX_BYTES:
-        raise CopyError(
-            f"what the commands need takes {size >> 20} MB, and a copy may take {MAX_BYTES >> 20}"
-        )
+    paths, size = files_for(commands, packages, tools)
     inside = all_in(map(os.path.realpath, tools))
     extra_bytes = sum(os.lstat(path).st_size for path in inside if is_plain(path))
     room = size + extra_bytes if size + extra_bytes <= MAX_BYTES else size
@@ -102,6 +97,24 @@ def copy_system(
         yield folder
 
 
+def files_for(
+    commands: Iterable[str], packages: Sequence[str], tools: Sequence[str] = ()
+) -> Tuple[List[str], int]:
+    """The files of a copy without its tools, and how many bytes they take."""
+    paths = files_of(closure([*ALWAYS, *packages, *owners(commands, tools)]))
+    size = sum(os.lstat(path).st_size for path in paths)
+    if size > MAX_BYTES:
+        raise CopyError(
+            f"what the commands need takes {size >> 20} MB, and a copy may take {MAX_BYTES >> 20}"
+        )
+    return paths, size
+
+
+def check_copy(commands: Iterable[str], packages: Sequence[str]) -> None:
+    """Raises CopyError if no copy can be made for these commands and packages."""
+    place_for(files_for(commands, packages)[1])
+
+
 def copy(source: str, target: str, chosen: Sequence[str], names: bytes = b"") -> None:
     """Copies files from a folder to another, as `tar` chooses them by these words and
     names."""
@@ -118,15 +131,24 @@ def copy(source: str, target: str, chosen: Sequence[str], names: bytes = b"") ->
 
 
 def place_for(size: int) -> str:
-    """A file system in memory that has room for a copy."""
-    for folder in PLACES:
+    """A file system in memory that has room for a copy and lets programs start."""
+    noexec_folders = []
+    for folder in dict.fromkeys(PLACES):
         kind = subprocess.run(
             ["stat", "-f", "-c", "%T", folder], capture_output=True, text=True
         ).stdout
-        if kind.strip() == "tmpfs" and shutil.disk_usage(folder).free > 2 * size:
+        if kind.strip() != "tmpfs" or shutil.disk_usage(folder).free <= 2 * size:
+            continue
+        if not os.statvfs(folder).f_flag & os.ST_NOEXEC:
             return folder
+        noexec_folders.append(folder)
+    if noexec_folders:
+        raise CopyError(
+            f"no program starts from {' or '.join(noexec_folders)}, which is mounted noexec: "
+            f"`mount -o remount,exec {noexec_folders[0]}` as root changes that"
+        )
     raise CopyError(
-        f"no file system in memory has {2 * size >> 20} MB free: {' and '.join(sorted(set(PLACES)))}"
+        f"no file system in memory has {2 * size >> 20} MB free: {', '.join(sorted(set(PLACES)))}"
     )
 
 
