@@ -23,6 +23,7 @@ PATH = re.compile(
 MADE = ("tests/out/", "CHANGELOG.md")
 THEOREMS = "bhs_theorems_isolation"
 NAMED = re.compile(rf"`{THEOREMS}::(\w+)::(\w+)`")
+WORKER = re.compile(r"dask-worker\s+(\S+(?: \d)?)")
 KIT = re.compile(r"rattle-kit-\w+(?: logic \w+)?")
 
 
@@ -156,6 +157,19 @@ class Replays(unittest.TestCase):
         )
         self.assertEqual(len(lines), 5)
         self.assertEqual(replay_match("".join(lines)).replay(), "".join(lines))
+
+
+class Clusters(unittest.TestCase):
+    def test_a_worker_that_the_lab_tells_to_start_plays_one_run_at_a_time(self) -> None:
+        """Dask gives a worker a thread for each processor unless it is told otherwise."""
+        folder = TOP / "arena_lab"
+        paths = [
+            path for ending in ("md", "py") for path in folder.rglob(f"*.{ending}")
+        ]
+        texts = [path.read_text(encoding="utf-8") for path in paths]
+        words = [option for text in texts for option in WORKER.findall(text)]
+        self.assertGreater(len(words), 3)
+        self.assertEqual(set(words), {"--nthreads 1"})
 
 
 class Toolchain(unittest.TestCase):

@@ -14,7 +14,8 @@ with holes = "drawn" the seeds' black holes are a sample.
 
 With --cluster the runs are spread over the workers of a Dask scheduler (Debian's
 python3-distributed), on this machine or others: `dask-scheduler`, then `dask-worker
-ADDRESS` for each, then `--cluster ADDRESS`. The rows are the same.
+--nthreads 1 ADDRESS` for each processor, then `--cluster ADDRESS`. The rows are the
+same.
 
 A row has the verdict of the program on the replay, and the replay's SHA-256. With
 `--engine model` the Python model plays and judges, which is faster and proves nothing;

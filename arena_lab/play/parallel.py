@@ -204,12 +204,13 @@ def client_at(address: str) -> Any:
     except (OSError, ValueError) as fault:
         raise ClusterError(
             f"no Dask scheduler answers at {address} ({fault}): start one by `dask-scheduler`, and workers "
-            "by `dask-worker ADDRESS`"
+            "by `dask-worker --nthreads 1 ADDRESS`"
         ) from None
     if not client.scheduler_info()["workers"]:
         client.close()
         raise ClusterError(
-            f"the Dask scheduler at {address} has no workers: start some by `dask-worker {address}`"
+            f"the Dask scheduler at {address} has no workers: start one for each processor by "
+            f"`dask-worker --nthreads 1 {address}`"
         )
     return client
 

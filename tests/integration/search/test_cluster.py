@@ -88,7 +88,7 @@ class OnCluster(InFolder):
 class Clusters(OnCluster):
     def test_two_workers_give_the_rows_of_this_machine(self) -> None:
         address = self.scheduler()
-        self.check_fault(address, "has no workers: start some by")
+        self.check_fault(address, "has no workers: start one for each processor by")
         for _ in range(2):
             self.worker(address)
         rows = self.swept("model", "--engine", "model")
