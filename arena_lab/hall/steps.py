@@ -161,7 +161,12 @@ class Watch:
         new = -math.inf if self._seen is None else now
         self._seen = {}
         resting = set()
-        for work in self._kind.objects.exclude(state__in=machine.ENDED):
+        # what waits after no fault may begin at any time: a long queue of that is not read
+        rows = self._kind.objects.filter(
+            models.Q(state__in=machine.ACTIVE)
+            | models.Q(state=machine.WAITING, faults__gt=0)
+        )
+        for work in rows.only("state", "holder", "beats", "faults"):
             beats, since = before.get(work.pk, (work.beats, new))
             is_active = work.state in machine.ACTIVE
             since = now if beats != work.beats or is_active and since < 0 else since

@@ -41,7 +41,7 @@ def watches() -> List[Watch]:
 def due(resting: Dict[Any, Set[int]]) -> List[Job]:
     """Returns the jobs that may start now."""
     limits = settings.HALL.limits
-    pages = Pages.objects.filter(state__in=machine.ACTIVE).count()
+    pages = active_count(Pages)
     return [
         *(
             (playing.play, attempt)
@@ -55,10 +55,16 @@ def due(resting: Dict[Any, Set[int]]) -> List[Job]:
         ),
         *(
             (grading.grade, grading_row)
-            for grading_row in grading.due(limits.gradings, resting[Grading])
+            for grading_row in grading.due(
+                limits.gradings - active_count(Grading), resting[Grading]
+            )
         ),
         *((tried.play, trial) for trial in due_trials(resting[Trial])),
     ]
+
+
+def active_count(kind: Any) -> int:
+    return int(kind.objects.filter(state__in=machine.ACTIVE).count())
 
 
 def due_trials(resting: Set[int]) -> List[Trial]:

@@ -4,6 +4,7 @@ nothing of a team's program is in a process of the hall.
 A grading at once has draws of its own, since a team hands in again and again and must
 not learn where the black holes are. The secret one has the same draws for all teams.
 """
+import collections
 import contextlib
 import csv
 import datetime
@@ -11,7 +12,7 @@ import hashlib
 import pathlib
 import shutil
 import sys
-from typing import Any, Collection, Dict, List
+from typing import Any, Collection, Dict, List, NamedTuple, Tuple
 
 from django.conf import settings
 from django.db import transaction
@@ -166,30 +167,62 @@ def rows_of(out: pathlib.Path, team: str) -> List[Dict[str, Any]]:
         ]
 
 
-def due(limit: int, resting: Collection[int] = ()) -> List[Grading]:
-    """Returns at most `limit` gradings to start, without those that rest. A team has
-    one grading at a time. Teams whose last grading was shortest come first, so that
-    hanging programs delay few others; then the teams graded least recently."""
-    waiting = Grading.objects.filter(state=machine.WAITING).exclude(pk__in=resting)
-    busy = set(
+class Turn(NamedTuple):
+    """When the turn of a waiting grading comes, as it sorts: after how many others of
+    its team; how long the last grading of its team took, and when that ended; its
+    number."""
+
+    earlier: int
+    duration: datetime.timedelta
+    end: datetime.datetime
+    number: int
+
+
+def due(room: int, resting: Collection[int] = ()) -> List[Grading]:
+    """Returns the gradings to start, at most as many as there is room for, without those
+    that rest. A team has one grading at a time. A queue is looked at only if there is
+    room, since each worker asks several times a second."""
+    if room <= 0:
+        return []
+    numbers = [turn.number for turn in queue(resting) if not turn.earlier][:room]
+    gradings = Grading.objects.in_bulk(numbers)
+    return [gradings[number] for number in numbers]
+
+
+def queue(resting: Collection[int] = ()) -> List[Turn]:
+    """Returns the turns of all waiting gradings without those that rest, the next first.
+    Teams whose last grading was shortest come first, so that hanging programs delay few
+    others; then the teams graded least recently."""
+    earlier = collections.Counter(
         Grading.objects.filter(state__in=machine.ACTIVE).values_list(
             "hand_in__team", flat=True
         )
     )
-    order = Grading.objects.exclude(begun=None).exclude(ended=None).order_by("ended")
-    last = {
-        team: (end - begin, end)
-        for team, begin, end in order.filter(
-            ended__gt=timezone.now() - RECENT
-        ).values_list("hand_in__team", "begun", "ended")
-    }
-    never = (datetime.timedelta(0), timezone.now() - RECENT)
-    first: Dict[int, Grading] = {}
-    for work in waiting.select_related("hand_in").order_by("pk"):
-        if work.hand_in.team_id not in busy:
-            first.setdefault(work.hand_in.team_id, work)
-    gradings = sorted(
-        first.values(),
-        key=lambda grading: (*last.get(grading.hand_in.team_id, never), grading.pk),
+    waiting = list(
+        Grading.objects.filter(state=machine.WAITING)
+        .exclude(pk__in=resting)
+        .order_by("pk")
+        .values_list("hand_in__team", "pk")
     )
-    return gradings[: max(0, limit - len(busy))]
+    last = last_gradings_of_waiting_teams() if waiting else {}
+    never = (datetime.timedelta(0), timezone.now() - RECENT)
+    turns = []
+    for team, number in waiting:
+        turns.append(Turn(earlier[team], *last.get(team, never), number))
+        earlier[team] += 1
+    return sorted(turns)
+
+
+def last_gradings_of_waiting_teams() -> (
+    Dict[int, Tuple[datetime.timedelta, datetime.datetime]]
+):
+    """Returns how long the last recent grading of each team that waits for another took,
+    and when it ended."""
+    teams = Grading.objects.filter(state=machine.WAITING).values("hand_in__team")
+    rows = Grading.objects.filter(
+        ended__gt=timezone.now() - RECENT, begun__isnull=False, hand_in__team__in=teams
+    ).order_by("ended")
+    return {
+        team: (end - begin, end)
+        for team, begin, end in rows.values_list("hand_in__team", "begun", "ended")
+    }

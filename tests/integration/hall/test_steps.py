@@ -4,7 +4,7 @@ import datetime
 import itertools
 import shutil
 import time
-from typing import Any, Iterator
+from typing import Any, Iterator, List
 from unittest import mock
 
 from arena_lab.hall import machine
@@ -24,7 +24,7 @@ halls.started_hall()
 
 from django.conf import settings as django_settings  # noqa: E402
 from django.core.management import call_command  # noqa: E402
-from django.db import models  # noqa: E402
+from django.db import connection, models  # noqa: E402
 from django.test import TestCase  # noqa: E402
 from django.utils import timezone  # noqa: E402
 
@@ -301,7 +301,7 @@ class Queues(TestCase):
         self.assertEqual([it.pk for it in grading.due(1)], [first.pk])
         Grading.objects.filter(pk=first.pk).update(state=RUNNING, begun=timezone.now())
         self.assertEqual(
-            [[it.pk for it in grading.due(limit)] for limit in (1, 2)], [[], [hand.pk]]
+            [[it.pk for it in grading.due(room)] for room in (0, 1)], [[], [hand.pk]]
         )
         Grading.objects.filter(pk=first.pk).update(
             state=machine.OVER, ended=timezone.now()
@@ -317,6 +317,38 @@ class Queues(TestCase):
             ended=timezone.now(),
         )
         self.assertEqual([it.pk for it in grading.due(9)], [second.pk, hand.pk])
+
+    def test_a_look_beside_a_full_queue_costs_little(self) -> None:
+        """Each worker looks four times a second, which must leave the processors to
+        gradings."""
+
+        def grade(count: int, **columns: Any) -> None:
+            hand_in = HandIn(team=of("cedar"), name="a", size=1, files=1, digest="")
+            hand_ins = HandIn.objects.bulk_create([hand_in] * count)
+            first = HandIn.objects.order_by("-pk")[count - 1].pk
+            Grading.objects.bulk_create(
+                Grading(hand_in_id=first + number, **columns)
+                for number in range(len(hand_ins))
+            )
+
+        grade(django_settings.HALL.limits.gradings, state=RUNNING, holder="one")
+        watches = worker.watches()
+        worker.claim(watches)
+        cost = self.look_cost(watches)
+        grade(1_000)
+        self.assertLess(self.look_cost(watches), cost + 100)
+
+    def look_cost(self, watches: Any) -> int:
+        """Counts the hundreds of instructions of SQLite for a look of a worker that has
+        no room for more gradings."""
+        instructions: List[None] = []
+        handle = connection.connection.set_progress_handler
+        handle(lambda: instructions.append(None), 100)
+        try:
+            self.assertEqual(worker.claim(watches), [])
+        finally:
+            handle(None, 0)
+        return len(instructions)
 
     def test_taking_back_what_waits_and_closing_what_runs(self) -> None:
         work = attempt()
