@@ -11,7 +11,7 @@ from typing import Any, Collection, List, NamedTuple, Optional, Tuple
 
 import arena_lab
 from arena_lab import IN_CLONE
-from arena_lab.commands import spellings, statuses
+from arena_lab.command_line import spellings, statuses
 from arena_lab.rules import refusals
 from arena_lab.rules.engines import EngineRefusedError
 from arena_lab.support.faults import ArenaError

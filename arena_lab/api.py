@@ -27,7 +27,7 @@ program.
 """
 import contextlib
 import pathlib
-from typing import Any, Callable, Dict, Iterable, List, Optional, Sequence, Union
+from typing import Any, Callable, Iterable, List, Optional, Sequence, Union
 
 from arena_lab.play.agent_files import AgentError, client_module
 from arena_lab.play.bounds import LIMIT
@@ -40,7 +40,6 @@ from arena_lab.play.games import (
     rows_of,
 )
 from arena_lab.play.schedulers import SCHEDULER_MAKERS as SCHEDULERS
-from arena_lab.play.schedules import Schedule
 from arena_lab.play.teams import (
     BOARD,
     INSIDE,
@@ -56,20 +55,15 @@ from arena_lab.rules import draws, networks
 from arena_lab.rules.engines import MODEL, PROGRAM, name_of, program_at
 from arena_lab.rules.model import Place
 from arena_lab.rules.networks import Network
-from arena_lab.search import explore as exploring, hunt as hunting
-from arena_lab.search.capacity import OF_MODEL, OF_PROGRAM, fitting
-from arena_lab.search.checking import CheckCounts
-from arena_lab.search.driver import CHECKED_SAMPLES, ExploreJob, Search
-from arena_lab.search.findings import name_of as kind_of, turns_of
-from arena_lab.search.history_tree import NoFunctionError
-from arena_lab.search.match_results import (
-    MatchResult,
-    finding_with_schedule,
-    program_schedule,
-    unkept,
-)
+from arena_lab.search import hunt as hunting
+from arena_lab.search.driver import CHECKED_SAMPLES
 from arena_lab.search.program_search import SampleRequest
-from arena_lab.search.search_results import Exploration, HuntResult, SearchResult
+from arena_lab.search.search_results import (
+    Exploration,
+    HuntResult,
+    SearchResult,
+    explore_games,
+)
 from arena_lab.support.built import ProgramError
 from arena_lab.support.progress import bar
 
@@ -268,55 +262,7 @@ def explore(
         game(network_like, agents, **extra) for network_like in networks_in(network)
     ]
     drawn_games = [game for game_asked in games for game in game_asked.drawn_games()]
-    return explore_games(drawn_games, states, engine, draws, check)
-
-
-def explore_games(
-    all_asked: Sequence[Game],
-    states: Optional[int] = None,
-    engine: str = MODEL,
-    draws: Optional[SampleRequest] = None,
-    check: int = CHECKED_SAMPLES,
-) -> Union[Exploration, SearchResult]:
-    """Tries every schedule of games, as `explore` does."""
-    path = path_of(engine)
-    if path is not None:
-        limit = exploring.MAX_STATES if draws is not None else fitting(OF_PROGRAM)
-        return by_program(
-            all_asked,
-            ExploreJob(all_asked[0].matches(), path, states or limit, check, draws),
-        )
-    if draws is not None:
-        raise ValueError("draws need a program: name it by engine, or hunt")
-    with bar(None, "state") as progress:
-        by_game = [
-            (
-                game_asked,
-                list(
-                    exploring.explore_matches(
-                        game_asked, states or fitting(OF_MODEL), progress
-                    )
-                ),
-            )
-            for game_asked in all_asked
-        ]
-    explored = [match for _, of_one in by_game for match in of_one]
-    worst = max(explored, key=exploring.ExploredMatch.rank)
-    record = None
-    if worst.explorer.worst:
-        record = play_again(
-            worst.schedule(
-                next(game_of for game_of, of_one in by_game if worst in of_one)
-            ),
-            path,
-        )
-    return Exploration(
-        sum(match.explorer.states() for match in explored),
-        all(match.is_whole for match in explored),
-        worst.rank()[0],
-        sum(match.seconds for match in explored),
-        record,
-    )
+    return explore_games(drawn_games, states, path_of(engine), draws, check)
 
 
 def networks_in(
@@ -330,58 +276,6 @@ def networks_in(
             for network_found in networks_in(network_like)
         ]
     return list(networks.in_range(network)) if isinstance(network, str) else [network]
-
-
-def by_program(games: Sequence[Game], job: ExploreJob) -> SearchResult:
-    """Lets the program explore games up to the first match that fails or is not
-    explored completely. The job has the limits for each match."""
-    rows = []
-    counts = CheckCounts()
-    worst = None
-    for game in games:
-        search = Search(job._replace(matches=game.matches()))
-        with bar(None, "answer") as progress:
-            rows += [row_of(game, result) for result in search.results(progress)]
-        counts = counts.plus(search.checks)
-        last = search.tries[-1]
-        if last.has_failed():
-            worst = play_again(failing(game, last), job.program)
-        if last.has_failed() or not last.is_whole():
-            break
-    return SearchResult(rows, str(counts), worst, job.draws is not None)
-
-
-def failing(game: Game, result: MatchResult) -> Schedule:
-    """The schedule that fails, as the agents play it."""
-    try:
-        return program_schedule(game, result)
-    except NoFunctionError:
-        if not result.answer.modules:
-            raise
-        raise NoFunctionError(
-            f"a schedule fails; {unkept(turns_of(finding_with_schedule(result)))}"
-        ) from None
-
-
-def row_of(game: Game, result: MatchResult) -> Dict[str, Any]:
-    """Returns the row of an explored match: finding, number of states, most moves and
-    most lost agents. A column is None if the program printed no value for it."""
-    setup = result.fixture.setup
-    answer = result.answer
-    finding = result.answer.finding
-    samples = result.answer.samples
-    return {
-        "network": game.name,
-        "nodes": setup.nodes,
-        "home": setup.home,
-        "holes": setup.holes,
-        "found": finding and kind_of(type(finding)),
-        "states": answer.states,
-        **{name: getattr(finding, name, None) for name in ("moves", "lost", "turns")},
-        "drawn": samples and samples.solved + samples.failed,
-        "seconds": answer.seconds,
-        "why": answer.why,
-    }
 
 
 def hunt(

@@ -25,7 +25,7 @@ from typing import List, NamedTuple, Optional, Tuple
 from unittest import mock
 
 from arena_lab.__main__ import parser
-from arena_lab.commands.words import games_of
+from arena_lab.command_line.arguments import games_of
 from arena_lab.rules.fixtures import Fixture, write_tournament
 from arena_lab.search.findings import Finding, Solves, finding_of
 from arena_lab.search.machines import Machines

@@ -14,7 +14,7 @@ import time
 from typing import Callable, Dict, List, Optional
 
 from arena_lab import with_one_order
-from arena_lab.commands.words import add_program, at_least_one
+from arena_lab.command_line.arguments import add_program, at_least_one
 from arena_lab.play import schedulers
 from arena_lab.play.agent_files import AGENTS
 from arena_lab.play.kept_matches import engine_of

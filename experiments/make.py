@@ -34,7 +34,7 @@ from typing import Sequence
 
 from experiments import growth
 from experiments.table_rows import TABLES, TableRequest, Cells, MadeTable
-from arena_lab.commands.words import add_engine, add_workers, program_of
+from arena_lab.command_line.arguments import add_engine, add_workers, program_of
 from arena_lab.rules.engines import name_of
 from arena_lab.support.built import TOP
 

@@ -9,6 +9,7 @@ import re
 import unittest
 from typing import Dict, Iterator, List, Set, Tuple
 
+from arena_lab.__main__ import COMMANDS
 from arena_lab.support.built import LAB, TOP
 
 # in order: a package imports from itself and from lower packages only; the same holds
@@ -24,6 +25,7 @@ PACKAGES = (
     "course",
     "hall",
     "api",
+    "command_line",
     "commands",
     "__main__",
     "start",
@@ -205,6 +207,10 @@ class Packages(unittest.TestCase):
     def test_each_module_stands_in_a_package(self) -> None:
         self.assertEqual({name.partition(".")[0] for name in self.graph}, set(PACKAGES))
         self.assertIn("rules.model", self.graph["rules.rehearsal"])
+
+    def test_commands_have_a_module_each_and_no_other(self) -> None:
+        names = {name for name in self.graph if name.startswith("commands.")}
+        self.assertEqual(names, {f"commands.{name}" for name in COMMANDS})
 
     def test_a_package_stands_on_those_below(self) -> None:
         for name, rest in self.graph.items():

@@ -18,7 +18,7 @@ from typing import Dict, List
 
 from arena_lab import INSTALLED_COMMAND
 from arena_lab.__main__ import COMMANDS, parser
-from arena_lab.commands import statuses
+from arena_lab.command_line import statuses
 from tests import TOP, needs
 from tests.support.output import InTemporary, write
 from tests.test_gate import module

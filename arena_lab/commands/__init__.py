@@ -1,2 +1,2 @@
-"""The lab's commands: each has its words, and runs by what arena_lab.api and the
-packages have."""
+"""The lab's commands, a module each: its arguments, what it calls of the packages, what
+it prints, and its exit status."""

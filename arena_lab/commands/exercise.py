@@ -17,7 +17,7 @@ import pathlib
 import textwrap
 
 import arena_lab
-from arena_lab.commands.answers import check_answer
+from arena_lab.course.answers import check_answer
 from arena_lab.course import exercises
 from arena_lab.course.exercises import AGENT, Exercise
 from arena_lab.play.teams import OUTSIDE, AgentWords

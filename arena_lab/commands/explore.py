@@ -91,8 +91,7 @@ import os
 import pathlib
 from typing import List, Optional, Union
 
-from arena_lab.commands import explore_samples, explore_program
-from arena_lab.commands.words import (
+from arena_lab.command_line.arguments import (
     add_engine,
     add_match,
     at_least_one,
@@ -106,6 +105,7 @@ from arena_lab.play.parallel import Parallelism
 from arena_lab.play.teams import Game
 from arena_lab.rules import draws, families, networks
 from arena_lab.rules.engines import MODEL, PROGRAM, program_at
+from arena_lab.search import explore_reports, sample_reports
 from arena_lab.search.program_search import SampleRequest
 from arena_lab.search.explore import MAX_STATES, check_inside, explore_matches
 from arena_lab.search.capacity import OF_MODEL, OF_PROGRAM, fitting
@@ -257,7 +257,7 @@ def run(args: argparse.Namespace) -> int:
         parallelism = Parallelism(args.workers or 1, args.cluster)
         states = args.states or states_of(args)
         requests = [
-            explore_program.ExploreRequest(
+            explore_reports.ExploreRequest(
                 game, program, engine, states, args.check, args.keep, parallelism
             )
             for game in games
@@ -265,9 +265,9 @@ def run(args: argparse.Namespace) -> int:
         if args.out:
             return write_rows(args, requests)
         return (
-            explore_samples.run(requests, draws)
+            sample_reports.draw_and_report(requests, draws)
             if draws
-            else explore_program.run(requests)
+            else explore_reports.explore_and_report(requests)
         )
     if draws:
         raise ArenaError(
@@ -318,7 +318,7 @@ def explore_family(args: argparse.Namespace) -> int:
         if failing_match is None:
             return report_family(folder)
     print(f"{name_of(failing_match)} is not solved; it is tried once more:", flush=True)
-    request = explore_program.ExploreRequest(
+    request = explore_reports.ExploreRequest(
         job.game(failing_match),
         program,
         program_of(args),
@@ -326,7 +326,7 @@ def explore_family(args: argparse.Namespace) -> int:
         args.check,
         args.keep,
     )
-    status = explore_program.run([request])
+    status = explore_reports.explore_and_report([request])
     if status == 0:
         raise ArenaError(
             "an agent may use more commands than its quota, of which the program finds nothing, and rows are of "
@@ -389,7 +389,7 @@ def check_way(args: argparse.Namespace) -> None:
 
 
 def write_rows(
-    args: argparse.Namespace, requests: List[explore_program.ExploreRequest]
+    args: argparse.Namespace, requests: List[explore_reports.ExploreRequest]
 ) -> int:
     """Tries the schedules of all matches that have no row yet, and writes rows and a
     plot."""
@@ -397,7 +397,7 @@ def write_rows(
     games = [request.game for request in requests]
     with alone_in(args.out):
         folder = Folder(args.out, games, requests[0].program)
-        status = explore_program.run(
+        status = explore_reports.explore_and_report(
             [
                 request._replace(before=folder.of(games, index), write=folder.add)
                 for index, request in enumerate(requests)
@@ -437,6 +437,6 @@ def search_by_model(args: argparse.Namespace, game: Game) -> int:
     with bar(None, "state") as progress:
         for match in explore_matches(game, args.states or fitting(OF_MODEL), progress):
             progress.clear()
-            print(explore_program.by_model(match), flush=True)
+            print(explore_reports.by_model(match), flush=True)
             all_found.append(match)
-    return explore_program.report_by_model(game, all_found, args.keep, program_of(args))
+    return explore_reports.report_by_model(game, all_found, args.keep, program_of(args))

@@ -44,7 +44,12 @@ import argparse
 import pathlib
 import sys
 
-from arena_lab.commands.words import add_engine, add_forget, add_workers, program_of
+from arena_lab.command_line.arguments import (
+    add_engine,
+    add_forget,
+    add_workers,
+    program_of,
+)
 from arena_lab.course import course, export, points
 from arena_lab.course.graded_matches import GradingRun
 from arena_lab.course.grading import graded_in, hand_ins

@@ -30,7 +30,7 @@ import pathlib
 import sys
 from typing import Any, Callable, Dict
 
-from arena_lab.commands.words import add_program, at_least_one, not_negative
+from arena_lab.command_line.arguments import add_program, at_least_one, not_negative
 from arena_lab.hall import backup, entry, place, serving
 from arena_lab.hall.course import (
     CODEMIRROR,

@@ -22,7 +22,7 @@ import argparse
 import pathlib
 from typing import Optional
 
-from arena_lab.commands.words import (
+from arena_lab.command_line.arguments import (
     add_engine,
     add_match,
     add_repeat,

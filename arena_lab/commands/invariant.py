@@ -33,7 +33,7 @@ import argparse
 import pathlib
 from typing import Iterator, List
 
-from arena_lab.commands.words import add_match, at_least_one, games_of
+from arena_lab.command_line.arguments import add_match, at_least_one, games_of
 from arena_lab.play import kept_matches
 from arena_lab.play.agent_files import file_of
 from arena_lab.play.games import play_again

@@ -23,7 +23,7 @@ import sys
 import tempfile
 from typing import List, Tuple
 
-from arena_lab.commands.words import add_program
+from arena_lab.command_line.arguments import add_program
 from arena_lab.rules.engines import program_at, program_output
 from arena_lab.rules.origins import digests_of, files_of, origin_of
 from arena_lab.rules.printed import READERS, line_of, reading

@@ -13,7 +13,7 @@ import pathlib
 import secrets
 import sys
 
-from arena_lab.commands.words import add_ports
+from arena_lab.command_line.arguments import add_ports
 from arena_lab.pages import network_page
 from arena_lab.rules import draws, networks
 from arena_lab.rules.networks import Network, NetworkError

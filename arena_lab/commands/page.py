@@ -29,7 +29,7 @@ python3-scipy, which that package recommends.
 import argparse
 import pathlib
 
-from arena_lab.commands.words import add_engine, program_of
+from arena_lab.command_line.arguments import add_engine, program_of
 from arena_lab.pages.contest_pages import BETTER, LAST, Tries, write_pages
 from arena_lab.pages.links import replay_link
 from arena_lab.pages.page import data_of, write_page

@@ -19,7 +19,7 @@ import pathlib
 import sys
 from typing import List
 
-from arena_lab.commands.words import add_engine, program_of
+from arena_lab.command_line.arguments import add_engine, program_of
 from arena_lab.play import kept_matches
 from arena_lab.play.schedules import Schedule, read_schedule
 from arena_lab.play.teams import digests_of

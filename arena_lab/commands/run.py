@@ -38,7 +38,7 @@ import re
 import sys
 from typing import Counter, Iterable, List, Optional, TextIO, Tuple
 
-from arena_lab.commands.words import (
+from arena_lab.command_line.arguments import (
     add_engine,
     add_match,
     add_repeat,

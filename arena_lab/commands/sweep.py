@@ -41,7 +41,12 @@ first may play them.
 import argparse
 import pathlib
 
-from arena_lab.commands.words import add_engine, add_workers, at_least_one, program_of
+from arena_lab.command_line.arguments import (
+    add_engine,
+    add_workers,
+    at_least_one,
+    program_of,
+)
 from arena_lab.play.games import maker_of
 from arena_lab.play.parallel import Parallelism
 from arena_lab.rules.engines import program_at

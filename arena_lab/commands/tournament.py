@@ -39,7 +39,7 @@ import secrets
 from typing import Callable, Dict, List, NamedTuple, Optional, Sequence, Tuple, Union
 
 from arena_lab.commands.network import network_for
-from arena_lab.commands.words import add_ports, not_negative
+from arena_lab.command_line.arguments import add_ports, not_negative
 from arena_lab.pages.contest_pages import PLAN_FILE, TOURNAMENT
 from arena_lab.rules import draws, networks
 from arena_lab.rules.delays import ADAPTIVE, OBLIVIOUS, ODDS, SCALES, Delays

@@ -17,7 +17,7 @@ import shutil
 import webbrowser
 
 from arena_lab.commands import hall
-from arena_lab.commands.words import add_program, at_least_one
+from arena_lab.command_line.arguments import add_program, at_least_one
 from arena_lab.hall import place
 from arena_lab.hall.course import HallError
 from arena_lab.hall.place import HallFolder

@@ -6,7 +6,18 @@ import random
 import signal
 import threading
 import time
-from typing import Any, Dict, Iterator, List, NamedTuple, Optional, Sequence, Set, Tuple
+from typing import (
+    Any,
+    Callable,
+    Dict,
+    Iterator,
+    List,
+    NamedTuple,
+    Optional,
+    Sequence,
+    Set,
+    Tuple,
+)
 
 from arena_lab.course.conditions import CourseDraws, Conditions, conditions_in
 from arena_lab.play.games import MatchRequest, Record, SchedulerName
@@ -159,9 +170,16 @@ def processor_seconds() -> float:
 
 class CheckBudget:
     """The time budget of a check, in processor seconds and optionally in wall-clock
-    seconds, with counts of the matches played and names of the steps left out."""
+    seconds, with counts of the matches played and names of the steps left out. `report`
+    takes a line for each step that has passed."""
 
-    def __init__(self, seconds: float, by_clock: float = math.inf) -> None:
+    def __init__(
+        self,
+        seconds: float,
+        by_clock: float = math.inf,
+        report: Callable[[str], object] = print,
+    ) -> None:
+        self.report = report
         self._until = processor_seconds() + seconds
         self._late = time.monotonic() + by_clock
         self.left_out: List[str] = []

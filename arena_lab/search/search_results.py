@@ -1,10 +1,26 @@
-"""Results of searches for Python programs and notebooks."""
+"""Results of searches as Python programs and notebooks take them, and explorations of
+several games, which give them."""
 import importlib
-from typing import Any, Dict, List, NamedTuple, Optional
+from typing import Any, Dict, List, NamedTuple, Optional, Sequence, Union
 
-from arena_lab.play.games import Record
+from arena_lab.play.games import Record, play_again
+from arena_lab.play.schedules import Schedule
+from arena_lab.play.teams import Game
 from arena_lab.rules.model import Verdict
-from arena_lab.search.findings import Exceeds, Solves, name_of as kind_of
+from arena_lab.search import explore
+from arena_lab.search.capacity import OF_MODEL, OF_PROGRAM, fitting
+from arena_lab.search.checking import CheckCounts
+from arena_lab.search.driver import CHECKED_SAMPLES, ExploreJob, Search
+from arena_lab.search.findings import Exceeds, Solves, name_of as kind_of, turns_of
+from arena_lab.search.history_tree import NoFunctionError
+from arena_lab.search.match_results import (
+    MatchResult,
+    finding_with_schedule,
+    program_schedule,
+    unkept,
+)
+from arena_lab.search.program_search import SampleRequest
+from arena_lab.support.progress import bar
 
 
 def record_text(record: Record) -> str:
@@ -145,3 +161,91 @@ class HuntResult(NamedTuple):
 
     def _repr_html_(self) -> str:
         return f"<p>{self}</p>{self.best._repr_html_()}"
+
+
+def explore_games(
+    games: Sequence[Game],
+    states: Optional[int] = None,
+    program: Optional[str] = None,
+    draws: Optional[SampleRequest] = None,
+    check: int = CHECKED_SAMPLES,
+) -> Union[Exploration, SearchResult]:
+    """Tries every schedule of games, or draws schedules, by a program or by the Python
+    model. `states` are the most of a match to visit."""
+    if program is not None:
+        limit = explore.MAX_STATES if draws is not None else fitting(OF_PROGRAM)
+        return by_program(
+            games,
+            ExploreJob(games[0].matches(), program, states or limit, check, draws),
+        )
+    if draws is not None:
+        raise ValueError("draws need a program: name it by engine, or hunt")
+    with bar(None, "state") as progress:
+        explored = [
+            (match, game)
+            for game in games
+            for match in explore.explore_matches(
+                game, states or fitting(OF_MODEL), progress
+            )
+        ]
+    worst, worst_game = max(explored, key=lambda pair: pair[0].rank())
+    has_ended = worst.explorer.worst is not None
+    return Exploration(
+        sum(match.explorer.states() for match, _ in explored),
+        all(match.is_whole for match, _ in explored),
+        worst.rank()[0],
+        sum(match.seconds for match, _ in explored),
+        play_again(worst.schedule(worst_game), None) if has_ended else None,
+    )
+
+
+def by_program(games: Sequence[Game], job: ExploreJob) -> SearchResult:
+    """Lets the program explore games up to the first match that fails or is not
+    explored completely. The job has the limits for each match."""
+    rows = []
+    counts = CheckCounts()
+    worst = None
+    for game in games:
+        search = Search(job._replace(matches=game.matches()))
+        with bar(None, "answer") as progress:
+            rows += [row_of(game, result) for result in search.results(progress)]
+        counts = counts.plus(search.checks)
+        last = search.tries[-1]
+        if last.has_failed():
+            worst = play_again(failing(game, last), job.program)
+        if last.has_failed() or not last.is_whole():
+            break
+    return SearchResult(rows, str(counts), worst, job.draws is not None)
+
+
+def failing(game: Game, result: MatchResult) -> Schedule:
+    """The schedule that fails, as the agents play it."""
+    try:
+        return program_schedule(game, result)
+    except NoFunctionError:
+        if not result.answer.modules:
+            raise
+        raise NoFunctionError(
+            f"a schedule fails; {unkept(turns_of(finding_with_schedule(result)))}"
+        ) from None
+
+
+def row_of(game: Game, result: MatchResult) -> Dict[str, Any]:
+    """Returns the row of an explored match: finding, number of states, most moves and
+    most lost agents. A column is None if the program printed no value for it."""
+    setup = result.fixture.setup
+    answer = result.answer
+    finding = result.answer.finding
+    samples = result.answer.samples
+    return {
+        "network": game.name,
+        "nodes": setup.nodes,
+        "home": setup.home,
+        "holes": setup.holes,
+        "found": finding and kind_of(type(finding)),
+        "states": answer.states,
+        **{name: getattr(finding, name, None) for name in ("moves", "lost", "turns")},
+        "drawn": samples and samples.solved + samples.failed,
+        "seconds": answer.seconds,
+        "why": answer.why,
+    }

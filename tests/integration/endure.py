@@ -15,7 +15,7 @@ import sys
 from typing import List, NamedTuple
 
 from arena_lab import with_one_order
-from arena_lab.commands.words import at_least_one
+from arena_lab.command_line.arguments import at_least_one
 from arena_lab.play import schedulers
 from arena_lab.play.agent_files import AGENTS
 from arena_lab.play.matches import play

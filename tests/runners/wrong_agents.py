@@ -22,6 +22,7 @@ from typing import Iterator, List, NamedTuple, Optional, Sequence, Tuple
 
 from arena_lab import with_one_order
 from arena_lab.commands import check
+from arena_lab.course import check_steps
 from arena_lab.course.checked import CheckJob, conditions_of
 from arena_lab.course.course import course_of
 from arena_lab.play.agent_files import AGENTS, AgentError
@@ -181,7 +182,7 @@ def check_mutant(base: Base, agent: AgentWords, failures: int) -> MutantResult:
     nets = check.NETWORKS if "ring:8" in base.networks else base.networks
     results = {**check.DEFAULT_CONDITIONS, "networks": list(nets)}
     conditions = conditions_of(results, pathlib.Path(), agent, base.agents)
-    _, wrong = check.check_agent(
+    _, wrong = check_steps.check_agent(
         CheckJob(agent, conditions, LIMIT, None, SECONDS, True)
     )
     return MutantResult(failures, wrong is None, " ".join(wrong.lines) if wrong else "")

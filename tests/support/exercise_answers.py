@@ -8,7 +8,7 @@ import tempfile
 import tomllib
 from typing import Iterator, List, NamedTuple
 
-from arena_lab.commands.answers import check_answer, play_match
+from arena_lab.course.answers import check_answer, play_match
 from arena_lab.course import exercises
 from arena_lab.course.exercises import AGENT, Exercise
 from arena_lab.play.games import Record

@@ -15,7 +15,7 @@ import time
 from typing import Dict, List, NamedTuple, Optional, Tuple
 
 from arena_lab import api, with_one_order
-from arena_lab.commands.words import add_program
+from arena_lab.command_line.arguments import add_program
 from arena_lab.rules.draws import DRAWN, GIVEN
 from arena_lab.rules.engines import program_at
 from arena_lab.rules.model import Verdict

@@ -18,7 +18,7 @@ import shutil
 import sys
 from typing import Dict, List
 
-from arena_lab.commands.answers import numberings_of
+from arena_lab.course.answers import numberings_of
 from arena_lab.course.exercises import (
     TOLD_COMMAND,
     Exercise,

@@ -1,4 +1,4 @@
-"""A fork server for trials (arena_lab/commands/trial.py): a process with all modules
+"""A fork server for trials (arena_lab/course/trials.py): a process with all modules
 loaded, which forks one process per trial within milliseconds. It ends with its worker,
 and each trial with it."""
 import contextlib
@@ -17,7 +17,7 @@ from arena_lab.hall.machine import MachineFaultError
 from arena_lab.support.built import TOP
 from arena_lab.support.waiting import is_ready
 
-MODULE = "arena_lab.commands.trial"
+MODULE = "arena_lab.course.trials"
 # seconds for the start of the fork server, and for the end of a killed process
 PATIENCE = 60.0
 

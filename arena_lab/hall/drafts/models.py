@@ -41,7 +41,7 @@ class Trial(StoredWork):
     scheduler = models.CharField(max_length=20)
     seed = models.PositiveIntegerField(default=0)
     files = models.JSONField(default=dict)
-    # what came of it: see arena_lab/commands/trial.py
+    # what came of it: see arena_lab/course/trials.py
     found = models.JSONField(null=True)
     has_page = models.BooleanField(default=False)
 

@@ -10,7 +10,7 @@ from django.conf import settings
 from django.db import transaction
 from django.utils.translation import gettext as _
 
-from arena_lab.course.trials import (
+from arena_lab.course.trial_files import (
     REQUEST_FILE,
     CHECK,
     EXPLORE,

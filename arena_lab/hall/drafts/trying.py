@@ -6,7 +6,7 @@ from django.conf import settings
 from django.db import transaction
 from django.utils.translation import gettext as _
 
-from arena_lab.course.trials import EXPLORE, KINDS, PLAY
+from arena_lab.course.trial_files import EXPLORE, KINDS, PLAY
 from arena_lab.hall import machine
 from arena_lab.hall.attempts.asking import RequestRefusedError, make_room, open_networks
 from arena_lab.hall.attempts.shown import time_of

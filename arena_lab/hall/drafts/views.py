@@ -8,7 +8,7 @@ from django.shortcuts import redirect, render
 from django.utils import timezone
 from django.views.decorators.http import require_POST
 
-from arena_lab.course.trials import PAGE, REPLAY
+from arena_lab.course.trial_files import PAGE, REPLAY
 from arena_lab.hall.attempts.asking import RequestRefusedError, open_networks
 from arena_lab.hall.attempts.views import send_file
 from arena_lab.hall.drafts import guests, kits, trying, words, writing

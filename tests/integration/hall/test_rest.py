@@ -10,7 +10,7 @@ from tests.integration.hall.hall_pages import (
     play_match,
 )
 
-from arena_lab.commands.trial import bound_report
+from arena_lab.course.trials import bound_report
 from arena_lab.course.mistaken_lines import LineMark
 from arena_lab.hall.attempts.models import Attempt
 from arena_lab.hall.course import EditorRules

@@ -3,7 +3,7 @@ explains it."""
 import random
 
 from arena_lab.__main__ import main
-from arena_lab.commands import statuses
+from arena_lab.command_line import statuses
 from arena_lab.pages import page
 from arena_lab.play import schedulers
 from tests.support.matches import (

@@ -6,7 +6,7 @@ from typing import Dict, List
 from unittest import mock
 
 from arena_lab.__main__ import main, parser
-from arena_lab.commands.words import games_of
+from arena_lab.command_line.arguments import games_of
 from arena_lab.rules.networks import ring
 from arena_lab.search import explore
 from tests.support.matches import FAULTY, RING

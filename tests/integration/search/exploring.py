@@ -3,7 +3,7 @@ program answers of it."""
 from typing import Any, List, Optional, Tuple
 
 from arena_lab.__main__ import main, parser
-from arena_lab.commands.words import games_of
+from arena_lab.command_line.arguments import games_of
 from arena_lab.play.teams import AgentWords, Game
 from arena_lab.rules.fixtures import Fixture
 from arena_lab.search.findings import ExploreAnswer

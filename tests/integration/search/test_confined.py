@@ -6,7 +6,7 @@ import sys
 import unittest
 from unittest import mock
 
-from arena_lab.commands import check
+from arena_lab.course import check_steps
 from arena_lab.course import hand_in
 from arena_lab.course.checked import CheckJob, CheckBudget, conditions_of
 from arena_lab.play.teams import OUTSIDE, AgentWords
@@ -29,7 +29,7 @@ agent = Agent.connect(host, int(port))
 agent.enter(key)
 agent.leave()
 """
-STEPS = (check.matches, check.wait, check.search, check.every)
+STEPS = (check_steps.matches, check_steps.wait, check_steps.search, check_steps.every)
 
 
 class Confined(InTemporary):
@@ -62,7 +62,7 @@ class Confined(InTemporary):
             60,
             True,
         )
-        with mock.patch.multiple(check, EXPLORE_NETWORKS=("ring:3",)):
+        with mock.patch.multiple(check_steps, EXPLORE_NETWORKS=("ring:3",)):
             for step in STEPS:
                 wrong = step(job, CheckBudget(60))[1]
                 assert wrong is not None

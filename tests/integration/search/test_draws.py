@@ -7,7 +7,7 @@ from typing import Optional, Tuple
 from arena_lab import api as lab
 from arena_lab.__main__ import main
 from arena_lab.commands.explore import SCHEDULERS
-from arena_lab.commands.explore_samples import moves_of
+from arena_lab.search.sample_reports import moves_of
 from arena_lab.search.findings import Comes, ExploreAnswer, SampleCounts, Solves
 from arena_lab.search.program_search import SampleRequest
 from tests.integration.search.exploring import InExplore

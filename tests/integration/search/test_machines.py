@@ -7,7 +7,7 @@ import unittest
 from typing import Dict, List, Tuple
 
 from arena_lab.__main__ import parser
-from arena_lab.commands.words import games_of
+from arena_lab.command_line.arguments import games_of
 from arena_lab.play.players import DONE
 from arena_lab.rules.model import GONE, OVER, spell
 from arena_lab.search.agent_processes import SAYS, STOP, AgentStep

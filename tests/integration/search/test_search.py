@@ -7,7 +7,7 @@ from typing import List
 from unittest import mock
 
 from arena_lab.__main__ import main, parser
-from arena_lab.commands.words import games_of
+from arena_lab.command_line.arguments import games_of
 from arena_lab.play.games import play_seed
 from arena_lab.play.teams import INSIDE, AgentWords, Game
 from arena_lab.rules import networks

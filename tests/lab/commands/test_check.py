@@ -11,8 +11,8 @@ from unittest import mock
 
 from arena_lab.__main__ import main
 from arena_lab.commands import check
-from arena_lab.commands.check import BY_TURNS, DRAWS, LEAST, SEARCH_NETWORKS
-from arena_lab.course import checked
+from arena_lab.course import check_steps, checked
+from arena_lab.course.check_steps import BY_TURNS, DRAWS, LEAST, SEARCH_NETWORKS
 from arena_lab.course.checked import CheckJob, conditions_of
 from arena_lab.play.teams import INSIDE, AgentWords
 from arena_lab.rules import networks
@@ -36,11 +36,13 @@ class Draws(unittest.TestCase):
         job = CheckJob(agent, conditions, 1.0, None, 60, True)
         with mock.patch.object(checked, "processor_seconds", clock), mock.patch.object(
             checked.MatchRequest, "play", play
-        ), mock.patch.object(check, "under", return_value="to mend"), mock.patch.object(
-            check, "bar"
+        ), mock.patch.object(
+            check_steps, "under", return_value="to mend"
+        ), mock.patch.object(
+            check_steps, "bar"
         ):
             self.tried = checked.CheckBudget(60)
-            return check.draw(job, SEARCH_NETWORKS, self.tried)
+            return check_steps.draw(job, SEARCH_NETWORKS, self.tried)
 
     def test_a_busy_machine_draws_the_least_number_and_says_so(self) -> None:
         self.assertEqual(self.draw(1_000.0), (LEAST, None))
@@ -100,7 +102,7 @@ class Said(unittest.TestCase):
         )
         record = mock.Mock(keep=lambda folder: [f"see {folder}"])
         self.assertEqual(
-            self.json_of(("", check.Finding(["it fails", "so"], record))),
+            self.json_of(("", check_steps.Finding(["it fails", "so"], record))),
             (1, {"right": False, "said": ["it fails", "so"], "kept": "kept"}),
         )
 

@@ -9,7 +9,7 @@ from unittest import mock
 
 from arena_lab import command_name
 from arena_lab.__main__ import COMMANDS, main, parser
-from arena_lab.commands.spellings import MODULES, SPELLINGS
+from arena_lab.command_line.spellings import MODULES, SPELLINGS
 from tests.support.output import run_call
 
 

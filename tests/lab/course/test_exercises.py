@@ -6,10 +6,9 @@ import time
 from typing import Any, Dict, List, Tuple
 from unittest import mock
 
-from arena_lab import api
 from arena_lab.__main__ import main
-from arena_lab.commands import answers
-from arena_lab.commands.answers import Answer, check_answer
+from arena_lab.course import answers
+from arena_lab.course.answers import Answer, check_answer
 from arena_lab.course import exercises
 from arena_lab.course.exercises import CLIENT, Exercise
 from arena_lab.play.agent_files import AGENTS
@@ -173,7 +172,7 @@ class Exercises(InTemporary):
                 "cannot be tried: it says another",
             ),
         ):
-            with mock.patch.object(api, "explore_games", side_effect=wrong):
+            with mock.patch.object(answers, "explore_games", side_effect=wrong):
                 output = self.answer(exercise, seconds=0).lines
             self.assertIn(f"{every} {sentence}", output[0])
         self.assertIn("and under every schedule of ring:4", exercise.praise())

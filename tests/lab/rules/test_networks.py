@@ -6,7 +6,7 @@ import unittest
 import warnings
 
 from arena_lab.__main__ import main
-from arena_lab.commands.words import ports
+from arena_lab.command_line.arguments import ports
 from arena_lab.commands.tournament import file_of, number_or, team_name
 from arena_lab.rules import draws, networks
 from arena_lab.support.built import TOP

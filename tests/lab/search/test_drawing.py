@@ -4,7 +4,7 @@ import unittest
 from typing import Any, List
 from unittest import mock
 
-from arena_lab.commands import explore_samples
+from arena_lab.search import sample_reports
 from arena_lab.rules.engines import EnginesDifferError
 from arena_lab.rules.fixtures import Fixture
 from arena_lab.rules.model import Setup
@@ -32,9 +32,9 @@ class Drawing(unittest.TestCase):
     def output(self, tries: List[MatchResult], hunt: Any = None) -> str:
         search = mock.Mock(tries=tries, checks="checked", seconds=1.25)
         draws = SampleRequest(7, 1, "fair", hunt)
-        with mock.patch.object(explore_samples, "keep"):
+        with mock.patch.object(sample_reports, "keep"):
             status, output, _ = run_call(
-                explore_samples.report_samples, mock.Mock(), draws, search
+                sample_reports.report_samples, mock.Mock(), draws, search
             )
         self.assertEqual(status, 0)
         return output

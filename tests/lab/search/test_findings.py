@@ -5,13 +5,11 @@ import unittest
 from typing import Any, Dict, List, Tuple
 from unittest import mock
 
-from arena_lab import api
-from arena_lab.commands import explore_program, explore_samples
 from arena_lab.play.teams import INSIDE, AgentWords, Game
 from arena_lab.rules.fixtures import Fixture
 from arena_lab.rules.model import Setup, Verdict
 from arena_lab.rules.networks import ring
-from arena_lab.search import driver
+from arena_lab.search import driver, explore_reports, sample_reports, search_results
 from arena_lab.search.findings import (
     Breaks,
     Comes,
@@ -105,7 +103,7 @@ class Findings(unittest.TestCase):
                 result = read_result(text_sent, COUNTS)
                 self.assertEqual(result.answer, ExploreAnswer(line, 2.0, 5))
                 self.assertEqual(
-                    explore_program.line_of(result),
+                    explore_reports.line_of(result),
                     f"home 0 holes [2]: {output}, 2.0 s",
                 )
                 self.assertEqual(
@@ -121,7 +119,7 @@ class Findings(unittest.TestCase):
                     (result.answer.finding, result.answer.states), (draw, None)
                 )
                 self.assertEqual(
-                    explore_samples.line_of(result),
+                    sample_reports.line_of(result),
                     f"home 0 holes [2]: {SAID}{extra}, 2.0 s",
                 )
 
@@ -132,7 +130,7 @@ class Findings(unittest.TestCase):
             (Exceeds(1, 11), False, False),
         )
         self.assertEqual(
-            explore_samples.line_of(result),
+            sample_reports.line_of(result),
             "home 0 holes [2]: under a schedule agent 1 uses 11 commands, "
             "and its quota is less, 2.0 s",
         )
@@ -158,12 +156,12 @@ class Findings(unittest.TestCase):
             )
             self.assertIn(
                 f"agent {agent} fails: it burns more fuel than a command has in function 7",
-                explore_program.line_of(result),
+                explore_reports.line_of(result),
             )
 
     def test_a_match_that_was_stopped_says_why(self) -> None:
         result = MatchResult(FIXTURE, ExploreAnswer(None, 2.0, why="stopped"))
-        for line in (explore_program.line_of, explore_samples.line_of):
+        for line in (explore_reports.line_of, sample_reports.line_of):
             self.assertEqual(line(result), "home 0 holes [2]: stopped, 2.0 s")
         self.assertEqual((result.is_whole(), result.has_failed()), (False, False))
 
@@ -185,7 +183,7 @@ class Findings(unittest.TestCase):
             (DRAWS[0][0], DRAWN, 4),
         ]:
             with self.subTest(text_sent["found"]):
-                row = api.row_of(GAME, read_result(text_sent, counts))
+                row = search_results.row_of(GAME, read_result(text_sent, counts))
                 output = {
                     name: text_sent.get(name) for name in ("moves", "lost", "turns")
                 }

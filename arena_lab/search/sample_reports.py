@@ -6,7 +6,7 @@ import itertools
 import statistics
 from typing import List, NamedTuple, Sequence, Tuple
 
-from arena_lab.commands.explore_program import (
+from arena_lab.search.explore_reports import (
     ExploreRequest,
     all_tried,
     failure_of,
@@ -48,7 +48,7 @@ def moves_of(pairs: Pairs) -> MoveStatistics:
     )
 
 
-def run(all_wanted: Sequence[ExploreRequest], draws: SampleRequest) -> int:
+def draw_and_report(all_wanted: Sequence[ExploreRequest], draws: SampleRequest) -> int:
     """Draws schedules of all matches of some games, up to the first game in which one
     fails."""
 

@@ -6,7 +6,7 @@ import unittest
 from typing import Any, List
 from unittest import mock
 
-from arena_lab.commands import trial
+from arena_lab.course import trials
 
 
 class Worker:
@@ -27,19 +27,19 @@ class Trials(unittest.TestCase):
         self.addCleanup(signal.signal, signal.SIGCHLD, signal.SIG_DFL)
         worker: Any = Worker()
         with mock.patch.multiple(
-            trial,
+            trials,
             SURVEY_SECONDS=facts,
             share=mock.DEFAULT,
             read_request=mock.DEFAULT,
             gc=mock.DEFAULT,
         ), mock.patch.object(
-            trial.os, "fork", return_value=os.getpid()
+            trials.os, "fork", return_value=os.getpid()
         ), mock.patch.object(
-            trial.socket, "send_fds"
+            trials.socket, "send_fds"
         ) as payload, mock.patch.object(
-            trial.isolation, "meeting_places"
+            trials.isolation, "meeting_places"
         ) as places:
-            trial.TrialServer(worker).serve()
+            trials.TrialServer(worker).serve()
         self.assertEqual(payload.call_count, 2)
         self.assertEqual(worker.messages, [])
         return int(places.cache_clear.call_count)
@@ -49,9 +49,9 @@ class Trials(unittest.TestCase):
         self.assertEqual(self.forgot(-1), 2)
 
     def test_what_cannot_be_shared_is_left_to_the_trial(self) -> None:
-        fault = trial.isolation.CellError("no filter")
-        with mock.patch.object(trial.isolation, "system_filter", side_effect=fault):
-            trial.share(trial.DEFAULT_COMMAND)
+        fault = trials.isolation.CellError("no filter")
+        with mock.patch.object(trials.isolation, "system_filter", side_effect=fault):
+            trials.share(trials.DEFAULT_COMMAND)
 
 
 if __name__ == "__main__":

@@ -5,7 +5,6 @@ import io
 import time
 from typing import Any, List, NamedTuple, Optional, Tuple
 
-from arena_lab import api
 from arena_lab.course.checked import Alarm, CheckBudget
 from arena_lab.course.exercises import Exercise, ExerciseMatch
 from arena_lab.course.scripts import script_agent
@@ -16,9 +15,9 @@ from arena_lab.play.schedulers import ImpossibleError
 from arena_lab.play.schedules import schedule_of
 from arena_lab.play.teams import DRAWS, AgentWords, Game
 from arena_lab.rules import draws, networks
-from arena_lab.rules.engines import MODEL
 from arena_lab.rules.networks import Network
 from arena_lab.search.history_tree import NoFunctionError
+from arena_lab.search.search_results import explore_games
 
 # seconds for a line, and the beginning of the fault of an agent whose first line was
 # denied
@@ -108,8 +107,8 @@ def every_schedule(
     try:
         with alarm, silence:
             games = games_of(exercise, inside or agent)
-            result: Any = api.explore_games(
-                games, MAX_STATES, program or MODEL, check=CHECKED_SAMPLES
+            result: Any = explore_games(
+                games, MAX_STATES, program, check=CHECKED_SAMPLES
             )
     except (AgentError, NoFunctionError) as fault:
         return None, [f"{of_all} cannot be tried: {fault}"]

@@ -94,7 +94,7 @@ class ExploreRequest(NamedTuple):
         )
 
 
-def run(all_wanted: Sequence[ExploreRequest]) -> int:
+def explore_and_report(all_wanted: Sequence[ExploreRequest]) -> int:
     """Tries the schedules of all matches of some games, up to the first game in which
     one fails or is not tried."""
     return in_turn(all_wanted, tried_one)

@@ -1,0 +1,2 @@
+"""The command line of the lab: arguments that commands share, old spellings, and exit
+statuses."""
