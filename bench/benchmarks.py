@@ -79,8 +79,8 @@ MEMORY_NOTE = """\
 What 256 agents in four matches take, after each has entered and looked fifty times, by `/proc/PID/smaps`.
 """
 HUNTS_NOTE = """\
-Schedules until a wrong agent of `arena_lab/mutants` fails, of ten seeds. `run` plays fair schedules. A hunt plays the
-same first, 300 at most, and then lets Hypothesis search.
+Schedules until a wrong agent of `examples/agents/faulty` fails, of ten seeds. `run` plays fair schedules. A hunt plays
+the same first, 300 at most, and then lets Hypothesis search.
 """
 WAITS_NOTE = """\
 Two agents on a ring of eight nodes. The first stands, is destroyed, or is on a held link; the second makes its moves,

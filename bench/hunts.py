@@ -2,7 +2,7 @@
 
     /usr/bin/python3 -m bench.hunts [--seeds N] [--most N] [NAME ..]
 
-Plays each agent of arena_lab/mutants on the network on which `tests.support.mutants`
+Plays each agent of examples/agents/faulty on the network on which `tests.support.mutants`
 hunts it. For each seed (--seeds) it counts the schedules of a hunt up to the first
 after which the team fails, and those of `run`, which begins with the hunt's first draw
 and is given up after --most. A row has the median and the most of each. The exit status

@@ -40,19 +40,18 @@ FOLDERS = (
     ("experiments",),
     ("tests",),
 )
-MUTANTS = "mutants"
 # these modules need Django and a hall, which no unit test has: they are read and not
 # imported
 HALL = "arena_lab.hall."
 
 
 def modules() -> Dict[str, pathlib.Path]:
-    """The lab's modules by their names behind `lab.`, without mutants."""
+    """The lab's modules by their names behind `lab.`."""
     paths = [path.relative_to(LAB).with_suffix("") for path in LAB.rglob("*.py")]
     return {
         ".".join(path.parts).removesuffix(".__init__"): LAB / path.with_suffix(".py")
         for path in paths
-        if path.parts[0] != MUTANTS and path.parts != ("__init__",)
+        if path.parts != ("__init__",)
     }
 
 

@@ -71,13 +71,9 @@ def file_of(name: str) -> pathlib.Path:
     installed, so that the sample agents have the same names everywhere, such as
     examples/agents/ring.py."""
     path = pathlib.Path(name)
-    places = [AGENTS.parents[1] / path, TOP / path]
-    is_sample = path.parts[:1] in (("examples",), ("arena_lab",))
-    return (
-        next((place for place in places if place.is_file()), path)
-        if is_sample and not path.exists()
-        else path
-    )
+    place = AGENTS.parents[1] / path
+    is_sample = path.parts[:1] == ("examples",) and not path.exists()
+    return place if is_sample and place.is_file() else path
 
 
 @functools.lru_cache(maxsize=None)

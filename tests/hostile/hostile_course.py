@@ -39,7 +39,7 @@ from tests.support.courses import rows_of_teams, team
 
 TOP = pathlib.Path(__file__).resolve().parents[2]
 AGENTS = TOP / "examples" / "agents"
-MUTANT = TOP / "arena_lab" / "mutants" / "reads_once.py"
+MUTANT = TOP / "examples" / "agents" / "faulty" / "reads_once.py"
 HEAD = """title = "A hostile course"
 networks = ["ring:24", "ring:48", "ring:64"]
 holes = 2

@@ -26,7 +26,7 @@ TOP = pathlib.Path(__file__).resolve().parents[2]
 DEBIANS_PYTHON = "/usr/bin/python3"
 EXTRAS = "hunt,page,sweep"
 RING = "examples/agents/ring.py {nodes}"
-WRONG = "arena_lab/mutants/reads_once.py {nodes}"
+WRONG = "examples/agents/faulty/reads_once.py {nodes}"
 MODULE = "examples/agents/wasm/ring.wasm:{nodes}"
 # commands of the lab's tutorial, and what each says
 TUTORIAL = (

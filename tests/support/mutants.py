@@ -2,9 +2,9 @@
 
     /usr/bin/python3 -m tests.support.mutants [NAME ..] [--program PATH]
 
-Each of arena_lab/mutants/*.py is a sample agent with one mistake, and its first lines
-name it. `hunt` looks for a schedule after which the agent fails, and `explore` tries
-all schedules of a small network. A line says for each mutant after how many schedules
+Each of examples/agents/faulty/*.py is a sample agent with one mistake, and its first
+lines name it. `hunt` looks for a schedule after which the agent fails, and `explore`
+tries all schedules of a small network. A line says for each mutant after how many schedules
 and seconds `hunt` caught it, what the program's verdict was, and after how many states
 `explore` caught it. The last line reads `N passed, M failed`: a mutant that one of them
 does not catch has failed, and the exit status is 1 then.
@@ -16,13 +16,13 @@ from typing import Dict, List, NamedTuple, Optional, Tuple
 
 from arena_lab import api, with_one_order
 from arena_lab.command_line.arguments import add_program
+from arena_lab.play.agent_files import AGENTS
 from arena_lab.rules.draws import DRAWN, GIVEN
 from arena_lab.rules.engines import program_at
 from arena_lab.rules.model import Verdict
-from arena_lab.support.built import LAB
 from tests.support.counts import report_counts
 
-FOLDER = LAB / "mutants"
+FOLDER = AGENTS / "faulty"
 
 
 class MutantMatch(NamedTuple):

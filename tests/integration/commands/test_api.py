@@ -206,7 +206,7 @@ class Api(InFolder):
         self.assertFalse(few.is_whole or few.solves)
         result = lab.hunt(
             "ring:8",
-            f"{TOP}/arena_lab/mutants/reads_once.py {{nodes}}",
+            f"{TOP}/examples/agents/faulty/reads_once.py {{nodes}}",
             runs=500,
             engine=program(),
         )
@@ -247,7 +247,7 @@ class Api(InFolder):
         self.assertEqual(lab.explore("ring:3..4", RING.words).most_moves, 9)
         wrong = lab.explore(
             ["ring:4", "ring:5"],
-            f"{TOP}/arena_lab/mutants/reads_once.py {{nodes}}",
+            f"{TOP}/examples/agents/faulty/reads_once.py {{nodes}}",
             engine=program(),
         )
         self.assertTrue(wrong.fails)
@@ -279,7 +279,9 @@ class Api(InFolder):
             lab.explore("ring:8", RING.words, draws=draws)
 
     def test_programs_are_hunted(self) -> None:
-        text = (TOP / "arena_lab" / "mutants" / "accuses_at_once.py").read_text()
+        text = (
+            TOP / "examples" / "agents" / "faulty" / "accuses_at_once.py"
+        ).read_text()
         for name in ("client.py", "ring.py"):
             (self.folder / name).write_text(
                 (TOP / "examples" / "agents" / name).read_text()

@@ -29,7 +29,7 @@ from tests.support.processes import remaining
 EXAMPLE = TOP / "examples" / "course" / "course.toml"
 # from which the league table of the page of the examples comes
 SECRET = ["--secret", str(EXAMPLE.parent / "secret.txt")]
-MUTANT = TOP / "arena_lab" / "mutants" / "reads_once.py"
+MUTANT = TOP / "examples" / "agents" / "faulty" / "reads_once.py"
 AGENTS_OF_TESTS = TOP / "tests" / "support" / "agents"
 RUDE = "python3 rude.py {how} {{host}} {{port}} {{key}}"
 # team -> its violation, and the fault reported for its agent 1

@@ -69,7 +69,9 @@ class Follows(InFolder):
                 self.assertNotIn(TOO_SLOW, longer)
 
     def test_a_mended_program_is_tried_against_what_it_failed_under(self) -> None:
-        shutil.copy(TOP / "arena_lab" / "mutants" / "reads_once.py", self.agent)
+        shutil.copy(
+            TOP / "examples" / "agents" / "faulty" / "reads_once.py", self.agent
+        )
         out = self.folder / "out"
         status, _ = self.output(
             "run",

@@ -177,7 +177,7 @@ class CommandLine(InFolder):
             "--network",
             "ring:8",
             "--agent",
-            "arena_lab/mutants/forgets_to_mark.py {nodes}",
+            "examples/agents/faulty/forgets_to_mark.py {nodes}",
         )
         self.assertEqual(status, 1)
         self.assertIn("the team fails with the black hole at node 1: ", output)

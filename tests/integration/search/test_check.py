@@ -98,7 +98,7 @@ class Checks(InFolder):
 
     def test_what_no_match_finds(self) -> None:
         agent = self.folder / "agent.py"
-        shutil.copy(TOP / "arena_lab" / "mutants" / "reads_once.py", agent)
+        shutil.copy(TOP / "examples" / "agents" / "faulty" / "reads_once.py", agent)
         status, output = self.check(
             f"{agent} {{nodes}}",
             "--network",
@@ -211,7 +211,9 @@ class Checks(InFolder):
         self.assertEqual(self.check(agent, *conditions)[0], 0)
 
     def test_agents_that_toss_a_coin_each(self) -> None:
-        agent = str(TOP / "arena_lab" / "mutants" / "tosses_coin.py") + " {nodes}"
+        agent = (
+            str(TOP / "examples" / "agents" / "faulty" / "tosses_coin.py") + " {nodes}"
+        )
         status, output = self.check(agent, "--engine", "model")
         self.assertEqual(status, 1, output)
         self.assertIn("agents 0 and 1 both went over the link from node", output)

@@ -439,7 +439,8 @@ class Invariants(InFolder):
         )
         reads_once = [
             AgentWords(
-                INSIDE, f"{TOP / 'arena_lab' / 'mutants' / 'reads_once.py'} {{nodes}}"
+                INSIDE,
+                f"{TOP / 'examples' / 'agents' / 'faulty' / 'reads_once.py'} {{nodes}}",
             )
         ]
         self.assertEqual(

@@ -18,7 +18,7 @@ from tests.support.output import run_call
 
 # figures of the lines about matches, without times and checks
 TELLS = re.compile(r"^home .*, (?=[\d.]+ s)|^most moves.*", re.MULTILINE)
-WRONG = "arena_lab/mutants/reads_once.py {nodes}"
+WRONG = "examples/agents/faulty/reads_once.py {nodes}"
 # an agent that reads a plan from a file beside it
 PLANNED = """
 import pathlib

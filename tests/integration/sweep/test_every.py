@@ -23,7 +23,7 @@ name = "right"
 agent = "examples/agents/ring.py {nodes}"
 [[team]]
 name = "wrong"
-agent = "arena_lab/mutants/reads_once.py {nodes}"
+agent = "examples/agents/faulty/reads_once.py {nodes}"
 """
 # by network and team: what is said of every schedule, the most moves and the most lost
 # agents

@@ -27,7 +27,7 @@ name = "right"
 agent = "examples/agents/ring.py {nodes}"
 [[team]]
 name = "wrong"
-agent = "arena_lab/mutants/reads_once.py {nodes}"
+agent = "examples/agents/faulty/reads_once.py {nodes}"
 """
 MODEL = ["--engine", "model"]
 
@@ -160,7 +160,9 @@ class Sweeps(InFolder):
             ).status,
             0,
         )
-        helper.write_text((TOP / "arena_lab" / "mutants" / "reads_once.py").read_text())
+        helper.write_text(
+            (TOP / "examples" / "agents" / "faulty" / "reads_once.py").read_text()
+        )
         self.assertIn(f"made otherwise: {helper}", self.refusal("out", *MODEL))
         errors = run_call(main, ["replay", str(self.folder / "find"), *MODEL]).errors
         self.assertIn(
