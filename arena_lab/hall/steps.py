@@ -117,9 +117,10 @@ def step_columns(row: machine.Transition, holder: str) -> Dict[str, Any]:
     return columns
 
 
-def claim_work(work: Work) -> Optional[str]:
-    """Claims work that waits; gives the holder, or nothing if another was faster."""
-    holder = secrets.token_hex(16)
+def claim_work(work: Work, worker: str = "") -> Optional[str]:
+    """Claims work that waits for a worker; gives the holder, whose name begins by that of
+    the worker, or nothing if another was faster."""
+    holder = f"{worker}{secrets.token_hex(16)}"
     return holder if step(work, machine.CLAIM, holder) else None
 
 

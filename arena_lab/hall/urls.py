@@ -9,6 +9,7 @@ from django.db import OperationalError
 from django.http import HttpResponse, JsonResponse
 from django.urls import include, path, re_path, register_converter
 from django.urls.converters import IntConverter, SlugConverter
+from django.utils import timezone
 from django.utils.translation import gettext as _
 from django.views.defaults import server_error
 
@@ -22,6 +23,7 @@ from arena_lab.hall.handins import views as handins
 from arena_lab.hall.handins.api import HandIns
 from arena_lab.hall.handins.models import Grading
 from arena_lab.hall.machine import ACTIVE, WAITING
+from arena_lab.hall.shares import count_alive
 from arena_lab.hall.standings import views as standings
 from arena_lab.hall.teams import views as teams
 from arena_lab.hall.teams.guards import refusal
@@ -56,17 +58,25 @@ def no_icon(request: Any) -> HttpResponse:
 
 
 def health(request: Any) -> JsonResponse:
-    """For whoever watches the hall: how much waits, and how many matches run. How long
-    a program is graded is nobody's business, as those that fail take long. Without its
-    database it answers 503."""
-    waiting = sum(
-        kind.objects.filter(state=WAITING).count() for kind in (Attempt, Grading, Trial)
-    )
+    """For whoever watches the hall: how much waits, and for how many seconds the oldest
+    of that; how many matches run, and how many workers are alive. How long a program is
+    graded is nobody's business, as those that fail take long. Status 503 means that the
+    database does not answer or no worker is alive."""
+    waiting = [
+        time
+        for kind in (Attempt, Grading, Trial)
+        for time in kind.objects.filter(state=WAITING).values_list("asked", flat=True)
+    ]
+    now = timezone.now()
+    workers = count_alive()
     return JsonResponse(
         {
-            "waiting": waiting,
+            "waiting": len(waiting),
+            "oldest": int((now - min(waiting, default=now)).total_seconds()),
             "running": Attempt.objects.filter(state__in=ACTIVE).count(),
-        }
+            "workers": workers,
+        },
+        status=200 if workers else 503,
     )
 
 

@@ -2,6 +2,9 @@
 Several workers, also on several machines, may run. A worker remembers only
 since when work stands still, so killing and restarting it is safe at any moment."""
 import collections
+import contextlib
+import math
+import secrets
 import signal
 import threading
 import time
@@ -23,7 +26,8 @@ from arena_lab.hall.handins import grading
 from arena_lab.hall.handins.models import Grading
 from arena_lab.hall.handins.taking import grade_secretly
 from arena_lab.hall.place import log_line
-from arena_lab.hall.steps import STOP_EVENT, Watch, claim_work
+from arena_lab.hall.shares import Share, announce, leave, share_of
+from arena_lab.hall.steps import RENEWAL_SECONDS, STOP_EVENT, Watch, claim_work
 
 KINDS = (Attempt, Pages, Grading, Trial)
 # seconds between two looks, and between two that ask for gradings by the secret draw
@@ -38,61 +42,61 @@ def watches() -> List[Watch]:
     return [Watch(kind) for kind in KINDS]
 
 
-def due(resting: Dict[Any, Set[int]]) -> List[Job]:
-    """Returns the jobs that may start now."""
+def due(resting: Dict[Any, Set[int]], share: Share) -> List[Job]:
+    """Returns the jobs that a worker may start now."""
     limits = settings.HALL.limits
-    pages = active_count(Pages)
     return [
         *(
             (playing.play, attempt)
-            for attempt in due_attempts(limits.matches, resting[Attempt])
+            for attempt in due_attempts(
+                share.room(Attempt, limits.matches), resting[Attempt]
+            )
         ),
         *(
             (playing.make_pages, pages)
             for pages in Pages.objects.filter(state=machine.WAITING)
             .exclude(pk__in=resting[Pages])
-            .order_by("pk")[: max(0, 2 - pages)]
+            .order_by("pk")[: share.room(Pages, 2)]
         ),
         *(
             (grading.grade, grading_row)
             for grading_row in grading.due(
-                limits.gradings - active_count(Grading), resting[Grading]
+                share.room(Grading, limits.gradings), resting[Grading]
             )
         ),
-        *((tried.play, trial) for trial in due_trials(resting[Trial])),
+        *((tried.play, trial) for trial in due_trials(resting[Trial], share)),
     ]
 
 
-def active_count(kind: Any) -> int:
-    return int(kind.objects.filter(state__in=machine.ACTIVE).count())
-
-
-def due_trials(resting: Set[int]) -> List[Trial]:
+def due_trials(resting: Set[int], share: Share) -> List[Trial]:
     """The trials that may begin, beside gradings and matches. Those of a hall that has
     no editor any more end."""
     rules = settings.HALL.editor
-    return trying.due(1 if rules is None else rules.trials, resting)
+    limit = 1 if rules is None else rules.trials
+    return trying.due(limit, share.room(Trial, limit), resting)
 
 
-def due_attempts(limit: int, resting: Collection[int] = ()) -> List[Any]:
+def due_attempts(room: int, resting: Collection[int] = ()) -> List[Any]:
     """The attempts that may begin, fairly: first those of teams with the fewest that
-    run, up to this number, and none that rests."""
+    run, as many as there is room for, and none that rests."""
+    if room <= 0:
+        return []
     running = Attempt.objects.filter(state__in=machine.ACTIVE).order_by()
     busy = collections.Counter(running.values_list("team", flat=True))
-    free = max(0, limit - sum(busy.values()))
     waiting = []
     for attempt in Attempt.objects.filter(state=machine.WAITING).order_by("pk"):
         if attempt.pk in resting:
             continue
         waiting.append((busy[attempt.team_id], attempt.pk, attempt))
         busy[attempt.team_id] += 1
-    return [attempt for _, _, attempt in sorted(waiting)[:free]]
+    return [attempt for _, _, attempt in sorted(waiting)[:room]]
 
 
-def claim(watches_list: List[Watch]) -> List[Tuple[Job, str]]:
-    """Claims all work that may begin, each with its holder. Workers lock a row that
-    always exists (SQLite allows one writer anyway), so that no two of them count
-    running work at the same time. A worker that must end meanwhile claims nothing."""
+def claim(watches_list: List[Watch], name: str = "") -> List[Tuple[Job, str]]:
+    """Claims the jobs that may begin within the share of the named worker; returns each
+    with its holder. Workers lock a row that always exists (SQLite allows one writer
+    anyway), so that no two of them count running work at the same time. A worker that
+    must end meanwhile claims nothing."""
     with transaction.atomic():
         queue = ContentType.objects.filter(app_label="attempts", model="attempt")
         if queue.select_for_update(skip_locked=True).first() is None:
@@ -100,7 +104,11 @@ def claim(watches_list: List[Watch]) -> List[Tuple[Job, str]]:
         if STOP_EVENT.is_set():
             return []
         resting = {kind: watch.look() for kind, watch in zip(KINDS, watches_list)}
-        return [(job, holder) for job in due(resting) if (holder := claim_work(job[1]))]
+        return [
+            (job, holder)
+            for job in due(resting, share_of(name))
+            if (holder := claim_work(job[1], name))
+        ]
 
 
 def run(job: Job, holder: str) -> None:
@@ -114,16 +122,20 @@ def run(job: Job, holder: str) -> None:
 
 def work(is_over: threading.Event) -> None:
     """Works until it is ended. Database errors are logged, and it tries again."""
-    last_asked = 0.0
+    name = secrets.token_hex(4)
+    last_asked = last_contact = -math.inf
     watches_list = watches()
     if settings.HALL.editor is not None:
         FORK_SERVER.begin()
     while not is_over.is_set():
         try:
+            if time.monotonic() - last_contact > RENEWAL_SECONDS:
+                announce(name)
+                last_contact = time.monotonic()
             if time.monotonic() - last_asked > SECRETLY:
                 grade_secretly(timezone.now())
                 last_asked = time.monotonic()
-            jobs = claim(watches_list)
+            jobs = claim(watches_list, name)
         except (DatabaseError, OSError) as fault:
             log_line(f"worker: {fault}")
             connection.close()
@@ -133,6 +145,8 @@ def work(is_over: threading.Event) -> None:
             threading.Thread(target=run, args=(job, holder)).start()
         if not jobs:
             is_over.wait(LOOK)
+    with contextlib.suppress(DatabaseError):
+        leave(name)
 
 
 def main(_: str) -> None:

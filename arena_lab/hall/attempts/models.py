@@ -85,6 +85,14 @@ class Pages(Work):
     attempt = models.OneToOneField(Attempt, models.CASCADE, related_name="pages")
 
 
+class Worker(models.Model):
+    """A process that claims work, and when it last announced itself, by the clock of the
+    database."""
+
+    name = models.CharField(max_length=8, unique=True)
+    contact = models.DateTimeField()
+
+
 def facts(network: str) -> Dict[str, Any]:
     """Returns the public facts of a network of the hall."""
     net = settings.HALL.nets.get(network)

@@ -113,12 +113,14 @@ def delete_all(team: Team) -> None:
             forget(trial)
 
 
-def due(limit: int, resting: Collection[int] = ()) -> List[Trial]:
-    """The trials that may begin, at most this number; those that rest wait. Matches come
-    before searches, which leave one place to them, and teams before guests."""
+def due(limit: int, room: int, resting: Collection[int] = ()) -> List[Trial]:
+    """The trials that may begin, as many as there is room for, of which the hall plays
+    `limit` at a time; those that rest wait. Matches come before searches, which leave
+    one place to them, and teams before guests."""
+    if room <= 0:
+        return []
     active = Trial.objects.filter(state__in=machine.ACTIVE)
     searches = active.exclude(kind=PLAY).count()
-    free = limit - active.count()
     waiting = Trial.objects.filter(state=machine.WAITING).exclude(pk__in=resting)
     trials: List[Trial] = []
     order = waiting.select_related("team").order_by("pk")
@@ -127,7 +129,7 @@ def due(limit: int, resting: Collection[int] = ()) -> List[Trial]:
     ):
         if trial.kind != PLAY:
             searches += 1
-        if len(trials) < free and (trial.kind == PLAY or searches <= max(1, limit - 1)):
+        if len(trials) < room and (trial.kind == PLAY or searches <= max(1, limit - 1)):
             trials.append(trial)
     return trials
 

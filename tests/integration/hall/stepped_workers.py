@@ -165,10 +165,10 @@ class Workers:
         self._held = contextlib.ExitStack()
         claimed_value = steps.claim_work
 
-        def watch(work: Any) -> Any:
+        def watch(work: Any, name: str) -> Any:
             if LOCAL.thread.process.began_stopped:
                 self.broken_rules.append(f"{work} is claimed after the stop")
-            return claimed_value(work)
+            return claimed_value(work, name)
 
         for module, name, instead in (
             (steps, "time", self.clock),

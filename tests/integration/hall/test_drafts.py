@@ -313,14 +313,14 @@ class Trials(DraftFile):
         ):
             self.tries(name, kind=kind, network=network)
         self.assertEqual(
-            [it.kind for it in trying.due(3)], ["play", "check", "explore"]
+            [it.kind for it in trying.due(3, 3)], ["play", "check", "explore"]
         )
-        self.assertEqual([it.kind for it in trying.due(2)], ["play", "check"])
+        self.assertEqual([it.kind for it in trying.due(2, 2)], ["play", "check"])
         Trial.objects.filter(kind="check").update(state=machine.RUNNING)
-        self.assertEqual([it.kind for it in trying.due(2)], ["play"])
+        self.assertEqual([it.kind for it in trying.due(2, 1)], ["play"])
         Trial.objects.filter(kind="play").delete()
-        self.assertEqual([it.kind for it in trying.due(2)], [])
-        self.assertEqual([it.kind for it in trying.due(3)], ["explore"])
+        self.assertEqual([it.kind for it in trying.due(2, 1)], [])
+        self.assertEqual([it.kind for it in trying.due(3, 2)], ["explore"])
 
 
 class Teacher(DraftFile):

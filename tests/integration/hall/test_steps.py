@@ -28,9 +28,9 @@ from django.db import connection, models  # noqa: E402
 from django.test import TestCase  # noqa: E402
 from django.utils import timezone  # noqa: E402
 
-from arena_lab.hall import children, worker  # noqa: E402
+from arena_lab.hall import children, shares, worker  # noqa: E402
 from arena_lab.hall.attempts import asking, playing  # noqa: E402
-from arena_lab.hall.attempts.models import Attempt  # noqa: E402
+from arena_lab.hall.attempts.models import Attempt, Worker  # noqa: E402
 from arena_lab.hall.handins import grading  # noqa: E402
 from arena_lab.hall.handins.models import Grading, HandIn  # noqa: E402
 from arena_lab.hall import steps  # noqa: E402
@@ -283,9 +283,9 @@ class Queues(TestCase):
     def test_as_many_matches_run_as_the_course_says(self) -> None:
         step(attempt(), CLAIM, "one")
         attempt("birch")
-        self.assertEqual(
-            [len(worker.due_attempts(limit)) for limit in (0, 1, 2)], [0, 0, 1]
-        )
+        rooms = [shares.share_of("two").room(Attempt, limit) for limit in (0, 1, 2)]
+        self.assertEqual(rooms, [0, 0, 1])
+        self.assertEqual([len(worker.due_attempts(room)) for room in (0, 1)], [0, 1])
 
     def test_hand_ins_are_graded_one_of_a_team_at_a_time(self) -> None:
         def hand_in(team: str) -> Any:
@@ -317,6 +317,42 @@ class Queues(TestCase):
             ended=timezone.now(),
         )
         self.assertEqual([it.pk for it in grading.due(9)], [second.pk, hand.pk])
+
+    def test_workers_that_are_alive_share_what_is_due(self) -> None:
+        """A worker of another machine gets its part, and that of one that is silent."""
+        hall = django_settings.HALL
+        hall = hall._replace(limits=hall.limits._replace(matches=4, gradings=4))
+        works: List[Any] = [attempt(name) for name in ("amber", "birch") * 4]
+        for name in ("amber", "birch", "cedar"):
+            hand_in = HandIn.objects.create(
+                team=of(name), name="a", size=1, files=1, digest=""
+            )
+            works.append(Grading.objects.create(hand_in=hand_in))
+        shares.announce("one")
+        shares.announce("two")
+
+        def claim_count(name: str) -> Any:
+            jobs = worker.claim(worker.watches(), name)
+            kinds = [type(work) for (_, work), _ in jobs]
+            return kinds.count(Attempt), kinds.count(Grading)
+
+        with mock.patch.object(django_settings, "HALL", hall):
+            self.assertEqual([claim_count("one") for _ in range(2)], [(2, 2), (0, 0)])
+            self.assertEqual(claim_count("two"), (2, 1))
+            self.assertEqual(claim_count("two"), (0, 0))
+            holders = Attempt.objects.filter(holder__startswith="two")
+            holders.update(state=machine.OVER, holder="")
+            self.assertEqual(claim_count("one"), (0, 0))
+            silent = timezone.now() - datetime.timedelta(seconds=2 * steps.LEASE)
+            Worker.objects.filter(name="two").update(contact=silent)
+            self.assertEqual(claim_count("one"), (2, 0))
+            shares.announce("two")
+            Attempt.objects.update(state=machine.OVER, holder="")
+            shares.leave("one")
+            Attempt.objects.filter(pk__in=[work.pk for work in works[:4]]).update(
+                state=WAITING
+            )
+            self.assertEqual(claim_count("two"), (4, 0))
 
     def test_a_look_beside_a_full_queue_costs_little(self) -> None:
         """Each worker looks four times a second, which must leave the processors to

@@ -84,7 +84,9 @@ class Stops(RuleBasedStateMachine):
             for _ in range(ROUNDS):
                 self.workers.clock.now += 1
                 for thread in self.workers.ready():
-                    thread.go()
+                    # an earlier thread of this round may have opened a transaction
+                    if thread in self.workers.ready():
+                        thread.go()
                 self.nothing_is_lost()
                 if self.work.state == machine.OVER:
                     break

@@ -1,13 +1,16 @@
 """Messages, and the pages of a teacher and of tutors."""
-from typing import Any, Dict
+import datetime
+from typing import Any, Dict, Tuple
 
 from tests.integration.hall.hall_pages import Hall, make_grading, play_match
 
 from django.contrib.auth import get_user_model
 from django.contrib.auth.models import Permission
 from django.test import Client
+from django.utils import timezone
 
-from arena_lab.hall.attempts.models import Attempt
+from arena_lab.hall import machine, shares
+from arena_lab.hall.attempts.models import Attempt, Worker
 from arena_lab.hall.teams.models import Entry, Message, Team
 
 
@@ -166,8 +169,21 @@ class Teachers(Hall):
         self.assertEqual(len(response.content.decode().splitlines()), 64)
 
     def test_the_health_of_a_hall(self) -> None:
+        """Dead workers give status 503, and busy ones a growing age of the oldest match
+        that waits."""
         self.running(play_match())
-        self.assertEqual(Client().get("/health").json(), {"waiting": 0, "running": 1})
         self.rest("post", "/api/matches", body={"network": "ring of 5"})
-        self.assertEqual(Client().get("/health").json(), {"waiting": 1, "running": 1})
+        figures = {"waiting": 1, "oldest": 0, "running": 1}
+        self.assertEqual(self.health(), (503, {**figures, "workers": 0}))
+        shares.announce("one")
+        self.assertEqual(self.health(), (200, {**figures, "workers": 1}))
+        past = timezone.now() - datetime.timedelta(seconds=90)
+        Attempt.objects.filter(state=machine.WAITING).update(asked=past)
+        Worker.objects.update(contact=past)
+        figures["oldest"] = 90
+        self.assertEqual(self.health(), (503, {**figures, "workers": 0}))
         self.assertEqual(get_user_model().objects.count(), 1)
+
+    def health(self) -> Tuple[int, Any]:
+        reply = Client().get("/health")
+        return reply.status_code, reply.json()

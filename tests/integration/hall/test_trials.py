@@ -19,7 +19,7 @@ from tests.integration.hall.hall_pages import PLACE, hall_with
 from django.conf import settings
 
 from arena_lab.course import exercises
-from arena_lab.hall import machine, worker
+from arena_lab.hall import machine, shares, worker
 from arena_lab.hall.drafts import forking, kits, playing
 from arena_lab.hall.drafts.models import Trial
 from arena_lab.hall.steps import claim_work, step
@@ -383,7 +383,11 @@ class Waiting(Tried):
             number = self.tries().json()["id"]
             with hall_with(editor=rules):
                 self.assertEqual(
-                    [trial.pk for trial in worker.due_trials(set())], [number]
+                    [
+                        trial.pk
+                        for trial in worker.due_trials(set(), shares.share_of("one"))
+                    ],
+                    [number],
                 )
                 holder = claim_work(Trial.objects.get(pk=number))
                 assert holder is not None
