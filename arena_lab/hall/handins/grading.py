@@ -12,7 +12,7 @@ import hashlib
 import pathlib
 import shutil
 import sys
-from typing import Any, Collection, Dict, List, NamedTuple, Tuple
+from typing import Any, Collection, Dict, List, NamedTuple, Optional, Tuple
 
 from django.conf import settings
 from django.db import transaction
@@ -211,6 +211,14 @@ def queue(resting: Collection[int] = ()) -> List[Turn]:
         turns.append(Turn(earlier[team], *last.get(team, never), number))
         earlier[team] += 1
     return sorted(turns)
+
+
+def place_of(grading: Grading) -> Optional[int]:
+    """Returns the place of a waiting grading in the queue, 1 for the next."""
+    if grading.state != machine.WAITING:
+        return None
+    numbers = [turn.number for turn in queue()]
+    return numbers.index(grading.pk) + 1 if grading.pk in numbers else None
 
 
 def last_gradings_of_waiting_teams() -> (

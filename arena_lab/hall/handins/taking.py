@@ -14,7 +14,7 @@ from arena_lab.hall import machine
 from arena_lab.hall.attempts.asking import RequestRefusedError, make_room
 from arena_lab.hall.attempts.shown import time_of
 from arena_lab.hall.handins import unpacking
-from arena_lab.hall.handins.grading import FILES
+from arena_lab.hall.handins.grading import FILES, place_of
 from arena_lab.hall.handins.models import Contest, Grading, HandIn
 from arena_lab.hall.handins.windows import (
     Window,
@@ -158,6 +158,7 @@ def hand_in_dict(hand_in: HandIn) -> Dict[str, Any]:
         "sha256": hand_in.digest,
         "state": public.state if public else "",
         "fault": public.fault if public else "",
+        "place": place_of(public) if public else None,
         "result": result_of(public),
     }
 

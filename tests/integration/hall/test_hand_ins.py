@@ -1,5 +1,6 @@
 """Hand-ins: what is taken, what a team sees of them, and when they are graded."""
 import re
+from typing import Any, List
 from unittest import mock
 
 from arena_lab.hall import machine
@@ -42,6 +43,23 @@ class HandIns(Hall):
         self.assertEqual(
             self.rest("get", f"/api/hand-ins/{hand.json()['id']}").status_code, 200
         )
+
+    def test_a_team_sees_its_place_in_the_queue(self) -> None:
+        """A second hand-in comes after first hand-ins of other teams, and a running
+        grading has no place."""
+        order = ("amber", "amber", "birch")
+        numbers = [self.hand_in(b"print()", name).json()["id"] for name in order]
+
+        def places() -> List[Any]:
+            rows = zip(order, numbers)
+            paths = [(f"/api/hand-ins/{number}", name) for name, number in rows]
+            return [self.rest("get", *words).json()["place"] for words in paths]
+
+        self.assertEqual(places(), [1, 3, 2])
+        page = self.client_of("amber").get("/hand-ins")
+        self.assertContains(page, "waits to be graded, place 3 in the queue")
+        Grading.objects.filter(hand_in=numbers[0]).update(state=machine.RUNNING)
+        self.assertEqual(places(), [None, 2, 1])
 
     def test_a_hand_in_has_a_page_with_its_sources(self) -> None:
         self.hand_in(
