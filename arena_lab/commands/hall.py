@@ -42,6 +42,7 @@ from arena_lab.hall.course import (
     read_hall,
 )
 from arena_lab.hall.place import HallFolder, folder_of
+from arena_lab.hall.sign_on.rules import secret_in
 from arena_lab.rules.engines import program_at
 from arena_lab.sandbox import sandboxes, system_copy
 from arena_lab.sandbox.sandboxes import Isolation
@@ -262,6 +263,13 @@ def check_editor(hall: Hall) -> None:
         )
 
 
+def check_sign_on(hall: Hall, of: HallFolder) -> None:
+    """Refuses a hall whose people could not sign in."""
+    if hall.sign_on is not None:
+        check("authlib", "requests")
+        secret_in(of.folder)
+
+
 def restore(of: HallFolder, archive: pathlib.Path, may_move: bool) -> int:
     """Restores a hall that nobody serves."""
     owner = (of.folder if of.folder.exists() else of.folder.parent).stat()
@@ -288,6 +296,7 @@ def serve(
     check_copy(hall)
     check_editor(hall)
     of.make()
+    check_sign_on(hall, of)
     with serving.alone(of), listen(args.address, args.port) as listener:
         of.write(hall)
         for line in hall.notes:

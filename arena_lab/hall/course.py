@@ -7,6 +7,7 @@ import zoneinfo
 from typing import Any, Dict, List, NamedTuple, Optional, Sequence, Tuple, Union
 
 from arena_lab.course.course import check_command
+from arena_lab.hall.sign_on.rules import SignOnRules, sign_on_of
 from arena_lab.play.wasm_modules import file_in, is_module
 from arena_lab.rules import networks
 from arena_lab.rules.limits import MAX_BOARD, MAX_QUOTA, SMALL_BOARD, SMALL_QUOTA
@@ -55,6 +56,7 @@ Each [[team]] has these keys:
 
     name          1 to 16 characters out of a to z, 0 to 9 and -; the first one is no -.
     display       a name of any script for pages (the name).
+    members       who signs in as this team by [sign_on], such as ["ada@example.edu"] ([]).
 
 Each [[network]] has these keys:
 
@@ -98,10 +100,20 @@ Each [[network]] has these keys:
     class_word    a word of 8 characters or more: who opens /class/WORD begins as a guest of your class ("", nobody).
     class_guests  how many guests of your class there are at a time, beside others (40).
 
+    [sign_on]
+    issuer        the provider of OpenID Connect, such as "https://login.example.edu/realms/uni".
+    client        the name of the hall there; its secret stands in the file sign-on.txt of the hall's folder.
+    name          what the provider is called on the page ("your university").
+    claim         what names a person ("email", which has to be verified).
+    team_claim    a claim that names a person's team, if no team has the person among its members ("").
+    new_teams     how many teams are made for people who have none, when each signs in first (0).
+    teacher_claim, teacher_value
+                  a claim and its value, or one of its values, by which a person is a teacher ("").
+
 Hand-ins are graded by the agents, quota, whiteboards and labels that practice has on the same network.
 
 Without [hand_ins] nothing is handed in, and nobody is ranked; without [editor] nobody
-writes in the browser. Times are of the zone.
+writes in the browser; without [sign_on] teams log in by tokens alone. Times are of the zone.
 """
 LANGUAGES = ("en", "de", "fr")
 # kits that may be written in the browser, and the editor there, of Debian's package
@@ -158,6 +170,7 @@ FIELDS = {
     "limits": fields.table("limits", {}),
     "hand_ins": fields.table("hand_ins", None),
     "editor": fields.table("editor", None),
+    "sign_on": fields.table("sign_on", None),
 }
 LIMITS = {
     "at_once": fields.count(2),
@@ -174,6 +187,7 @@ MEMBER = {
         "characters out of a to z, 0 to 9 and -, which does not come first",
     ),
     "display": MAY_BE_TEXT,
+    "members": fields.MAYBE_NAMES,
 }
 HOLES = "a whole number less than the nodes"
 NET = {
@@ -237,10 +251,11 @@ class HallError(ArenaError):
 
 
 class Member(NamedTuple):
-    """A team: its name, and the name for display."""
+    """A team: its name, the name for display, and who signs in as it."""
 
     name: str
     display: str
+    members: Sequence[str] = ()
 
 
 class Net(NamedTuple):
@@ -324,6 +339,7 @@ class Hall(NamedTuple):
     limits: TeamLimits
     hand_ins: Optional[HandInRules]
     editor: Optional[EditorRules]
+    sign_on: Optional[SignOnRules]
     # messages for the teacher at the start of the hall
     notes: List[str]
 
@@ -371,6 +387,7 @@ def hall_of(text: str, path: pathlib.Path) -> Hall:
         editor=None
         if values["editor"] is None
         else EditorRules(**fields.values_of(values["editor"], EDITOR, "editor")),
+        sign_on=None if values["sign_on"] is None else sign_on_of(values["sign_on"]),
         notes=notes_of(table),
     )
 
@@ -422,7 +439,10 @@ def teams_of(tables: List[Dict[str, Any]]) -> List[Member]:
     rows = fields.unlike(
         [fields.values_of(table, MEMBER, "a team") for table in tables], "team"
     )
-    return [Member(row["name"], row["display"] or row["name"]) for row in rows]
+    return [
+        Member(row["name"], row["display"] or row["name"], tuple(row["members"]))
+        for row in rows
+    ]
 
 
 def nets_of(tables: List[Dict[str, Any]], folder: pathlib.Path) -> Dict[str, Net]:

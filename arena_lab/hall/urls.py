@@ -1,12 +1,14 @@
 """The addresses of the hall."""
 import errno
+import importlib
 import pathlib
 import sys
 from typing import Any
 
+from django.conf import settings
 from django.contrib import admin
 from django.db import OperationalError
-from django.http import HttpResponse, JsonResponse
+from django.http import Http404, HttpResponse, JsonResponse
 from django.urls import include, path, re_path, register_converter
 from django.urls.converters import IntConverter, SlugConverter
 from django.utils import timezone
@@ -80,6 +82,15 @@ def health(request: Any) -> JsonResponse:
     )
 
 
+def sign_on(request: Any, view: str = "begin") -> HttpResponse:
+    """The pages of [sign_on], whose modules need packages that other halls do without."""
+    if settings.HALL.sign_on is None:
+        raise Http404
+    views = importlib.import_module("arena_lab.hall.sign_on.views")
+    response: HttpResponse = getattr(views, view)(request)
+    return response
+
+
 def fault(request: Any) -> HttpResponse:
     """Handles exceptions of views. On a full disk nothing can be written, and the hall
     continues once there is space."""
@@ -136,6 +147,8 @@ urlpatterns = [
     path("contests/<number:number>/screen", standings.screen),
     path("login", teams.login),
     path("logout", teams.logout),
+    path("sign-on", sign_on),
+    path("sign-on/back", sign_on, {"view": "back"}),
     path("matches", attempts.list_attempts),
     path("matches/ask", attempts.ask),
     path("matches/<number:number>", attempts.show_attempt),

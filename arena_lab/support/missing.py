@@ -27,6 +27,8 @@ PACKAGES = {
     "waitress": "python3-waitress",
     "whitenoise": "python3-whitenoise",
     "psycopg2": "python3-psycopg2",
+    "authlib": "python3-authlib",
+    "requests": "python3-requests",
 }
 DEBIANS_PYTHON = "/usr/bin/python3"
 

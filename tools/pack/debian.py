@@ -41,7 +41,7 @@ Depends: libc6 (>= {glibc}), python3 (>= 3.11), python3-greenlet, python3-jinja2
 Recommends: python3-hypothesis, python3-networkx, python3-numpy, python3-scipy, python3-matplotlib
 Suggests: python3-distributed, python3-aiohttp, bubblewrap, python3-seccomp, python3-pandas, jupyter-notebook,
  python3-django, python3-djangorestframework, python3-waitress, python3-whitenoise, python3-psycopg2,
- libjs-codemirror
+ python3-authlib, python3-requests, libjs-codemirror
 Section: science
 Priority: optional
 Description: contest server for black hole search by mobile agents

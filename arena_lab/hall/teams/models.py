@@ -42,6 +42,8 @@ class Team(models.Model):
     digest = models.CharField(max_length=64, blank=True, editable=False)
     # somebody without a token, who writes and tries for a day
     is_guest = models.BooleanField(default=False, editable=False)
+    # the digest of the person for whom a sign-in has made the team
+    identity = models.CharField(max_length=64, null=True, unique=True, editable=False)
     # sessions of an earlier token are no sessions any more
     generation = models.PositiveIntegerField(default=0, editable=False)
 

@@ -1,0 +1,1 @@
+"""Signing in by a university's OpenID Connect provider."""
