@@ -55,7 +55,7 @@ from arena_lab.rules import draws, networks
 from arena_lab.rules.engines import MODEL, PROGRAM, name_of, program_at
 from arena_lab.rules.model import Place
 from arena_lab.rules.networks import Network
-from arena_lab.search import hunt as hunting
+from arena_lab.search import hunts as hunting
 from arena_lab.search.driver import CHECKED_SAMPLES
 from arena_lab.search.program_search import SampleRequest
 from arena_lab.search.search_results import (

@@ -17,7 +17,7 @@ from typing import List, Optional, Sequence
 from arena_lab.play.games import play_seed
 from arena_lab.play.teams import INSIDE, AgentWords, Game, fill_team
 from arena_lab.rules import draws, networks
-from arena_lab.search.hunt import DRAWS, Hunt, Hunter, run_hunter
+from arena_lab.search.hunts import DRAWS, Hunt, Hunter, run_hunter
 from tests.support.mutants import PLANS, agent_of
 
 SEEDS = 10

@@ -25,7 +25,7 @@ from arena_lab.rules.engines import name_of, program_at
 from arena_lab.rules.fixtures import Fixture, fixture_of
 from arena_lab.rules.model import Setup
 from arena_lab.rules.networks import ring
-from arena_lab.search import explore
+from arena_lab.search import model_search
 from arena_lab.support.progress import bar
 
 AGENT = AGENTS / "ring.py"
@@ -71,7 +71,9 @@ def states() -> int:
     with bar(None, "state") as progress:
         return sum(
             match.explorer.states()
-            for match in explore.explore_matches(game, explore.MAX_STATES, progress)
+            for match in model_search.explore_matches(
+                game, model_search.MAX_STATES, progress
+            )
         )
 
 

@@ -43,6 +43,7 @@ FOLDERS = (
 # these modules need Django and a hall, which no unit test has: they are read and not
 # imported
 HALL = "arena_lab.hall."
+APP_MODULES = ("__init__", "admin", "api", "formats", "models", "views")
 
 
 def modules() -> Dict[str, pathlib.Path]:
@@ -210,6 +211,15 @@ class Packages(unittest.TestCase):
     def test_commands_have_a_module_each_and_no_other(self) -> None:
         names = {name for name in self.graph if name.startswith("commands.")}
         self.assertEqual(names, {f"commands.{name}" for name in COMMANDS})
+
+    def test_the_name_of_a_module_stands_once(self) -> None:
+        """Django names some modules alike in each application."""
+        names = [
+            path.stem
+            for path in modules().values()
+            if path.parent.name != "migrations" and path.stem not in APP_MODULES
+        ]
+        self.assertEqual({name for name in names if names.count(name) > 1}, set())
 
     def test_a_package_stands_on_those_below(self) -> None:
         for name, rest in self.graph.items():

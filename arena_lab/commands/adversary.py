@@ -22,7 +22,7 @@ from typing import Optional
 
 from arena_lab.command_line.arguments import add_engine, add_match, game_of, program_of
 from arena_lab.play import kept_matches
-from arena_lab.search.adversary import Adversary, Arcs, BeatenError, Phase
+from arena_lab.search.ring_adversary import Adversary, Arcs, BeatenError, Phase
 from arena_lab.search.ring_bounds import least_moves
 
 

@@ -47,7 +47,7 @@ from arena_lab.command_line.arguments import (
     program_of,
 )
 from arena_lab.course.check_steps import check_agent
-from arena_lab.course.checked import CheckJob, conditions_of
+from arena_lab.course.check_jobs import CheckJob, conditions_of
 from arena_lab.play.agent_files import AgentError
 from arena_lab.play.teams import INSIDE, OUTSIDE, agent_named
 from arena_lab.rules.engines import MODEL

@@ -107,13 +107,13 @@ from arena_lab.rules import draws, families, networks
 from arena_lab.rules.engines import MODEL, PROGRAM, program_at
 from arena_lab.search import explore_reports, sample_reports
 from arena_lab.search.program_search import SampleRequest
-from arena_lab.search.explore import MAX_STATES, check_inside, explore_matches
+from arena_lab.search.model_search import MAX_STATES, check_inside, explore_matches
 from arena_lab.search.capacity import OF_MODEL, OF_PROGRAM, fitting
 from arena_lab.search.driver import CHECKED_SAMPLES
 from arena_lab.support.faults import ArenaError
 from arena_lab.support.missing import check
 from arena_lab.support.progress import bar
-from arena_lab.sweep.families import FamilyFolder, FamilyJob, name_of
+from arena_lab.sweep.family_folders import FamilyFolder, FamilyJob, name_of
 from arena_lab.sweep.grid import BOUNDS
 from arena_lab.sweep.proofs import MATCHES, Folder
 from arena_lab.sweep.tables import alone_in

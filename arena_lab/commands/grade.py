@@ -50,10 +50,10 @@ from arena_lab.command_line.arguments import (
     add_workers,
     program_of,
 )
-from arena_lab.course import course, export, points
+from arena_lab.course import course_files, export, points
 from arena_lab.course.graded_matches import GradingRun
 from arena_lab.course.grading import graded_in, hand_ins
-from arena_lab.course.repeating import repeat_graded
+from arena_lab.course.course_repetition import repeat_graded
 from arena_lab.sandbox import sandboxes
 from arena_lab.sandbox.sandboxes import Isolation, SandboxOptions
 from arena_lab.support.missing import check
@@ -65,7 +65,7 @@ PACKAGES = ("jinja2",)
 
 def add_arguments(parser: argparse.ArgumentParser) -> None:
     """Adds the arguments of `grade`."""
-    group = parser.add_argument_group("the file", course.KEYS)
+    group = parser.add_argument_group("the file", course_files.KEYS)
     parser.add_argument_group("points", points.__doc__)
     parser.add_argument_group("exports", export.__doc__)
     group.add_argument(
@@ -124,10 +124,10 @@ def run(args: argparse.Namespace) -> int:
     check(*PACKAGES)
     path = args.file.resolve()
     strongest = sandboxes.strongest()
-    course_file = course.read_course(path, "")
-    course.check_networks(course_file)
+    course_file = course_files.read_course(path, "")
+    course_files.check_networks(course_file)
     submitted_files = [file for files in course_file.files.values() for file in files]
-    course.check_walls(
+    course_files.check_walls(
         strongest, [path.parent, args.out, *submitted_files], course_file.terms.tools
     )
     for name in course_file.grid.schedulers:
@@ -140,7 +140,7 @@ def run(args: argparse.Namespace) -> int:
     program = program_of(args)
     with tables.alone_in(args.out):
         handed_in = hand_ins(args.out, course_file)
-        secret = course.secret_in(args.out, args.secret, handed_in)
+        secret = course_files.secret_in(args.out, args.secret, handed_in)
         sandbox = SandboxOptions(
             strongest,
             course_file.terms.tools,

@@ -32,7 +32,7 @@ from typing import Any, Callable, Dict
 
 from arena_lab.command_line.arguments import add_program, at_least_one, not_negative
 from arena_lab.hall import backup, entry, place, serving
-from arena_lab.hall.course import (
+from arena_lab.hall.hall_files import (
     CODEMIRROR,
     KEYS,
     PACKAGE,

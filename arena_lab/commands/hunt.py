@@ -31,8 +31,8 @@ from arena_lab.command_line.arguments import (
     program_of,
 )
 from arena_lab.play import kept_matches
-from arena_lab.play.repeating import SAYS_OTHERWISE
-from arena_lab.search.hunt import (
+from arena_lab.play.repetitions import SAYS_OTHERWISE
+from arena_lab.search.hunts import (
     FAILURE,
     LOST,
     MOVES,

@@ -38,7 +38,7 @@ from arena_lab.play import kept_matches
 from arena_lab.play.agent_files import file_of
 from arena_lab.play.games import play_again
 from arena_lab.play.teams import Game
-from arena_lab.search.explore import MAX_STATES, check_inside
+from arena_lab.search.model_search import MAX_STATES, check_inside
 from arena_lab.search.invariants import Breach, Candidate, WalkedMatch, walk_match
 from arena_lab.search.configurations import After, At, Before, Configuration
 from arena_lab.support.progress import bar

@@ -32,7 +32,7 @@ import pathlib
 from arena_lab.command_line.arguments import add_engine, program_of
 from arena_lab.pages.contest_pages import BETTER, LAST, Tries, write_pages
 from arena_lab.pages.links import replay_link
-from arena_lab.pages.page import data_of, write_page
+from arena_lab.pages.match_page import data_of, write_page
 
 
 def add_arguments(parser: argparse.ArgumentParser) -> None:

@@ -26,7 +26,7 @@ import sys
 from typing import Callable, Dict, List, Optional, Sequence
 
 from arena_lab.command_line.arguments import at_least_one, not_negative
-from arena_lab.pages.page import write_page
+from arena_lab.pages.match_page import write_page
 from arena_lab.pages.person import serve
 from arena_lab.play.human import (
     AT_A_NODE,

@@ -19,7 +19,7 @@ import webbrowser
 from arena_lab.commands import hall
 from arena_lab.command_line.arguments import add_program, at_least_one
 from arena_lab.hall import place
-from arena_lab.hall.course import HallError
+from arena_lab.hall.hall_files import HallError
 from arena_lab.hall.place import HallFolder
 from arena_lab.rules.engines import program_at
 from arena_lab.sandbox import sandboxes

@@ -5,7 +5,7 @@ import io
 import time
 from typing import Any, List, NamedTuple, Optional, Tuple
 
-from arena_lab.course.checked import Alarm, CheckBudget
+from arena_lab.course.check_jobs import Alarm, CheckBudget
 from arena_lab.course.exercises import Exercise, ExerciseMatch
 from arena_lab.course.scripts import script_agent
 from arena_lab.play.agent_files import AgentError

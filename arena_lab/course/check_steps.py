@@ -2,7 +2,7 @@
 schedule of small networks. A check ends at the first failure."""
 from typing import Any, Callable, List, NamedTuple, Optional, Sequence, Tuple
 
-from arena_lab.course.checked import (
+from arena_lab.course.check_jobs import (
     Alarm,
     CheckBudget,
     CheckJob,
@@ -18,7 +18,7 @@ from arena_lab.play.schedules import Schedule
 from arena_lab.play.teams import INSIDE
 from arena_lab.rules import draws
 from arena_lab.search.history_tree import NoFunctionError
-from arena_lab.search.hunt import Hunt, Hunter
+from arena_lab.search.hunts import Hunt, Hunter
 from arena_lab.search.search_results import explore_games
 from arena_lab.support.progress import bar
 from arena_lab.sweep.grid import Case
@@ -159,8 +159,12 @@ def draw(
             record = job.request(case).play()
             if record.has_failed:
                 progress_bar.clear()
-                where = f"{case.scheduler} {number} on {match_place(case)}"
-                return number, under(record.schedule, where, job, case)
+                return number, under(
+                    record.schedule,
+                    f"{case.scheduler} {number} on {match_place(case)}",
+                    job,
+                    case,
+                )
             number += 1
             progress_bar.update()
         progress_bar.clear()

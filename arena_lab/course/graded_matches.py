@@ -4,10 +4,10 @@ import pathlib
 import time
 from typing import Dict, List, NamedTuple, Optional, Sequence, Tuple
 
-from arena_lab.course import course, intake, league, rounds
+from arena_lab.course import course_files, intake, league, rounds
 from arena_lab.course.conditions import Conditions
-from arena_lab.course.course import CourseFile
-from arena_lab.course.grounds import grounds_of
+from arena_lab.course.course_files import CourseFile
+from arena_lab.course.team_runners import grounds_of
 from arena_lab.course.hand_in import HandIn
 from arena_lab.course.intake import HandInRecord
 from arena_lab.course.export import Export
@@ -55,7 +55,7 @@ class GradingRun(NamedTuple):
 
     @property
     def course(self) -> CourseFile:
-        return course.course_of(self.text, self.folder, self.secret)
+        return course_files.course_of(self.text, self.folder, self.secret)
 
     @property
     def conditions(self) -> Conditions:

@@ -11,7 +11,7 @@ import tempfile
 from typing import Dict, Iterator, List, Sequence, Set, Tuple
 
 from arena_lab.course import intake, league, rounds
-from arena_lab.course.course import CourseFile
+from arena_lab.course.course_files import CourseFile
 from arena_lab.course.cutting import cut_down
 from arena_lab.course.export import Marks
 from arena_lab.course.graded_matches import (
@@ -24,7 +24,7 @@ from arena_lab.course.graded_matches import (
 from arena_lab.course.league import Refusals, LeagueRow
 from arena_lab.course.points import marks
 from arena_lab.course.pool import Budget, LimitedJob, in_time
-from arena_lab.pages import page
+from arena_lab.pages import match_page
 from arena_lab.play.parallel import Result
 from arena_lab.rules.engines import name_of
 from arena_lab.sandbox import sandboxes, isolation
@@ -127,7 +127,7 @@ def prepare(grading: GradingRun) -> None:
         )
     for network in grading.course.grid.networks.values():
         with contextlib.suppress(MissingPackageError):
-            page.layout({"nodes": network.nodes, "links": network.links})
+            match_page.layout({"nodes": network.nodes, "links": network.links})
 
 
 class Hangs:

@@ -4,7 +4,7 @@ from typing import Any, Dict, List, Mapping, NamedTuple, Optional, Sequence, Tup
 
 from arena_lab.pages.parts import fill_page
 from arena_lab.play import bounds, kept_matches
-from arena_lab.play.repeating import SAYS_OTHERWISE
+from arena_lab.play.repetitions import SAYS_OTHERWISE
 from arena_lab.sweep.grid import Grid
 from arena_lab.sweep.report import FAULTS, Row, is_solved
 

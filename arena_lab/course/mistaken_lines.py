@@ -3,9 +3,9 @@ crashed or hung, sent what was refused, accused a safe link, or left too early."
 import re
 from typing import Any, Dict, Iterator, List, NamedTuple, Optional, Sequence, Tuple
 
-from arena_lab.course import sent_lines
+from arena_lab.course import sender_marks
 from arena_lab.course.hand_in import HandIn
-from arena_lab.course.sent_lines import SentBy
+from arena_lab.course.sender_marks import SentBy
 from arena_lab.play.games import Record
 
 # a place in a file, as Python, Node.js, Java, gcc, rustc and Go write it
@@ -36,7 +36,7 @@ def marks_of(
     handed_in: HandIn,
 ) -> List[Dict[str, Any]]:
     """The marks of a match, each of several that say the same of a line once."""
-    senders = sent_lines.along(record.match.match.log, places)
+    senders = sender_marks.along(record.match.match.log, places)
     line_marks = [
         *of_faults(record.match.faults, errors, places, handed_in),
         *of_events(record, senders),

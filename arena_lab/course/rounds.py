@@ -14,10 +14,10 @@ from typing import Dict, Iterator, List, NamedTuple, Sequence, Tuple
 
 from arena_lab.course import intake, league
 from arena_lab.course.conditions import CourseDraws
-from arena_lab.course.course import ProgramLimits, terms_of
-from arena_lab.course.grounds import grounds_of
+from arena_lab.course.course_files import ProgramLimits, terms_of
+from arena_lab.course.team_runners import grounds_of
 from arena_lab.course.pool import Budget, LimitedJob, TimedResult, in_time
-from arena_lab.play import mistakes, programs, repeating
+from arena_lab.play import mistakes, programs, repetitions
 from arena_lab.play.agent_files import AgentError
 from arena_lab.play.schedulers import ImpossibleError
 from arena_lab.play.parallel import Result
@@ -103,7 +103,7 @@ class Repeating(NamedTuple):
             setup,
             self.draws.keys(self.text, repetition.number, setup.agents),
         )
-        again = repeating.with_new_keys(fixture)
+        again = repetitions.with_new_keys(fixture)
         words = terms_of(self.text, 0).commands[repetition.team]
         handed_in = intake.hand_in_of(self.out, repetition.team)
         with grounds_of(self.sandbox, handed_in, words, setup, 1) as grounds:
@@ -117,8 +117,8 @@ class Repeating(NamedTuple):
                 self.limits.match_space << 20,
             )
             return str(
-                repeating.repeat_agent(
-                    team, again, repeating.past_of(replay, repetition.agent)
+                repetitions.repeat_agent(
+                    team, again, repetitions.past_of(replay, repetition.agent)
                 )
                 or ""
             )

@@ -30,10 +30,10 @@ import time
 import traceback
 from typing import Any, Dict, List, NamedTuple, NoReturn, Optional, Set
 
-from arena_lab.course import check_steps, exercises, hand_in, sent_lines
+from arena_lab.course import check_steps, exercises, hand_in, sender_marks
 from arena_lab.course.answers import check_answer
-from arena_lab.course.checked import CheckBudget, CheckJob, conditions_of, join_words
-from arena_lab.course.grounds import files_of
+from arena_lab.course.check_jobs import CheckBudget, CheckJob, conditions_of, join_words
+from arena_lab.course.team_runners import files_of
 from arena_lab.course.hand_in import HandIn
 from arena_lab.course.mistaken_lines import LEAVES, marks_of
 from arena_lab.course.trial_files import (
@@ -48,7 +48,7 @@ from arena_lab.course.trial_files import (
     REQUEST_FILE,
     RESULT_FILE,
 )
-from arena_lab.pages import page
+from arena_lab.pages import match_page
 from arena_lab.play import games, kept_matches, programs
 from arena_lab.play.games import Record
 from arena_lab.play.matches import play
@@ -128,7 +128,7 @@ class TriedProgram:
 
     def mark_program(self) -> HandIn:
         """The program with a client that says by which line it sends."""
-        return sent_lines.mark_program(self.handed_in, self.asked.line - BEFORE)
+        return sender_marks.mark_program(self.handed_in, self.asked.line - BEFORE)
 
     def check_job(self, agent: AgentWords) -> CheckJob:
         request = self.asked
@@ -178,9 +178,11 @@ class TriedProgram:
         replay = self.folder / REPLAY
         replay.write_bytes(record.match.replay)
         refusals = record.match.refusals
-        page.write_page(record.program, replay, self.folder / PAGE, None, "", refusals)
-        outputs, places = sent_lines.split_errors(record.match.errors)
-        senders = sent_lines.along(record.match.match.log, places)
+        match_page.write_page(
+            record.program, replay, self.folder / PAGE, None, "", refusals
+        )
+        outputs, places = sender_marks.split_errors(record.match.errors)
+        senders = sender_marks.along(record.match.match.log, places)
         lines = [
             [event.get("agent", -1), sender.file, sender.line]
             for event, sender in zip(record.match.match.log, senders)

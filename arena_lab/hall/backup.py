@@ -17,7 +17,7 @@ import tempfile
 import time
 from typing import IO, Optional, cast
 
-from arena_lab.hall.course import HallError, read_hall
+from arena_lab.hall.hall_files import HallError, read_hall
 from arena_lab.hall.entry import begin
 from arena_lab.hall.manifests import (
     MANIFEST,

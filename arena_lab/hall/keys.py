@@ -8,7 +8,7 @@ from typing import Any, Iterable, List, Tuple
 from django.contrib.auth import get_user_model
 from django.db import transaction
 
-from arena_lab.hall.course import Hall
+from arena_lab.hall.hall_files import Hall
 from arena_lab.hall.teams.models import Switch, Team, note
 
 TEACHER = "teacher"

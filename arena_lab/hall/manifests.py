@@ -9,7 +9,7 @@ import tarfile
 import types
 from typing import IO, Any, Dict, List, cast
 
-from arena_lab.hall.course import HallError
+from arena_lab.hall.hall_files import HallError
 
 MANIFEST = "manifest.json"
 Manifest = Dict[str, Any]

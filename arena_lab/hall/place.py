@@ -12,7 +12,7 @@ import tempfile
 import zlib
 from typing import NamedTuple, Optional
 
-from arena_lab.hall.course import Hall, HallError, read_hall
+from arena_lab.hall.hall_files import Hall, HallError, read_hall
 
 VARIABLE = "ARENA_HALL"
 PLACE_FILE = "hall.json"

@@ -14,7 +14,7 @@ import time
 from typing import Callable, Dict, Iterator, List, NamedTuple, Optional
 
 from arena_lab.hall.attempts.servers import bound
-from arena_lab.hall.course import HallError
+from arena_lab.hall.hall_files import HallError
 from arena_lab.hall.place import VARIABLE, HallFolder, log_line
 from arena_lab.support.built import TOP
 

@@ -9,7 +9,7 @@ from typing import Any, Dict, List
 import django
 
 from arena_lab.hall import place
-from arena_lab.hall.course import CODEMIRROR
+from arena_lab.hall.hall_files import CODEMIRROR
 
 PLACE = place.current()
 HALL = PLACE.hall()
@@ -177,7 +177,7 @@ REST_FRAMEWORK = {
         "rest_framework.parsers.JSONParser",
         "rest_framework.parsers.MultiPartParser",
     ],
-    "EXCEPTION_HANDLER": "arena_lab.hall.teams.faults.error_response",
+    "EXCEPTION_HANDLER": "arena_lab.hall.teams.error_responses.error_response",
     "UNAUTHENTICATED_USER": None,
 }
 

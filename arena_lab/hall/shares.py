@@ -9,7 +9,7 @@ from django.db.models.functions import Now
 
 from arena_lab.hall import machine
 from arena_lab.hall.attempts.models import Worker
-from arena_lab.hall.steps import LEASE
+from arena_lab.hall.work_steps import LEASE
 
 # after so many leases a silent worker is forgotten
 FORGOTTEN = 100

@@ -16,18 +16,18 @@ from django.db import DatabaseError, connection, connections, transaction
 from django.utils import timezone
 
 from arena_lab.hall import machine
-from arena_lab.hall.attempts import playing
+from arena_lab.hall.attempts import attempt_work
 from arena_lab.hall.attempts.models import Attempt, Pages
-from arena_lab.hall.drafts import playing as tried
+from arena_lab.hall.drafts import trial_work as tried
 from arena_lab.hall.drafts import trying
 from arena_lab.hall.drafts.forking import FORK_SERVER
 from arena_lab.hall.drafts.models import Trial
-from arena_lab.hall.handins import grading
+from arena_lab.hall.handins import grading_work
 from arena_lab.hall.handins.models import Grading
 from arena_lab.hall.handins.taking import grade_secretly
 from arena_lab.hall.place import log_line
 from arena_lab.hall.shares import Share, announce, leave, share_of
-from arena_lab.hall.steps import RENEWAL_SECONDS, STOP_EVENT, Watch, claim_work
+from arena_lab.hall.work_steps import RENEWAL_SECONDS, STOP_EVENT, Watch, claim_work
 
 KINDS = (Attempt, Pages, Grading, Trial)
 # seconds between two looks, and between two that ask for gradings by the secret draw
@@ -47,20 +47,20 @@ def due(resting: Dict[Any, Set[int]], share: Share) -> List[Job]:
     limits = settings.HALL.limits
     return [
         *(
-            (playing.play, attempt)
+            (attempt_work.play, attempt)
             for attempt in due_attempts(
                 share.room(Attempt, limits.matches), resting[Attempt]
             )
         ),
         *(
-            (playing.make_pages, pages)
+            (attempt_work.make_pages, pages)
             for pages in Pages.objects.filter(state=machine.WAITING)
             .exclude(pk__in=resting[Pages])
             .order_by("pk")[: share.room(Pages, 2)]
         ),
         *(
-            (grading.grade, grading_row)
-            for grading_row in grading.due(
+            (grading_work.grade, grading_row)
+            for grading_row in grading_work.due(
                 share.room(Grading, limits.gradings), resting[Grading]
             )
         ),

@@ -5,9 +5,9 @@ import tomllib
 from typing import Any, Dict, List, NamedTuple, Optional, Sequence, Tuple
 
 from arena_lab.pages.judging import verdict_of
-from arena_lab.pages.page import write_page
+from arena_lab.pages.match_page import write_page
 from arena_lab.pages.parts import fill_page
-from arena_lab.pages.teams import MatchOutcome, networks_of, rank_teams
+from arena_lab.pages.ranked_teams import MatchOutcome, networks_of, rank_teams
 from arena_lab.rules.model import RANKS, Verdict, rank
 from arena_lab.rules.networks import NetworkError
 

@@ -1,7 +1,7 @@
 """A page of a network, to see before anything is played where each port leads."""
 from typing import Any, Dict, List
 
-from arena_lab.pages.page import SCALE, layout
+from arena_lab.pages.match_page import SCALE, layout
 from arena_lab.pages.parts import fill_page
 from arena_lab.rules.networks import Network
 

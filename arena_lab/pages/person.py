@@ -4,7 +4,7 @@ import contextlib
 import json
 from typing import Any, Dict, List, Protocol
 
-from arena_lab.pages.page import page_of_replay
+from arena_lab.pages.match_page import page_of_replay
 from arena_lab.pages.web_pages import (
     JSON,
     STRICT,

@@ -9,7 +9,7 @@ from typing import Any, Callable, Collection, Dict, List, Optional, Tuple
 from arena_lab.pages.contest_pages import MatchRow
 from arena_lab.pages.feeds import MatchFeed
 from arena_lab.pages.judging import cut, footprints
-from arena_lab.pages.page import page_of, read_replay, shown_of
+from arena_lab.pages.match_page import page_of, read_replay, shown_of
 from arena_lab.pages.screen import WatchedMatch, standings, teams
 from arena_lab.pages.web_pages import (
     JSON,

@@ -11,7 +11,7 @@ closed.
 """
 from typing import Any, Collection, Dict, List, NamedTuple, Optional, Sequence
 
-from arena_lab.pages.teams import MatchOutcome, networks_of, rank_teams
+from arena_lab.pages.ranked_teams import MatchOutcome, networks_of, rank_teams
 from arena_lab.rules.model import OUTSIDE, RANKS, Match, Verdict, judge, rank
 
 Row = Dict[str, Any]

@@ -5,7 +5,7 @@
 The function is `search` unless another is named, or `step` if there is no `search`. It
 takes an agent, its key, and the words, which are whole numbers; `{nodes}` and `{links}`
 stand for the network's numbers and `{home}` for the home base. A function whose first
-parameters are `memory` and `reply` is a step (arena_lab/play/steps.py). A parameter
+parameters are `memory` and `reply` is a step (arena_lab/play/step_agents.py). A parameter
 `sleep` behind the words gets a function to wait by. For agents that have a map,
 parameters `network` and `home` get the network's links as (node, port, node, port) and
 the home base.
@@ -28,7 +28,7 @@ from importlib.machinery import SourceFileLoader
 from types import CellType, CodeType, FunctionType, ModuleType
 from typing import Any, Callable, Dict, List, Sequence, Set, Tuple
 
-from arena_lab.play import foreign_files, steps
+from arena_lab.play import foreign_files, step_agents
 from arena_lab.play.imports import files_behind
 from arena_lab.play.own_modules import OwnModules
 from arena_lab.rules.model import Setup
@@ -189,7 +189,7 @@ class Loader:
         self._path = file_of(file.partition(":")[0])
         function = function_of(words)
         self._name = file.partition(":")[2] or (
-            "step" if steps.is_step(function) else "search"
+            "step" if step_agents.is_step(function) else "search"
         )
         self._numbers = numbers_of(rest, setup)
         self._asked = asked_behind(
@@ -219,7 +219,7 @@ class Loader:
 def script_of(words: str, setup: Setup) -> Script:
     """The agent that these words name, as it plays this match."""
     loader = Loader(words, setup)
-    is_step = steps.is_step(function_of(words))
+    is_step = step_agents.is_step(function_of(words))
 
     def play(lines: Any, key: str, sleep: Sleep) -> None:
         function, client = loader.load(lines.modules, sleep=sleep)
@@ -240,7 +240,7 @@ def play_by(
     try:
         if is_step:
             client_module().take_steps(
-                client.Agent(lines), key, steps.fresh(function), sleep
+                client.Agent(lines), key, step_agents.fresh(function), sleep
             )
         else:
             function(client.Agent(lines), key)
@@ -248,7 +248,7 @@ def play_by(
         pass
 
 
-def step_of(words: str, setup: Setup, modules: OwnModules) -> steps.Step:
+def step_of(words: str, setup: Setup, modules: OwnModules) -> step_agents.Step:
     """The step that these words name, in this match and among these modules."""
     return Loader(words, setup).load(modules)[0]
 
@@ -304,7 +304,12 @@ def script_of_function(function: Callable[..., None], setup: Setup) -> Script:
     def play(lines: Any, key: str, sleep: Sleep) -> None:
         own_function = loaded_function(function, setup, lines.modules, sleep=sleep)
         play_by(
-            own_function, steps.is_step(function), client_module(), lines, key, sleep
+            own_function,
+            step_agents.is_step(function),
+            client_module(),
+            lines,
+            key,
+            sleep,
         )
 
     return play

@@ -11,11 +11,11 @@ import pathlib
 from typing import Any, Dict, Iterator, List, NamedTuple, Optional, Sequence, Union
 
 from arena_lab.pages.links import replay_link
-from arena_lab.pages.page import page_of_replay
+from arena_lab.pages.match_page import page_of_replay
 from arena_lab.play import kept_matches, referee, schedulers
 from arena_lab.play.agent_files import AgentError, member
 from arena_lab.play.matches import PlayedMatch
-from arena_lab.play.repeating import with_repeats
+from arena_lab.play.repetitions import with_repeats
 from arena_lab.play.schedules import Schedule, schedule_of
 from arena_lab.play.parallel import over_processes
 from arena_lab.play.summaries import Summary, summary_of, verdict_by

@@ -6,7 +6,7 @@ import tempfile
 from typing import List, Optional, Sequence, Tuple
 
 import arena_lab
-from arena_lab.pages.page import write_page
+from arena_lab.pages.match_page import write_page
 from arena_lab.play.matches import PlayedMatch, play
 from arena_lab.play.schedulers import (
     ScheduleFollower,

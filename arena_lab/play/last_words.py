@@ -9,7 +9,7 @@ import pathlib
 import re
 from typing import Callable, List, Optional, Sequence, Tuple
 
-# with what lines begin that are no words of the program: see course/sent_lines.py
+# with what lines begin that are no words of the program: see course/sender_marks.py
 MARK = "\x1e"
 # characters of a line that are looked at
 WIDEST = 1000

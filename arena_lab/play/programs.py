@@ -25,11 +25,11 @@ from typing import Callable, Dict, List, Mapping, Optional, Sequence, Sized
 from arena_lab.play import wasm_modules
 from arena_lab.play.agent_files import AgentError, facts_of
 from arena_lab.play.bounds import READ_NOTHING, SENT_NOTHING, TimeBound, Room
-from arena_lab.play.grounds import HOST, Ground, LocalRunner, StartError
+from arena_lab.play.runners import HOST, Ground, LocalRunner, StartError
 from arena_lab.play.last_words import asked_behind, error_in, usage_in
 from arena_lab.play.mistakes import plain, quote_line
 from arena_lab.play.players import DENIALS, DONE, LAST_LINES, TRAVELS, WAITS
-from arena_lab.play.sent_lines import PIECE, Lines
+from arena_lab.play.line_reader import PIECE, Lines
 from arena_lab.rules.draws import seed_of
 from arena_lab.rules.fixtures import Fixture
 from arena_lab.support.built import without_warning

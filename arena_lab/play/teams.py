@@ -14,13 +14,13 @@ from arena_lab.play.agent_files import (
     step_of,
 )
 from arena_lab.play.bounds import LIMIT
-from arena_lab.play.grounds import Ground, same_folder
+from arena_lab.play.runners import Ground, same_folder
 from arena_lab.play.matches import Team
 from arena_lab.play.own_modules import OwnModules
 from arena_lab.play.players import Team as Inside
 from arena_lab.play.programs import seeds_of
 from arena_lab.play.programs import Team as Outside
-from arena_lab.play.steps import Step, is_step
+from arena_lab.play.step_agents import Step, is_step
 from arena_lab.play.wasm_modules import is_module
 from arena_lab.rules import draws
 from arena_lab.rules.fixtures import Fixture, MatchError, fixture_of

@@ -15,7 +15,7 @@ import pathlib
 import time
 from typing import Iterator, List, Optional
 
-from arena_lab.sandbox import processes, watch
+from arena_lab.sandbox import processes, memory_watch
 
 # mount points of cgroups, and the file that names this process's own group
 MOUNTS = ("/sys/fs/cgroup", "/sys/fs/cgroup/unified")
@@ -48,7 +48,7 @@ class ControlGroup:
     def bound(self) -> None:
         """Writes the bounds. Not every system has swap, and older ones end one process
         where all should end."""
-        write(self._folder / "memory.max", str(watch.MAX_MEMORY))
+        write(self._folder / "memory.max", str(memory_watch.MAX_MEMORY))
         with contextlib.suppress(OSError):
             write(self._folder / "memory.swap.max", "0")
         with contextlib.suppress(OSError):

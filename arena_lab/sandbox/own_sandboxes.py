@@ -4,7 +4,7 @@ import contextlib
 import subprocess
 from typing import Any, Callable, Mapping, Optional, Sequence
 
-from arena_lab.play.grounds import StartedProgram
+from arena_lab.play.runners import StartedProgram
 from arena_lab.rules.fixtures import Fixture
 from arena_lab.rules.model import Setup
 from arena_lab.sandbox.sandboxes import (

@@ -39,27 +39,27 @@ from typing import (
     Tuple,
 )
 
-from arena_lab.play.grounds import StartError, StartedProgram
+from arena_lab.play.runners import StartError, StartedProgram
 from arena_lab.play.wasm_modules import is_module
 from arena_lab.sandbox import (
     calls,
     groups,
     isolation,
-    network,
+    network_ports,
     processes,
     system_copy,
     users,
-    watch,
+    memory_watch,
 )
 from arena_lab.sandbox.groups import ControlGroup
 from arena_lab.sandbox.isolation import HOME, PATH, PORT, SPACES, CellError
-from arena_lab.sandbox.start import GO, READY
-from arena_lab.sandbox.watch import TOO_MUCH, MemoryWatch, memory_of, space_of
+from arena_lab.sandbox.program_start import GO, READY
+from arena_lab.sandbox.memory_watch import TOO_MUCH, MemoryWatch, memory_of, space_of
 from arena_lab.support.built import player
 from arena_lab.support.missing import DEBIANS_PYTHON
 from arena_lab.support.waiting import is_ready
 
-STARTER = pathlib.Path(__file__).resolve().parent / "start.py"
+STARTER = pathlib.Path(__file__).resolve().parent / "program_start.py"
 # how long a machine with much other work may take to begin a sandbox
 SECONDS_TO_BEGIN = 60
 PACKAGES = "apt-get install bubblewrap python3-seccomp"
@@ -246,7 +246,7 @@ class Sandbox:
                 if self.place is None:
                     inside = processes.below(child.pid)[1:2]
                     self._first = open_process(inside)
-                    network.bound(inside[0])
+                    network_ports.bound(inside[0])
                 channel.sendall(GO)
                 return listener
         except (OSError, IndexError) as fault:
@@ -312,7 +312,9 @@ class Sandbox:
         running = processes.below(self._child.pid)
         if len(running) > self.options.processes + SANDBOX_PROCESSES:
             return TOO_MANY.format(self.options.processes)
-        has_all = not self._group and self.memory_used(running) > watch.MAX_MEMORY
+        has_all = (
+            not self._group and self.memory_used(running) > memory_watch.MAX_MEMORY
+        )
         return TOO_MUCH if has_all else ""
 
     def memory_used(self, running: Sequence[int]) -> int:

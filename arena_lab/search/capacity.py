@@ -1,5 +1,5 @@
 """How many states of a match fit in the memory of this machine."""
-from arena_lab.search.explore import MAX_STATES
+from arena_lab.search.model_search import MAX_STATES
 from arena_lab.support.memory import available
 
 # bytes of a state, with room for more than was measured: in the program's search, and

@@ -23,7 +23,7 @@ from typing import (
 from arena_lab.play.agent_files import digests
 from arena_lab.play.parallel import Parallelism
 from arena_lab.play.teams import Matches, digests_of
-from arena_lab.search.checking import Checks, CheckCounts
+from arena_lab.search.machine_checks import Checks, CheckCounts
 from arena_lab.search.findings import ExploreAnswer
 from arena_lab.search.history_tree import NoFunctionError
 from arena_lab.search.machines import Machines

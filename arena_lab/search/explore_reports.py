@@ -10,7 +10,7 @@ from arena_lab.play.teams import INSIDE, Game
 from arena_lab.rules.engines import name_of
 from arena_lab.search.capacity import OF_MODEL, fitting
 from arena_lab.search.driver import ExploreJob, Search
-from arena_lab.search.explore import ExploredMatch, explore_match
+from arena_lab.search.model_search import ExploredMatch, explore_match
 from arena_lab.search.findings import (
     Breaks,
     Endless,

@@ -10,7 +10,7 @@ from arena_lab.play.teams import AgentWords, Game, Together
 from arena_lab.rules.fixtures import Fixture
 from arena_lab.rules.model import AWAY, ENDED, OUTSIDE
 from arena_lab.rules.rehearsal import Rehearsal
-from arena_lab.search.explore import ExploredMatch
+from arena_lab.search.model_search import ExploredMatch
 from arena_lab.search.findings import (
     FAILED,
     SOLVED,

@@ -7,9 +7,9 @@ from arena_lab.play.games import Record, play_again
 from arena_lab.play.schedules import Schedule
 from arena_lab.play.teams import Game
 from arena_lab.rules.model import Verdict
-from arena_lab.search import explore
+from arena_lab.search import model_search
 from arena_lab.search.capacity import OF_MODEL, OF_PROGRAM, fitting
-from arena_lab.search.checking import CheckCounts
+from arena_lab.search.machine_checks import CheckCounts
 from arena_lab.search.driver import CHECKED_SAMPLES, ExploreJob, Search
 from arena_lab.search.findings import Exceeds, Solves, name_of as kind_of, turns_of
 from arena_lab.search.history_tree import NoFunctionError
@@ -173,7 +173,7 @@ def explore_games(
     """Tries every schedule of games, or draws schedules, by a program or by the Python
     model. `states` are the most of a match to visit."""
     if program is not None:
-        limit = explore.MAX_STATES if draws is not None else fitting(OF_PROGRAM)
+        limit = model_search.MAX_STATES if draws is not None else fitting(OF_PROGRAM)
         return by_program(
             games,
             ExploreJob(games[0].matches(), program, states or limit, check, draws),
@@ -184,7 +184,7 @@ def explore_games(
         explored = [
             (match, game)
             for game in games
-            for match in explore.explore_matches(
+            for match in model_search.explore_matches(
                 game, states or fitting(OF_MODEL), progress
             )
         ]

@@ -8,7 +8,7 @@ from arena_lab.play.agent_files import client_module
 from arena_lab.play.foreign_files import Notes
 from arena_lab.play.own_modules import OwnModules
 from arena_lab.play.players import DEPARTED, WAKES, Team, TooSlowError
-from arena_lab.play.steps import Step, memory_of, name_of
+from arena_lab.play.step_agents import Step, memory_of, name_of
 from arena_lab.play.teams import AgentWords
 from arena_lab.rules.model import Object, Setup
 from arena_lab.search.agent_processes import ENDS, FAIL, SAYS, SLEEP, STOP, AgentStep

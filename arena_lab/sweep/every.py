@@ -11,7 +11,7 @@ from arena_lab.play.teams import SPURIOUS_WAKEUPS, Matches
 from arena_lab.rules.engines import EnginesDifferError, name_of
 from arena_lab.rules.fixtures import Fixture
 from arena_lab.search import driver
-from arena_lab.search.checking import ODD
+from arena_lab.search.machine_checks import ODD
 from arena_lab.search.findings import FAILED, ExploreAnswer, Solves, name_of as kind_of
 from arena_lab.support.fields import FileFormatError
 from arena_lab.support.progress import along

@@ -23,8 +23,8 @@ from typing import Iterator, List, NamedTuple, Optional, Sequence, Tuple
 from arena_lab import with_one_order
 from arena_lab.commands import check
 from arena_lab.course import check_steps
-from arena_lab.course.checked import CheckJob, conditions_of
-from arena_lab.course.course import course_of
+from arena_lab.course.check_jobs import CheckJob, conditions_of
+from arena_lab.course.course_files import course_of
 from arena_lab.play.agent_files import AGENTS, AgentError
 from arena_lab.play.games import play_seed
 from arena_lab.play.teams import INSIDE, OUTSIDE, AgentWords, Game

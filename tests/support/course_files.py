@@ -1,7 +1,7 @@
 """A course of one team on two rings, and rows of its matches."""
 from typing import Any, Dict
 
-from arena_lab.course.course import CourseFile, course_of
+from arena_lab.course.course_files import CourseFile, course_of
 from arena_lab.sweep import tables
 from tests.support.output import InTemporary
 

@@ -25,7 +25,7 @@ from arena_lab.course.exercises import (
     ExerciseMatch,
     exercises,
 )
-from arena_lab.pages.page import SCRIPTS
+from arena_lab.pages.match_page import SCRIPTS
 from arena_lab.pages.parts import fill_page, part
 from arena_lab.rules.networks import network_named
 from tools.port import crates, module

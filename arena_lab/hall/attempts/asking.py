@@ -8,12 +8,12 @@ from rest_framework.exceptions import APIException
 
 from arena_lab.hall import machine
 from arena_lab.hall.attempts.models import Attempt
-from arena_lab.hall.attempts.playing import forget
-from arena_lab.hall.course import Net
+from arena_lab.hall.attempts.attempt_work import forget
+from arena_lab.hall.hall_files import Net
 from arena_lab.hall.drafts.models import Draft, Trial
 from arena_lab.hall.handins.models import Grading, HandIn
 from arena_lab.hall.packing import most_on_disk
-from arena_lab.hall.steps import step
+from arena_lab.hall.work_steps import step
 from arena_lab.hall.teams.models import Switch, Team, note, today
 
 

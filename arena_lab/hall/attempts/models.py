@@ -9,7 +9,7 @@ from django.db.models.signals import post_delete
 from django.utils import timezone
 from django.utils.translation import gettext_lazy as _
 
-from arena_lab.hall.steps import StoredWork, Work, remove_folder
+from arena_lab.hall.work_steps import StoredWork, Work, remove_folder
 from arena_lab.hall.teams.models import Team
 
 # what came of a match: the verdict of the program, or that nobody has entered; after a

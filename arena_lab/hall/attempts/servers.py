@@ -8,7 +8,7 @@ import socket
 import subprocess
 from typing import IO, List, NamedTuple, Optional, Sequence, Tuple, cast
 
-from arena_lab.hall.attempts.draws import TOURNAMENT
+from arena_lab.hall.attempts.match_draws import TOURNAMENT
 from arena_lab.hall.machine import MachineFaultError
 from arena_lab.hall.place import log_line
 from arena_lab.support.waiting import is_ready

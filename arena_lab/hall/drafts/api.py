@@ -7,7 +7,7 @@ from rest_framework.response import Response
 from rest_framework.viewsets import ViewSet
 
 from arena_lab.hall.attempts import asking
-from arena_lab.hall.drafts import kits, trying, views, writing
+from arena_lab.hall.drafts import written_kits, trying, views, writing
 from arena_lab.hall.drafts.models import Trial
 from arena_lab.hall.handins import taking
 from arena_lab.hall.teams.logins import ByToken, ByWriter
@@ -46,7 +46,8 @@ class Drafts(Writers):
 
     def list(self, request: Any) -> Response:
         drafts = [
-            writing.draft_of(request.user, language) for language in kits.languages()
+            writing.draft_of(request.user, language)
+            for language in written_kits.languages()
         ]
         return Response([writing.draft_dict(draft) for draft in drafts])
 

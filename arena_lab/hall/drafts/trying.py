@@ -11,9 +11,9 @@ from arena_lab.hall import machine
 from arena_lab.hall.attempts.asking import RequestRefusedError, make_room, open_networks
 from arena_lab.hall.attempts.shown import time_of
 from arena_lab.hall.drafts import writing
-from arena_lab.hall.drafts.kits import all_exercises, exercise_of, kit_of
+from arena_lab.hall.drafts.written_kits import all_exercises, exercise_of, kit_of
 from arena_lab.hall.drafts.models import Draft, Trial
-from arena_lab.hall.steps import step
+from arena_lab.hall.work_steps import step
 from arena_lab.hall.teams.models import Team, note, today
 from arena_lab.play.schedulers import SCHEDULER_MAKERS
 

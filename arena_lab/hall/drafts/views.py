@@ -11,7 +11,7 @@ from django.views.decorators.http import require_POST
 from arena_lab.course.trial_files import PAGE, REPLAY
 from arena_lab.hall.attempts.asking import RequestRefusedError, open_networks
 from arena_lab.hall.attempts.views import send_file
-from arena_lab.hall.drafts import guests, kits, trying, words, writing
+from arena_lab.hall.drafts import guests, written_kits, trying, words, writing
 from arena_lab.hall.drafts.models import Trial
 from arena_lab.hall.handins.windows import Window, windows
 from arena_lab.hall.place import OWNER
@@ -57,18 +57,20 @@ def page(request: Any) -> HttpResponse:
             guest_page(request, "/write/guest") if rules.guests else redirect("/login")
         )
     team = request.writer
-    language = request.GET.get("language") or kits.languages()[0]
+    language = request.GET.get("language") or written_kits.languages()[0]
     try:
-        kit = kits.kit_of(language)
+        kit = written_kits.kit_of(language)
         draft = writing.draft_dict(writing.draft_of(team, language))
     except RequestRefusedError:
         raise Http404 from None
-    exercise = kits.exercise_of(language)
+    exercise = written_kits.exercise_of(language)
     context: Dict[str, Any] = {
         "exercise": exercise,
         "exercises": trying.exercises_of(team),
         "draft": {**draft, "kit": kit.files, "team": team.name},
-        "kits": [(language, KITS[language].name) for language in kits.languages()],
+        "kits": [
+            (language, KITS[language].name) for language in written_kits.languages()
+        ],
         "chosen": language,
         "networks": open_networks(),
         "small": trying.SMALL,

@@ -11,7 +11,7 @@ from django.utils.translation import gettext as _
 
 from arena_lab.hall.attempts.asking import RequestRefusedError, make_room
 from arena_lab.hall.attempts.shown import time_of
-from arena_lab.hall.drafts.kits import kit_of
+from arena_lab.hall.drafts.written_kits import kit_of
 from arena_lab.hall.drafts.models import Draft
 from arena_lab.hall.handins import taking
 from arena_lab.hall.handins.models import HandIn

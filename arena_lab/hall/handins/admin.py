@@ -13,7 +13,7 @@ from arena_lab.hall import machine
 from arena_lab.hall.handins.models import Contest, Extension, Grading, HandIn
 from arena_lab.hall.handins.windows import window_of
 from arena_lab.hall.standings.models import Reveal
-from arena_lab.hall.standings.tables import teams_without_grade
+from arena_lab.hall.standings.team_tables import teams_without_grade
 from arena_lab.hall.teams.admin import ReadOnlyAdmin
 from arena_lab.hall.teams.models import Team
 

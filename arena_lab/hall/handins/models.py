@@ -10,7 +10,7 @@ from django.db.models.signals import post_delete
 from django.utils import timezone
 from django.utils.translation import gettext_lazy as _
 
-from arena_lab.hall.steps import Work, remove_folder
+from arena_lab.hall.work_steps import Work, remove_folder
 from arena_lab.hall.teams.models import Team
 
 

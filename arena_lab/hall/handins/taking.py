@@ -14,7 +14,7 @@ from arena_lab.hall import machine
 from arena_lab.hall.attempts.asking import RequestRefusedError, make_room
 from arena_lab.hall.attempts.shown import time_of
 from arena_lab.hall.handins import unpacking
-from arena_lab.hall.handins.grading import FILES, place_of
+from arena_lab.hall.handins.grading_work import FILES, place_of
 from arena_lab.hall.handins.models import Contest, Grading, HandIn
 from arena_lab.hall.handins.windows import (
     Window,

@@ -11,12 +11,12 @@ from django.shortcuts import redirect, render
 from django.utils import timezone
 from django.utils.html import escape
 
-from arena_lab.hall import conditions as given_to
+from arena_lab.hall import grading_terms as given_to
 from arena_lab.hall import packing
 from arena_lab.hall.attempts.asking import RequestRefusedError
 from arena_lab.hall.attempts.views import send_file
 from arena_lab.hall.handins import taking
-from arena_lab.hall.handins.grading import FILES, OUT, TEAM_PAGE
+from arena_lab.hall.handins.grading_work import FILES, OUT, TEAM_PAGE
 from arena_lab.hall.handins.models import HandIn
 from arena_lab.hall.handins.windows import windows
 from arena_lab.hall.teams.guards import SANDBOX_POLICY

@@ -18,7 +18,7 @@ from arena_lab.hall.attempts.shown import time_of
 from arena_lab.hall.handins.models import Contest
 from arena_lab.hall.handins.windows import Window, window_of
 from arena_lab.hall.keys import safe
-from arena_lab.hall.standings import tables
+from arena_lab.hall.standings import team_tables
 
 
 # for how long the tables that teams see are kept
@@ -49,14 +49,14 @@ def open_window(number: Optional[int]) -> Optional[Window]:
 
 def visible_tables(
     window: Optional[Window], for_teacher: bool
-) -> List[tables.StandingsTable]:
+) -> List[team_tables.StandingsTable]:
     """The tables of a window. Those of teams are made once in a while, however often
     they are asked for."""
     if window is None or for_teacher:
-        return [] if window is None else tables.tables(window, True)
+        return [] if window is None else team_tables.tables(window, True)
     name = f"tables-{0 if window.contest is None else window.contest.pk}"
-    standings_tables: List[tables.StandingsTable] = cache.get_or_set(
-        name, lambda: tables.tables(window, False), SECONDS
+    standings_tables: List[team_tables.StandingsTable] = cache.get_or_set(
+        name, lambda: team_tables.tables(window, False), SECONDS
     )
     return standings_tables
 
@@ -95,7 +95,7 @@ def screen(request: Any, number: Optional[int] = None) -> HttpResponse:
     )
 
 
-def as_rows(table: tables.StandingsTable) -> List[List[Any]]:
+def as_rows(table: team_tables.StandingsTable) -> List[List[Any]]:
     """The standings as a table of texts."""
     rows: List[List[Any]] = [
         [
@@ -174,7 +174,7 @@ class Standings(APIView):
         table = (
             standings_tables[0]
             if standings_tables
-            else tables.StandingsTable([], [], False, None)
+            else team_tables.StandingsTable([], [], False, None)
         )
         return Response(
             {

@@ -11,7 +11,7 @@ from django.db import models
 from django.utils import timezone
 from django.utils.translation import gettext_lazy as _
 
-from arena_lab.hall.course import TEAM
+from arena_lab.hall.hall_files import TEAM
 
 # what parts a team's name from the rest of its token
 DOT = "."

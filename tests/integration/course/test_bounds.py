@@ -2,7 +2,7 @@
 import time
 from unittest import mock
 
-from arena_lab.sandbox import watch
+from arena_lab.sandbox import memory_watch
 from arena_lab.sandbox.sandboxes import Isolation
 from tests.integration.course.attacked_course import (
     ALL_ISOLATION,
@@ -67,13 +67,13 @@ class Taking(Course):
 time.sleep(100)
 """
         )
-        with mock.patch.object(watch, "MAX_MEMORY", 200 << 20):
+        with mock.patch.object(memory_watch, "MAX_MEMORY", 200 << 20):
             for isolation in ALL_ISOLATION:
                 with self.subTest(isolation):
                     began = time.monotonic()
                     self.assertEqual(
                         self.play(isolation, code).faults,
-                        [f"agent 0: {watch.TOO_MUCH}"],
+                        [f"agent 0: {memory_watch.TOO_MUCH}"],
                     )
                     self.assertLess(time.monotonic() - began, 30)
 
@@ -115,12 +115,12 @@ time.sleep(100)
 
     def check_taken(self, code: str) -> None:
         """The program is ended as one that has taken too much."""
-        with mock.patch.object(watch, "MAX_MEMORY", 200 << 20):
+        with mock.patch.object(memory_watch, "MAX_MEMORY", 200 << 20):
             for isolation in ALL_ISOLATION:
                 with self.subTest(isolation):
                     self.assertEqual(
                         self.play(isolation, code, head=HEAD.replace("60", "8")).faults,
-                        [f"agent 0: {watch.TOO_MUCH}"],
+                        [f"agent 0: {memory_watch.TOO_MUCH}"],
                     )
 
     @NEEDS_SANDBOX
@@ -144,7 +144,8 @@ except OSError as fault:
             ],
         )
         many = "import time\nfor number in range(200_000):\n    open(str(number), 'w').close()\ntime.sleep(100)"
-        with mock.patch.object(watch, "MAX_MEMORY", 100 << 20):
+        with mock.patch.object(memory_watch, "MAX_MEMORY", 100 << 20):
             self.assertEqual(
-                self.play(Isolation.ALL, many).faults, [f"agent 0: {watch.TOO_MUCH}"]
+                self.play(Isolation.ALL, many).faults,
+                [f"agent 0: {memory_watch.TOO_MUCH}"],
             )

@@ -11,7 +11,7 @@ from typing import Dict, Iterator, List
 from unittest import mock
 
 from arena_lab.__main__ import main
-from arena_lab.course import course, grounds, league
+from arena_lab.course import course_files, team_runners, league
 from arena_lab.course.graded_matches import GradingRun
 from arena_lab.course.hand_in import HandIn
 from arena_lab.play import schedulers
@@ -78,7 +78,7 @@ class Grading(InFolder):
             name: fields.count(36_000, "seconds")
             for name in ("match_limit", "team_limit")
         }
-        self.enterContext(mock.patch.dict(course.FIELDS, slow))
+        self.enterContext(mock.patch.dict(course_files.FIELDS, slow))
 
     def grade(self, file: pathlib.Path, out: str, *extra: str) -> str:
         """Grades a course; gives what is said."""
@@ -423,7 +423,7 @@ class Spies(unittest.TestCase):
             self.folder,
         )
         with mock.patch.object(
-            grounds, "sandboxes_for", lambda *_: in_one_folder(sandbox)
+            team_runners, "sandboxes_for", lambda *_: in_one_folder(sandbox)
         ):
             for observation in self.observations(Isolation.NONE):
                 self.assertIn("TREASURE-plan", observation)

@@ -12,10 +12,10 @@ from typing import List, Tuple
 from unittest import mock
 
 from arena_lab.course import rounds
-from arena_lab.course.course import course_of
+from arena_lab.course.course_files import course_of
 from arena_lab.course.graded_matches import GradingRun
 from arena_lab.course.hand_in import HandIn
-from arena_lab.sandbox import calls, sandboxes, groups, watch
+from arena_lab.sandbox import calls, sandboxes, groups, memory_watch
 from arena_lab.sandbox.sandboxes import ProgramFiles, Isolation, SandboxOptions
 from arena_lab.sandbox.groups import ControlGroup
 from arena_lab.support.built import TOP
@@ -204,7 +204,9 @@ class TestPrograms(Fake):
 
     def test_what_is_said_of_a_program_that_the_kernel_has_ended(self) -> None:
         files = ProgramFiles(HandIn({}).archive(), {}, calls.ANY)
-        with mock.patch.object(watch, "MAX_MEMORY", 200 << 20), sandboxes.sandboxes_for(
+        with mock.patch.object(
+            memory_watch, "MAX_MEMORY", 200 << 20
+        ), sandboxes.sandboxes_for(
             SandboxOptions(Isolation.NONE, groups=str(self.own)), files, 1
         ) as made, tempfile.TemporaryFile() as errors:
             child, listener_of = made[0].start(["true"], 0, errors)
@@ -215,7 +217,8 @@ class TestPrograms(Fake):
             self.assertEqual((position / "memory.max").read_text(), str(200 << 20))
             (position / "memory.events").write_text(ENDED)
             self.assertEqual(
-                (made[0].excess(), made[0].fault()), (watch.TOO_MUCH, watch.TOO_MUCH)
+                (made[0].excess(), made[0].fault()),
+                (memory_watch.TOO_MUCH, memory_watch.TOO_MUCH),
             )
         self.assertEqual(list(self.own.glob("arena-*")), [])
 
@@ -275,9 +278,9 @@ class TestReal(unittest.TestCase):
                     "this process is in no control group of version 2 that it may divide: run the tests by "
                     "`systemd-run --user --scope -p Delegate=yes`"
                 )
-            with mock.patch.object(watch, "MAX_MEMORY", 50 << 20), groups.group_in(
-                folder
-            ) as group:
+            with mock.patch.object(
+                memory_watch, "MAX_MEMORY", 50 << 20
+            ), groups.group_in(folder) as group:
                 assert group is not None
                 result = subprocess.run(
                     [*group.words(), "head", "-c", "200M", "/dev/zero"],

@@ -2,7 +2,7 @@
 
 from arena_lab.course import league
 from arena_lab.course.league import Failure
-from arena_lab.pages import contest_pages, page, parts
+from arena_lab.pages import contest_pages, match_page, parts
 from arena_lab.rules.model import Verdict
 from arena_lab.sweep import report
 from tests.support.course_files import TEAM, Folder, row
@@ -102,7 +102,7 @@ class Escapes(Folder):
         self.assertIn("<svg></svg>", text)
 
     def test_whiteboards_of_a_match_end_no_script(self) -> None:
-        text = page.page_of({"name": HOSTILE, "match": {"texts": [HOSTILE]}})
+        text = match_page.page_of({"name": HOSTILE, "match": {"texts": [HOSTILE]}})
         self.check(text)
         self.assertEqual(text.count("</script>"), 2)
         self.assertIn("\\u003c/script>\\u003c/td>\\u003cb>", text)

@@ -12,7 +12,7 @@ from typing import Iterator
 from unittest import mock
 
 from arena_lab.rules.engines import TOP
-from arena_lab.sandbox import calls, sandboxes, kernel_traces, system_copy, watch
+from arena_lab.sandbox import calls, sandboxes, kernel_traces, system_copy, memory_watch
 from arena_lab.sandbox.sandboxes import Isolation, SandboxOptions
 from arena_lab.sandbox.isolation import CellError
 from arena_lab.support.missing import DEBIANS_PYTHON
@@ -42,7 +42,9 @@ def number_of_memory() -> int:
     with mmap.mmap(-1, mmap.PAGESIZE):
         lines = pathlib.Path("/proc/self/maps").read_text().splitlines()
         return int(
-            next(line.split()[4] for line in lines if watch.SHARED_MEMORY in line)
+            next(
+                line.split()[4] for line in lines if memory_watch.SHARED_MEMORY in line
+            )
         )
 
 

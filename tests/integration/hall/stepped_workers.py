@@ -18,8 +18,8 @@ halls.started_hall()
 
 from django.db import connection, connections  # noqa: E402
 
-from arena_lab.hall import children, steps, worker  # noqa: E402
-from arena_lab.hall.handins import grading  # noqa: E402
+from arena_lab.hall import children, work_steps, worker  # noqa: E402
+from arena_lab.hall.handins import grading_work  # noqa: E402
 
 READS = "SELECT"
 BEGINS = "BEGIN"
@@ -163,7 +163,7 @@ class Workers:
         self.processes: Dict[int, Process] = {}
         self.broken_rules: List[str] = []
         self._held = contextlib.ExitStack()
-        claimed_value = steps.claim_work
+        claimed_value = work_steps.claim_work
 
         def watch(work: Any, name: str) -> Any:
             if LOCAL.thread.process.began_stopped:
@@ -171,14 +171,14 @@ class Workers:
             return claimed_value(work, name)
 
         for module, name, instead in (
-            (steps, "time", self.clock),
+            (work_steps, "time", self.clock),
             (worker, "time", self.clock),
-            (steps, "STOP_EVENT", Stop()),
+            (work_steps, "STOP_EVENT", Stop()),
             (worker, "STOP_EVENT", Stop()),
             (worker, "claim_work", watch),
             (worker, "threading", mock.Mock(Thread=Thread)),
             (worker, "log_line", lambda line: self.broken_rules.append(line)),
-            (steps, "log_line", lambda line: None),
+            (work_steps, "log_line", lambda line: None),
             (children.subprocess, "Popen", fake_grade),
             (children.sandboxes, "remove", shutil.rmtree),
         ):
@@ -206,8 +206,8 @@ class Workers:
 
 def fake_grade(words: Any, cwd: Any, **args: Any) -> Any:
     """Replaces `grade`, which would take long."""
-    (cwd / grading.OUT).mkdir()
-    (cwd / grading.OUT / "runs.csv").write_text(
+    (cwd / grading_work.OUT).mkdir()
+    (cwd / grading_work.OUT / "runs.csv").write_text(
         "team,network,outcome,fault,moves,lost,run\namber,ring:5,solved,,7,0,0\n"
     )
     polls: Iterator[Any] = iter([None] * LOOKS)

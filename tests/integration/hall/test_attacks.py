@@ -41,7 +41,7 @@ from django.test import Client
 from django.utils import timezone
 
 from arena_lab.hall import place
-from arena_lab.hall.attempts import playing
+from arena_lab.hall.attempts import attempt_work
 from arena_lab.hall.attempts.models import Attempt
 from arena_lab.hall.handins import taking, unpacking
 from arena_lab.hall.handins.models import Contest, Grading, HandIn
@@ -350,22 +350,22 @@ class Looks(Hall):
             match.close()
             attempt.matches.get().replay.write_text(match.replay())
             Attempt.objects.filter(pk=attempt.pk).update(faults=faults)
-            playing.Playing(Attempt.objects.get(pk=attempt.pk), "one").play()
+            attempt_work.Playing(Attempt.objects.get(pk=attempt.pk), "one").play()
             reply = self.rest("get", f"/api/matches/{attempt.pk}").json()
             self.assertEqual(reply["verdicts"][0]["outcome"], expectation)
 
     def test_a_fault_of_the_machine_tells_no_path(self) -> None:
         """A team is told that its match is played again; where its files are, the log
         says."""
-        from arena_lab.hall.steps import claim_work
+        from arena_lab.hall.work_steps import claim_work
 
         attempt = Attempt.objects.create(team=self.team("amber"), network="ring of 5")
         with mock.patch.object(
-            playing.Playing,
+            attempt_work.Playing,
             "play",
             side_effect=OSError(28, "No space left", str(PLACE.folder)),
         ):
-            playing.play(attempt.pk, str(claim_work(attempt)))
+            attempt_work.play(attempt.pk, str(claim_work(attempt)))
         reply = self.rest("get", f"/api/matches/{attempt.pk}").json()
         self.assertEqual(reply["state"], machine.WAITING)
         self.assertIn("it is done again", reply["fault"])

@@ -15,7 +15,7 @@ from django.utils import timezone
 
 from arena_lab.hall import backup, keys, machine
 from arena_lab.hall.attempts import asking
-from arena_lab.hall.course import EditorRules
+from arena_lab.hall.hall_files import EditorRules
 from arena_lab.hall.drafts import guests, trying, writing
 from arena_lab.hall.drafts.models import Draft, Trial
 from arena_lab.hall.handins.models import HandIn

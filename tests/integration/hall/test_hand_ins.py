@@ -19,7 +19,7 @@ from django.utils import timezone
 
 from arena_lab.hall import packing
 from arena_lab.hall.attempts.models import Attempt
-from arena_lab.hall.handins import grading, taking, views
+from arena_lab.hall.handins import grading_work, taking, views
 from arena_lab.hall.handins.models import Grading, HandIn
 from arena_lab.hall.standings.models import Reveal
 from arena_lab.hall.teams.models import Team
@@ -264,7 +264,7 @@ class HandIns(Hall):
             Grading.objects.filter(pk=work.pk).update(size=usage << 20)
             work.is_secret = is_secret
             folder = work.hand_in.folder / f"{usage}{is_secret}"
-            grading.prepare(work, folder)
+            grading_work.prepare(work, folder)
             result = re.findall("team_space.*\n", (folder / "course.toml").read_text())
             self.assertEqual("".join(result), expectation)
 

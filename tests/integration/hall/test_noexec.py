@@ -9,7 +9,7 @@ import tempfile
 import unittest
 from typing import Any
 
-from arena_lab.hall.course import HallError
+from arena_lab.hall.hall_files import HallError
 from arena_lab.rules.engines import TOP
 from arena_lab.sandbox import sandboxes
 from tests.support.matches import program

@@ -13,7 +13,7 @@ from tests.integration.hall.hall_pages import (
 from arena_lab.course.trials import bound_report
 from arena_lab.course.mistaken_lines import LineMark
 from arena_lab.hall.attempts.models import Attempt
-from arena_lab.hall.course import EditorRules
+from arena_lab.hall.hall_files import EditorRules
 from arena_lab.hall.drafts.models import Trial
 
 FOUND = bound_report({"right": False, "said": ["wrong"]})

@@ -16,7 +16,7 @@ from django.contrib.sessions.models import Session
 from django.test import Client
 
 from arena_lab.commands.hall import check_sign_on
-from arena_lab.hall.course import Member, hall_of
+from arena_lab.hall.hall_files import Member, hall_of
 from arena_lab.hall.sign_on.rules import SECRET_FILE, SignOnRules, secret_in
 from arena_lab.hall.teams.models import Entry, Team
 from arena_lab.support.fields import FileFormatError

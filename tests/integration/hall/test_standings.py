@@ -19,9 +19,9 @@ from django.test import Client
 from django.utils import timezone
 
 from arena_lab.hall import keys
-from arena_lab.hall.handins import grading, taking
+from arena_lab.hall.handins import grading_work, taking
 from arena_lab.hall.handins.models import Contest, Extension, Grading
-from arena_lab.hall.standings import tables
+from arena_lab.hall.standings import team_tables
 from arena_lab.hall.standings.models import Reveal
 from arena_lab.hall.teams.models import Team
 
@@ -155,7 +155,7 @@ class Standings(Hall):
             "default": {"BACKEND": "django.core.cache.backends.locmem.LocMemCache"},
         }
         with self.settings(CACHES=record), mock.patch.object(
-            tables, "tables", wraps=tables.tables
+            team_tables, "tables", wraps=team_tables.tables
         ) as made:
             for name in ("amber", "birch", "cedar"):
                 self.rest("get", "/api/standings", name)
@@ -276,7 +276,7 @@ class Contests(Hall):
         first = contest_of()
         second = contest_of()
         draw = [
-            grading.drawn_from(make_grading(name, is_secret=True, contest=contest))
+            grading_work.drawn_from(make_grading(name, is_secret=True, contest=contest))
             for contest in (first, second, None)
             for name in ("amber", "birch")
         ]
@@ -285,7 +285,7 @@ class Contests(Hall):
         self.assertEqual(
             len(
                 {
-                    grading.drawn_from(make_grading("amber", contest=first))
+                    grading_work.drawn_from(make_grading("amber", contest=first))
                     for _ in range(2)
                 }
             ),

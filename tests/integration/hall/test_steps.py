@@ -29,12 +29,12 @@ from django.test import TestCase  # noqa: E402
 from django.utils import timezone  # noqa: E402
 
 from arena_lab.hall import children, shares, worker  # noqa: E402
-from arena_lab.hall.attempts import asking, playing  # noqa: E402
+from arena_lab.hall.attempts import asking, attempt_work  # noqa: E402
 from arena_lab.hall.attempts.models import Attempt, Worker  # noqa: E402
-from arena_lab.hall.handins import grading  # noqa: E402
+from arena_lab.hall.handins import grading_work  # noqa: E402
 from arena_lab.hall.handins.models import Grading, HandIn  # noqa: E402
-from arena_lab.hall import steps  # noqa: E402
-from arena_lab.hall.steps import Watch, claim_work, lose, step  # noqa: E402
+from arena_lab.hall import work_steps  # noqa: E402
+from arena_lab.hall.work_steps import Watch, claim_work, lose, step  # noqa: E402
 from arena_lab.hall.teams.models import Entry, Team  # noqa: E402
 
 
@@ -108,7 +108,9 @@ class Steps(TestCase):
             (2.9, "", WAITING),
         ):
             day = timezone.now() + datetime.timedelta(days=1)
-            with mock.patch.object(steps, "time", after_seconds(seconds * steps.LEASE)):
+            with mock.patch.object(
+                work_steps, "time", after_seconds(seconds * work_steps.LEASE)
+            ):
                 with mock.patch.object(timezone, "now", lambda: day):
                     self.assertEqual(watch.look(), {work.pk})
             work.refresh_from_db()
@@ -122,8 +124,10 @@ class Steps(TestCase):
         work = attempt()
         watch = Watch(Attempt)
         watch.look()
-        pauses = [steps.pause(faults) for faults in (0, 1, 2, 3, 4, 9, 99)]
-        self.assertEqual(pauses, [0, 1, 4, 16, 64, steps.LONGEST, steps.LONGEST])
+        pauses = [work_steps.pause(faults) for faults in (0, 1, 2, 3, 4, 9, 99)]
+        self.assertEqual(
+            pauses, [0, 1, 4, 16, 64, work_steps.LONGEST, work_steps.LONGEST]
+        )
         start = time.monotonic()
         for faults in range(1, 6):
             holder = str(claim_work(work))
@@ -131,8 +135,8 @@ class Steps(TestCase):
             lose(work, models.Q(holder=holder), "no room")
             self.assertEqual((work.state, work.fault), (WAITING, "no room"))
             for seconds in (0.0, 0.9, 1.1):
-                now = start + seconds * steps.pause(faults)
-                with mock.patch.object(steps, "time", at(now)):
+                now = start + seconds * work_steps.pause(faults)
+                with mock.patch.object(work_steps, "time", at(now)):
                     rests = watch.look()
                 self.assertEqual(rests, {work.pk} if seconds < 1 else set())
             start = now
@@ -145,16 +149,16 @@ class Steps(TestCase):
     def test_a_worker_that_is_told_to_end_claims_nothing(self) -> None:
         """This includes a worker that was asked to end while it waited for its turn."""
         attempt()
-        self.addCleanup(steps.STOP_EVENT.clear)
-        steps.STOP_EVENT.set()
+        self.addCleanup(work_steps.STOP_EVENT.clear)
+        work_steps.STOP_EVENT.set()
         self.assertEqual(worker.claim(worker.watches()), [])
-        steps.STOP_EVENT.clear()
+        work_steps.STOP_EVENT.clear()
         self.assertEqual(len(worker.claim(worker.watches())), 1)
 
     def test_a_worker_whose_work_was_given_to_another_plays_nothing(self) -> None:
         work = attempt()
         claim_work(work)
-        playing.play(work.pk, "another")
+        attempt_work.play(work.pk, "another")
         work.refresh_from_db()
         self.assertEqual((work.state, work.runs), (HELD, 0))
 
@@ -185,22 +189,25 @@ class Steps(TestCase):
                 (hand_in.folder / "files").mkdir(parents=True)
                 self.addCleanup(shutil.rmtree, hand_in.folder, True)
                 work = Grading.objects.create(hand_in=hand_in)
-                before = getattr(grading, where)
+                before = getattr(grading_work, where)
 
                 def slept(*args: Any) -> Any:
-                    with mock.patch.object(grading, where, before):
+                    with mock.patch.object(grading_work, where, before):
                         lose(Grading.objects.get(pk=work.pk), models.Q(), "silent")
                         self.grade(work.pk, 7)
                         return before(*args)
 
-                with mock.patch.object(grading, where, slept):
+                with mock.patch.object(grading_work, where, slept):
                     self.grade(work.pk, 1)
                 work.refresh_from_db()
                 self.assertEqual(
                     (work.state, work.runs, work.moves), (machine.OVER, 2, 7)
                 )
                 self.assertEqual(
-                    grading.rows_of(work.folder / grading.OUT, "amber")[0]["moves"], 7
+                    grading_work.rows_of(work.folder / grading_work.OUT, "amber")[0][
+                        "moves"
+                    ],
+                    7,
                 )
                 self.assertEqual(
                     [
@@ -215,19 +222,19 @@ class Steps(TestCase):
         """Grades, as if all matches had taken these moves."""
 
         def program(words: Any, cwd: Any, **args: Any) -> Any:
-            (cwd / grading.OUT).mkdir()
-            (cwd / grading.OUT / "runs.csv").write_text(
+            (cwd / grading_work.OUT).mkdir()
+            (cwd / grading_work.OUT / "runs.csv").write_text(
                 f"team,network,outcome,fault,moves,lost,run\namber,ring:5,solved,,{moves},0,0\n"
             )
             return mock.Mock(returncode=0, poll=mock.Mock(return_value=0))
 
         work = Grading.objects.get(pk=number)
         with runs(program):
-            grading.grade(number, str(claim_work(work)))
+            grading_work.grade(number, str(claim_work(work)))
 
     def test_a_network_that_is_gone_is_told(self) -> None:
         work = Attempt.objects.create(team=of("amber"), network="gone")
-        playing.play(work.pk, str(claim_work(work)))
+        attempt_work.play(work.pk, str(claim_work(work)))
         work.refresh_from_db()
         self.assertEqual(work.state, LOST)
         self.assertIn("no network gone any more", work.fault)
@@ -255,7 +262,7 @@ class Steps(TestCase):
             with runs(lambda *_, **__: child), mock.patch.object(
                 django_settings, "HALL", hall
             ):
-                grading.grade(work.pk, str(claim_work(work)))
+                grading_work.grade(work.pk, str(claim_work(work)))
             work.refresh_from_db()
             self.assertEqual((work.state, work.runs), (expectation, 1))
             self.assertEqual(
@@ -297,17 +304,18 @@ class Queues(TestCase):
         first = hand_in("amber")
         second = hand_in("amber")
         hand = hand_in("birch")
-        self.assertEqual([it.pk for it in grading.due(9)], [first.pk, hand.pk])
-        self.assertEqual([it.pk for it in grading.due(1)], [first.pk])
+        self.assertEqual([it.pk for it in grading_work.due(9)], [first.pk, hand.pk])
+        self.assertEqual([it.pk for it in grading_work.due(1)], [first.pk])
         Grading.objects.filter(pk=first.pk).update(state=RUNNING, begun=timezone.now())
         self.assertEqual(
-            [[it.pk for it in grading.due(room)] for room in (0, 1)], [[], [hand.pk]]
+            [[it.pk for it in grading_work.due(room)] for room in (0, 1)],
+            [[], [hand.pk]],
         )
         Grading.objects.filter(pk=first.pk).update(
             state=machine.OVER, ended=timezone.now()
         )
         # birch was never graded yet, and what hangs waits for what does not
-        self.assertEqual([it.pk for it in grading.due(9)], [hand.pk, second.pk])
+        self.assertEqual([it.pk for it in grading_work.due(9)], [hand.pk, second.pk])
         past = timezone.now() - datetime.timedelta(minutes=3)
         Grading.objects.create(
             hand_in=hand.hand_in,
@@ -316,7 +324,7 @@ class Queues(TestCase):
             begun=past,
             ended=timezone.now(),
         )
-        self.assertEqual([it.pk for it in grading.due(9)], [second.pk, hand.pk])
+        self.assertEqual([it.pk for it in grading_work.due(9)], [second.pk, hand.pk])
 
     def test_workers_that_are_alive_share_what_is_due(self) -> None:
         """A worker of another machine gets its part, and that of one that is silent."""
@@ -343,7 +351,7 @@ class Queues(TestCase):
             holders = Attempt.objects.filter(holder__startswith="two")
             holders.update(state=machine.OVER, holder="")
             self.assertEqual(claim_count("one"), (0, 0))
-            silent = timezone.now() - datetime.timedelta(seconds=2 * steps.LEASE)
+            silent = timezone.now() - datetime.timedelta(seconds=2 * work_steps.LEASE)
             Worker.objects.filter(name="two").update(contact=silent)
             self.assertEqual(claim_count("one"), (2, 0))
             shares.announce("two")

@@ -14,7 +14,7 @@ from hypothesis.stateful import RuleBasedStateMachine, invariant, rule
 from hypothesis.stateful import run_state_machine_as_test
 
 from arena_lab.hall.handins.models import Grading, HandIn
-from arena_lab.hall.steps import LEASE
+from arena_lab.hall.work_steps import LEASE
 from arena_lab.hall.teams.models import Team
 
 NUMBERS = strategies.sampled_from((0, 1))

@@ -20,9 +20,9 @@ from django.conf import settings
 
 from arena_lab.course import exercises
 from arena_lab.hall import machine, shares, worker
-from arena_lab.hall.drafts import forking, kits, playing
+from arena_lab.hall.drafts import forking, written_kits, trial_work
 from arena_lab.hall.drafts.models import Trial
-from arena_lab.hall.steps import claim_work, step
+from arena_lab.hall.work_steps import claim_work, step
 from arena_lab.hall.teams.models import Team
 from arena_lab.play.agent_files import AGENTS
 from arena_lab.sandbox import processes, sandboxes
@@ -117,14 +117,14 @@ class Tried(DraftFile):
 
     def run_trial(self, agent: str, language: str = "python", **args: Any) -> Trial:
         """A trial of this agent, which has come to its end."""
-        kit = kits.kit_of(language)
+        kit = written_kits.kit_of(language)
         files = {**kit.files, kit.main: agent}
         reply = self.tries(language=language, files=files, **args)
         self.assertEqual(reply.status_code, 201, reply.content)
         trial = Trial.objects.get(pk=reply.json()["id"])
         holder = claim_work(trial)
         assert holder is not None
-        playing.play(trial.pk, holder)
+        trial_work.play(trial.pk, holder)
         return Trial.objects.get(pk=trial.pk)
 
     def report_of(self, agent: str, **args: Any) -> Dict[str, Any]:
@@ -155,7 +155,7 @@ class Shares(Tried):
 
                 yield look
 
-        with mock.patch.object(playing, "trial_in", watched_trial):
+        with mock.patch.object(trial_work, "trial_in", watched_trial):
             self.run_trial(agent)
         return values
 
@@ -308,11 +308,11 @@ class Waiting(Tried):
     def fork(self, agent: str) -> Any:
         """Creates a trial of this agent; returns its folder and the worker's fork
         server."""
-        kit = kits.kit_of("python")
+        kit = written_kits.kit_of("python")
         reply = self.tries(files={**kit.files, kit.main: agent})
         trial = Trial.objects.get(pk=reply.json()["id"])
         folder = trial.folder.with_name(f"{trial.pk}.one")
-        playing.prepare(trial, folder)
+        trial_work.prepare(trial, folder)
         self.addCleanup(shutil.rmtree, folder, True)
         return folder
 
@@ -359,21 +359,21 @@ class Waiting(Tried):
                     os.kill(trial, signal.SIGKILL)
 
         for kill in (kill_waiting, kill_trial):
-            with mock.patch.object(playing.Lease, "wait", kill):
+            with mock.patch.object(trial_work.Lease, "wait", kill):
                 trial = self.run_trial("import time\ntime.sleep(9)\n")
             self.assertEqual((trial.state, trial.faults), (machine.WAITING, 1))
             self.assertIsNone(trial.found)
             holder = claim_work(trial)
             assert holder is not None
             Trial.objects.filter(pk=trial.pk).update(files={"agent.py": "x = 1\n"})
-            playing.play(trial.pk, holder)
+            trial_work.play(trial.pk, holder)
             trial.refresh_from_db()
             self.assertEqual((trial.state, trial.runs), (machine.OVER, 2))
 
     def test_what_would_fail_again_is_not_begun_again(self) -> None:
         # a mock would not reach the forked process, so the request has the fault
-        wrong = {**playing.DEFAULT_CONDITIONS, "networks": ["ring:1"]}
-        with mock.patch.object(playing, "conditions_of", return_value=wrong):
+        wrong = {**trial_work.DEFAULT_CONDITIONS, "networks": ["ring:1"]}
+        with mock.patch.object(trial_work, "conditions_of", return_value=wrong):
             trial = self.run_trial(CAREFUL)
         self.assertEqual((trial.state, trial.faults), (machine.LOST, 0))
         self.assertRegex(trial.fault, "it could not be tried: .*ring:1")
@@ -391,7 +391,7 @@ class Waiting(Tried):
                 )
                 holder = claim_work(Trial.objects.get(pk=number))
                 assert holder is not None
-                playing.play(number, holder)
+                trial_work.play(number, holder)
             trial = Trial.objects.get(pk=number)
             self.assertEqual((trial.state, trial.faults), (machine.LOST, 0))
             self.assertIn("your teacher has removed this kit", trial.fault)
@@ -422,7 +422,7 @@ class Hostile(Tried):
         self.assertLess(len(json.dumps(report)), 60_000)
 
     def test_a_trial_that_does_not_end_is_ended(self) -> None:
-        with mock.patch.object(playing, "EXTRA_SECONDS", -19):
+        with mock.patch.object(trial_work, "EXTRA_SECONDS", -19):
             trial = self.run_trial("import time\ntime.sleep(60)\n")
         self.assertEqual(trial.state, machine.LOST)
         self.assertEqual(trial.fault, "it was ended after 1 s")
@@ -434,7 +434,7 @@ class Hostile(Tried):
             lease.renew()
 
         start = time.monotonic()
-        with mock.patch.object(playing.Lease, "wait", stop):
+        with mock.patch.object(trial_work.Lease, "wait", stop):
             trial = self.run_trial(FLOOD)
         self.assertEqual((trial.state, trial.found), (machine.CANCELLED, None))
         self.assertLess(time.monotonic() - start, 30)

@@ -6,7 +6,7 @@ import sys
 from unittest import mock
 
 from arena_lab.__main__ import main
-from arena_lab.pages import page
+from arena_lab.pages import match_page
 from arena_lab.rules.model import Match, Setup
 from tests.support.output import InTemporary, run_call
 
@@ -42,7 +42,9 @@ class Pages(InTemporary):
         self.program.chmod(0o755)
         self.replay = self.folder / "match.jsonl"
         self.replay.write_text(ended_match().replay(), encoding="utf-8")
-        patch = mock.patch.object(page, "layout", lambda head: [[0, 0]] * head["nodes"])
+        patch = mock.patch.object(
+            match_page, "layout", lambda head: [[0, 0]] * head["nodes"]
+        )
         patch.start()
         self.addCleanup(patch.stop)
 
@@ -105,5 +107,5 @@ class Pages(InTemporary):
             '{"agents":1,"board":8,"hole":null,"home":0,"links":[],"nodes":3,"quota":10,"replay":1}',
             '{"end":0}',
         ]
-        head = page.read_replay(lines)["head"]
+        head = match_page.read_replay(lines)["head"]
         self.assertEqual((head["holes"], head["dark"], head["replay"]), ([], [], 2))

@@ -4,7 +4,7 @@ import random
 
 from arena_lab.__main__ import main
 from arena_lab.command_line import statuses
-from arena_lab.pages import page
+from arena_lab.pages import match_page
 from arena_lab.play import schedulers
 from tests.support.matches import (
     KNOWN_MAP,
@@ -33,7 +33,7 @@ class Pages(InFolder):
                 play_fixture(fixture, agent, number, schedulers.slow_agents).replay
             )
             pages = [
-                page.page_of(page.data_of(engine, path, None))
+                match_page.page_of(match_page.data_of(engine, path, None))
                 for engine in (None, program())
             ]
             self.assertEqual(pages[0], pages[1])

@@ -8,7 +8,7 @@ from arena_lab.play.teams import INSIDE, AgentWords
 from arena_lab.rules import draws
 from arena_lab.rules.engines import Program
 from arena_lab.rules.networks import draw_network, network_named
-from arena_lab.search.explore import explore_match
+from arena_lab.search.model_search import explore_match
 from arena_lab.support.progress import NO_PROGRESS
 from tests.integration.play.test_known_map import NETWORKS, matches_on, small_networks
 from tests.support.drawing import by_chance

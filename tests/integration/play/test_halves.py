@@ -11,7 +11,7 @@ from arena_lab.rules.fixtures import Fixture, fixture_of
 from arena_lab.rules.model import Setup, Verdict
 from arena_lab.rules.networks import Network, ring
 from arena_lab.rules.rehearsal import Rehearsal
-from arena_lab.search.explore import explore_match
+from arena_lab.search.model_search import explore_match
 from arena_lab.search.ring_bounds import most_moves, rounds
 from arena_lab.support.progress import NO_PROGRESS
 from tests.support.matches import flipped_ring, program, two, under

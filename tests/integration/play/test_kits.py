@@ -3,10 +3,10 @@ tests.release.kits PROGRAM` plays all. Kits whose clients say by which line they
 built and played, too."""
 import subprocess
 
-from arena_lab.course import hand_in, sent_lines
+from arena_lab.course import hand_in, sender_marks
 from arena_lab.play.agent_files import AGENTS
 from arena_lab.play.games import play_seed
-from arena_lab.play.grounds import LocalRunner
+from arena_lab.play.runners import LocalRunner
 from arena_lab.play.kits import KITS
 from arena_lab.play.teams import OUTSIDE, AgentWords, Game
 from arena_lab.rules.networks import ring
@@ -29,7 +29,7 @@ class TestKits(InTemporary):
         if absent:
             self.skipTest(f"Debian's {', '.join(absent)} is not installed")
         kit = hand_in.read_files([AGENTS / language], AGENTS)
-        marked_value = sent_lines.mark_program(kit, 5)
+        marked_value = sender_marks.mark_program(kit, 5)
         self.assertNotEqual(marked_value, kit)
         for name in marked_value.entries:
             marked_value.write_file(name, self.folder)
@@ -43,10 +43,10 @@ class TestKits(InTemporary):
         )
         match = play_seed(Game("ring:5", ring(5), [first] * 2), "fair", 0, None).match
         self.assertEqual(match.faults, [])
-        _, places = sent_lines.split_errors(match.errors)
+        _, places = sender_marks.split_errors(match.errors)
         text = (AGENTS / language / agent).read_text(encoding="utf-8").splitlines()
         log = match.match.log
-        for event, by in zip(log, sent_lines.along(log, places)):
+        for event, by in zip(log, sender_marks.along(log, places)):
             if event["do"] in ("deliver", "close"):
                 continue
             call = "join" if event["do"] == "enter" else event["do"]

@@ -8,7 +8,7 @@ from arena_lab.rules import draws
 from arena_lab.rules.engines import Program
 from arena_lab.rules.fixtures import Fixture
 from arena_lab.rules.networks import Network, draw_network, network_named, number_ports
-from arena_lab.search.explore import explore_match
+from arena_lab.search.model_search import explore_match
 from arena_lab.support.missing import require
 from arena_lab.support.progress import NO_PROGRESS
 from tests.support.drawing import by_chance

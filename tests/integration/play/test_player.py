@@ -9,7 +9,7 @@ import unittest
 from typing import Any, Dict, List, NamedTuple, Sequence
 
 from arena_lab.play import schedulers
-from arena_lab.play.repeating import with_repeats
+from arena_lab.play.repetitions import with_repeats
 from arena_lab.play.schedulers import Choice, MatchView, Scheduler
 from arena_lab.play.teams import INSIDE, OUTSIDE, AgentWords
 from arena_lab.rules.fixtures import Fixture, fixture_of

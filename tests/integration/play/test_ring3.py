@@ -7,7 +7,7 @@ from arena_lab.play import schedulers
 from arena_lab.rules.fixtures import Fixture, fixture_of
 from arena_lab.rules.model import Setup
 from arena_lab.rules.networks import Network, ring
-from arena_lab.search.explore import explore_match
+from arena_lab.search.model_search import explore_match
 from arena_lab.support.progress import NO_PROGRESS
 from experiments import adversary, turns
 from experiments.division import Table, of_ring3, ring3

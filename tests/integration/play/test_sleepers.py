@@ -8,7 +8,7 @@ from unittest import mock
 from arena_lab.__main__ import main, parser
 from arena_lab.command_line.arguments import games_of
 from arena_lab.rules.networks import ring
-from arena_lab.search import explore
+from arena_lab.search import model_search
 from tests.support.matches import FAULTY, RING
 from tests.support.output import InTemporary, run_call
 from tests.support.tournaments import match, write_cup
@@ -118,13 +118,13 @@ class Sleepers(InTemporary):
             for word in ("--agent", f"{self.folder}/agents.py:{name}")
         ]
 
-    def worst(self, names: List[str], *words: str) -> explore.End:
+    def worst(self, names: List[str], *words: str) -> model_search.End:
         """The worst end of a match of these agents."""
         args: argparse.Namespace = parser().parse_args(
             ["explore", *WITHOUT_SPURIOUS_WAKEUPS, *words, *self.agents(names)]
         )
         (game,) = games_of(args)
-        end = explore.explore_match(
+        end = model_search.explore_match(
             game.fixtures()[-1], game.agents, mock.Mock()
         ).explorer.worst
         assert end is not None
@@ -204,7 +204,7 @@ class Sleepers(InTemporary):
         )
         (game,) = games_of(args)
         for fixture in game.fixtures():
-            end = explore.explore_match(
+            end = model_search.explore_match(
                 fixture, game.agents, mock.Mock()
             ).explorer.worst
             assert end is not None and not end.has_failed

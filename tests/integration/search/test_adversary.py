@@ -6,7 +6,7 @@ from typing import List, Tuple
 from arena_lab.__main__ import main
 from arena_lab.play.teams import INSIDE, AgentWords, Game
 from arena_lab.rules.networks import Network, complete, ring
-from arena_lab.search.adversary import (
+from arena_lab.search.ring_adversary import (
     Adversary,
     BeatenError,
     NotARingError,

@@ -8,7 +8,7 @@ from unittest import mock
 
 from arena_lab.course import check_steps
 from arena_lab.course import hand_in
-from arena_lab.course.checked import CheckJob, CheckBudget, conditions_of
+from arena_lab.course.check_jobs import CheckJob, CheckBudget, conditions_of
 from arena_lab.play.teams import OUTSIDE, AgentWords
 from arena_lab.sandbox import sandboxes
 from arena_lab.sandbox.own_sandboxes import OwnSandboxes

@@ -12,7 +12,7 @@ from arena_lab.__main__ import main
 from arena_lab.play.matches import STUCK
 from arena_lab.play.teams import Game
 from arena_lab.rules.fixtures import Fixture
-from arena_lab.search.explore import End, explore_match
+from arena_lab.search.model_search import End, explore_match
 from arena_lab.search.findings import Breaks, Fails, Finding, Solves, name_of
 from arena_lab.search.history_tree import NoFunctionError
 from arena_lab.search.machines import Machines

@@ -4,7 +4,7 @@ from typing import List
 from unittest import mock
 
 from arena_lab.play.parallel import Parallelism
-from arena_lab.sweep.families import COLUMNS, MATCHES
+from arena_lab.sweep.family_folders import COLUMNS, MATCHES
 from arena_lab.sweep.tables import cells_in
 from tests.integration.search.exploring import InExplore
 

@@ -5,7 +5,7 @@ from typing import Any, Dict, NamedTuple
 from unittest import mock
 
 from arena_lab.rules import networks
-from arena_lab.search import explore
+from arena_lab.search import model_search
 from tests.integration.search.exploring import InExplore
 from tests.support.matches import RING
 from tests.support.tournaments import match, write_cup
@@ -189,15 +189,15 @@ class Histories(InExplore):
         words = ["--network", "ring:3", "--hole", 2, "--agent", RING.words]
         self.assertEqual(self.command(*words), 0, self.output)
         self.assertIn(", the Python model's search of 1 of 1 matches\n", self.output)
-        result = explore.Explorer._end
+        result = model_search.Explorer._end
 
-        def fails(explorer: explore.Explorer, *args: Any) -> bool:
+        def fails(explorer: model_search.Explorer, *args: Any) -> bool:
             result(explorer, *args)
             assert explorer.worst is not None
             explorer.worst = explorer.worst._replace(has_failed=True)
             return True
 
-        with mock.patch.object(explore.Explorer, "_end", fails):
+        with mock.patch.object(model_search.Explorer, "_end", fails):
             self.assertEqual(self.command(*words), 1, self.output)
         self.assertIn(
             "no schedule fails by the program, and one by the Python model's search",

@@ -36,7 +36,7 @@ from arena_lab.search.configurations import (
     Position,
     World,
 )
-from arena_lab.search.explore import TooManyStatesError
+from arena_lab.search.model_search import TooManyStatesError
 from arena_lab.search.history_tree import HistoryState
 from arena_lab.search.invariants import Candidate, Walk, WalkedMatch, walk_match
 from arena_lab.support.progress import NO_PROGRESS

@@ -12,7 +12,7 @@ from arena_lab.play.games import play_seed
 from arena_lab.play.teams import INSIDE, AgentWords, Game
 from arena_lab.rules import networks
 from arena_lab.rules.networks import ring
-from arena_lab.search import explore, history_tree, hunt
+from arena_lab.search import model_search, history_tree, hunts
 from tests.integration.search.test_brute import outcomes_of
 from tests.support import mutants
 from tests.support.matches import FAULTY, MAP, RING, fixture, program
@@ -61,10 +61,10 @@ class Searches(InTemporary):
 
 
 class Exploring(Searches):
-    def explorer(self, *words: str) -> explore.Explorer:
+    def explorer(self, *words: str) -> model_search.Explorer:
         args: argparse.Namespace = parser().parse_args(["explore", *words])
         (game,) = games_of(args)
-        return explore.explore_match(
+        return model_search.explore_match(
             game.fixtures()[-1], game.agents, mock.Mock()
         ).explorer
 
@@ -289,7 +289,7 @@ class Hunting(Searches):
                 self.assertIn(fault, self.said)
 
     def test_a_hunt_that_is_interrupted_says_what_it_has(self) -> None:
-        real = hunt.play
+        real = hunts.play
         tries = iter(range(10))
 
         def play(*args: object) -> object:
@@ -297,7 +297,7 @@ class Hunting(Searches):
                 raise KeyboardInterrupt
             return real(*args)
 
-        with mock.patch.object(hunt, "play", play):
+        with mock.patch.object(hunts, "play", play):
             status = self.command(
                 "hunt",
                 "--network",

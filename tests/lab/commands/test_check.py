@@ -11,9 +11,9 @@ from unittest import mock
 
 from arena_lab.__main__ import main
 from arena_lab.commands import check
-from arena_lab.course import check_steps, checked
+from arena_lab.course import check_steps, check_jobs
 from arena_lab.course.check_steps import BY_TURNS, DRAWS, LEAST, SEARCH_NETWORKS
-from arena_lab.course.checked import CheckJob, conditions_of
+from arena_lab.course.check_jobs import CheckJob, conditions_of
 from arena_lab.play.teams import INSIDE, AgentWords
 from arena_lab.rules import networks
 from tests.support.output import run_call
@@ -34,14 +34,14 @@ class Draws(unittest.TestCase):
         results = {"networks": list(check.NETWORKS), **check.DEFAULT_CONDITIONS}
         conditions = conditions_of(results, pathlib.Path(), agent)
         job = CheckJob(agent, conditions, 1.0, None, 60, True)
-        with mock.patch.object(checked, "processor_seconds", clock), mock.patch.object(
-            checked.MatchRequest, "play", play
-        ), mock.patch.object(
+        with mock.patch.object(
+            check_jobs, "processor_seconds", clock
+        ), mock.patch.object(check_jobs.MatchRequest, "play", play), mock.patch.object(
             check_steps, "under", return_value="to mend"
         ), mock.patch.object(
             check_steps, "bar"
         ):
-            self.tried = checked.CheckBudget(60)
+            self.tried = check_jobs.CheckBudget(60)
             return check_steps.draw(job, SEARCH_NETWORKS, self.tried)
 
     def test_a_busy_machine_draws_the_least_number_and_says_so(self) -> None:

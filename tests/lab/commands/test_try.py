@@ -5,7 +5,7 @@ import pathlib
 import unittest
 from unittest import mock
 
-from arena_lab.hall.course import HallError, read_hall
+from arena_lab.hall.hall_files import HallError, read_hall
 from arena_lab.hall import place
 from arena_lab.sandbox import sandboxes
 

@@ -10,7 +10,7 @@ import tempfile
 import unittest
 from typing import Any, Dict, List
 
-from arena_lab.course.course import calls_of
+from arena_lab.course.course_files import calls_of
 from arena_lab.course.hand_in import HandInEntry, HandIn
 from arena_lab.sandbox import calls, isolation
 from arena_lab.support.fields import FileFormatError

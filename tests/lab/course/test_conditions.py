@@ -6,15 +6,15 @@ import unittest
 from typing import Any
 from unittest import mock
 
-from arena_lab.course import checked
-from arena_lab.course.checked import (
+from arena_lab.course import check_jobs
+from arena_lab.course.check_jobs import (
     CheckJob,
     CheckBudget,
     because,
     conditions_of,
     match_place,
 )
-from arena_lab.course.course import course_of
+from arena_lab.course.course_files import course_of
 from arena_lab.play.teams import INSIDE, AgentWords
 from arena_lab.rules import networks
 from arena_lab.support.fields import FileFormatError
@@ -52,7 +52,7 @@ class Draws(unittest.TestCase):
 class Conditions(unittest.TestCase):
     """What a file says to a check."""
 
-    def of(self, **extra: Any) -> checked.Conditions:
+    def of(self, **extra: Any) -> check_jobs.Conditions:
         results = {"networks": ["ring:6", "hypercube:3"], "holes": 2, **extra}
         return conditions_of(results, pathlib.Path("."), AGENT)
 
@@ -109,7 +109,7 @@ class Causes(unittest.TestCase):
         def play(first: Any) -> Any:
             return mock.Mock(has_failed=fails(first.game.match.setup, first.scheduler))
 
-        with mock.patch.object(checked.MatchRequest, "play", play):
+        with mock.patch.object(check_jobs.MatchRequest, "play", play):
             return list(because(job, conditions.case("ring:6", "fair", 0)))
 
     def test_each_cause(self) -> None:
@@ -117,12 +117,12 @@ class Causes(unittest.TestCase):
         for fails, message in (
             (lambda setup, _: setup.links != plain, "the two ends of a link"),
             (lambda setup, _: setup.home != 0, "take what {home} says"),
-            (lambda _, by: by is not checked.at_once, "a link takes as long as"),
-            (lambda _, by: by != checked.SLOW, "agents act at the same time"),
+            (lambda _, by: by is not check_jobs.at_once, "a link takes as long as"),
+            (lambda _, by: by != check_jobs.SLOW, "agents act at the same time"),
         ):
             [output] = self.diagnosis(fails)
             self.assertIn(
-                f"it solves all of {checked.SAMPLE_SIZE} such matches", output
+                f"it solves all of {check_jobs.SAMPLE_SIZE} such matches", output
             )
             self.assertIn(message, output)
 

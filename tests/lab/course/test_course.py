@@ -5,8 +5,8 @@ import pathlib
 import stat
 from typing import Dict, List
 
-from arena_lab.course import course
-from arena_lab.course.course import course_of
+from arena_lab.course import course_files
+from arena_lab.course.course_files import course_of
 from arena_lab.rules import draws, networks
 from arena_lab.sandbox.sandboxes import Isolation
 from arena_lab.support.fields import FileFormatError
@@ -133,16 +133,16 @@ class Files(Folder):
         with self.assertRaisesRegex(
             FileFormatError, "course.toml: there is no such file"
         ):
-            course.read_course(path, SECRET)
+            course_files.read_course(path, SECRET)
         path.write_bytes(b"\xff")
         with self.assertRaisesRegex(FileFormatError, "it is no text in UTF-8"):
-            course.read_course(path, SECRET)
+            course_files.read_course(path, SECRET)
         (self.folder / "net.toml").write_text("nodes = 3\n")
         path.write_text(HEAD.replace("ring:4", "net.toml") + TEAM)
         with self.assertRaisesRegex(
             FileFormatError, "networks has net.toml, which is no network file"
         ):
-            course.read_course(path, SECRET)
+            course_files.read_course(path, SECRET)
 
     def test_results_and_a_course_where_programs_look(self) -> None:
         """Results that programs can read show them the black holes and other teams'
@@ -152,11 +152,13 @@ class Files(Folder):
             with self.subTest(path), self.assertRaisesRegex(
                 FileFormatError, "teams' programs see .*: name a folder else"
             ):
-                course.check_walls(
+                course_files.check_walls(
                     Isolation.ALL, [pathlib.Path("/srv"), pathlib.Path(path)], tools
                 )
-        course.check_walls(Isolation.ALL, [self.folder], [])
-        course.check_walls(Isolation.NONE, [pathlib.Path("/usr/share/course")], tools)
+        course_files.check_walls(Isolation.ALL, [self.folder], [])
+        course_files.check_walls(
+            Isolation.NONE, [pathlib.Path("/usr/share/course")], tools
+        )
 
     def test_limits_grow_with_the_matches(self) -> None:
         self.assertEqual(self.course().terms.limits, (20, 60, 600, 8, 256))
@@ -268,24 +270,27 @@ class Secrets(Folder):
     def test_it_is_kept_where_the_teacher_alone_reads_it(self) -> None:
         out = self.folder / "out"
         second = self.folder / "other"
-        secret = course.secret_in(out, None)
-        self.assertEqual(stat.S_IMODE((out / course.SECRET).stat().st_mode), 0o600)
-        self.assertEqual(course.secret_in(out, None), secret)
-        self.assertNotEqual(course.secret_in(second, None), secret)
+        secret = course_files.secret_in(out, None)
         self.assertEqual(
-            course.secret_in(self.folder / "again", out / course.SECRET), secret
+            stat.S_IMODE((out / course_files.SECRET).stat().st_mode), 0o600
+        )
+        self.assertEqual(course_files.secret_in(out, None), secret)
+        self.assertNotEqual(course_files.secret_in(second, None), secret)
+        self.assertEqual(
+            course_files.secret_in(self.folder / "again", out / course_files.SECRET),
+            secret,
         )
         with self.assertRaisesRegex(FileFormatError, "is another secret than"):
-            course.secret_in(second, out / course.SECRET)
+            course_files.secret_in(second, out / course_files.SECRET)
         (self.folder / "short").write_text("guess me\n")
         with self.assertRaisesRegex(FileFormatError, "at least 16 characters"):
-            course.secret_in(self.folder / "new", self.folder / "short")
+            course_files.secret_in(self.folder / "new", self.folder / "short")
 
     def test_it_is_another_once_a_team_has_handed_in_something_else(self) -> None:
         """So who was shown the places of an earlier grading cannot use them. New teams
         change nothing."""
         first = self.folder / "first"
-        secret = course.secret_in(first, None)
+        secret = course_files.secret_in(first, None)
         digests = {"team a": "1", "team b": "2"}
         tables.write_record(first, {"files": {**digests, "net.toml": "3"}})
         for name, handed_in, is_same in (
@@ -295,8 +300,8 @@ class Secrets(Folder):
             ("other", {**digests, "team b": "5"}, False),
         ):
             with contextlib.redirect_stderr(io.StringIO()) as stream:
-                result = course.secret_in(
-                    self.folder / name, first / course.SECRET, handed_in
+                result = course_files.secret_in(
+                    self.folder / name, first / course_files.SECRET, handed_in
                 )
             self.assertEqual(result == secret, is_same, name)
             self.assertEqual(

@@ -10,7 +10,7 @@ import xml.etree.ElementTree as ElementTree
 from typing import Any, Dict, List
 
 from arena_lab.course import export, league
-from arena_lab.course.course import course_of
+from arena_lab.course.course_files import course_of
 from arena_lab.course.export import Export, Marks, Student, export_of, students_in
 from arena_lab.course.points import Points, marks, text
 from arena_lab.support.fields import FileFormatError

@@ -3,10 +3,10 @@ such marks themselves, too."""
 import tarfile
 import unittest
 
-from arena_lab.course import sent_lines
+from arena_lab.course import sender_marks
 from arena_lab.course.hand_in import HandIn, HandInEntry
 from arena_lab.course.mistaken_lines import place_in
-from arena_lab.course.sent_lines import NOWHERE, SentBy
+from arena_lab.course.sender_marks import NOWHERE, SentBy
 from arena_lab.play.agent_files import AGENTS
 
 TRACEBACK = """Traceback (most recent call last):
@@ -32,13 +32,13 @@ def of(**texts: str) -> HandIn:
 class SentLines(unittest.TestCase):
     def test_marks_are_parted_from_what_the_program_wrote(self) -> None:
         text = "\x1e1 a.py:3\nmine\n\\x1e2 b.py:4\n\x1e3 ../x:1\n\x1e4 a.py\n\x1ex"
-        writing, places = sent_lines.split_errors({1: text, 0: ""})
+        writing, places = sender_marks.split_errors({1: text, 0: ""})
         rest = "mine\n\x1e3 ../x:1\n\x1e4 a.py\n\x1ex"
         self.assertEqual(writing, {0: "", 1: rest})
         self.assertEqual(places, {0: [], 1: [SentBy("a.py", 3), SentBy("b.py", 4)]})
 
     def test_events_keep_their_lines_if_the_first_marks_were_cut(self) -> None:
-        _, places = sent_lines.split_errors({0: "\x1e2 a.py:5\n"})
+        _, places = sender_marks.split_errors({0: "\x1e2 a.py:5\n"})
         log = [
             {"do": "enter", "agent": 0},
             {"do": "depart", "agent": 0},
@@ -47,23 +47,23 @@ class SentLines(unittest.TestCase):
             {"do": "look", "agent": 0},
             {"do": "close"},
         ]
-        result = sent_lines.along(log, places)
+        result = sender_marks.along(log, places)
         rest = [NOWHERE] * 4
         self.assertEqual(result, [NOWHERE, SentBy("a.py", 5), *rest])
 
     def test_forged_numbers_take_no_memory(self) -> None:
-        _, places = sent_lines.split_errors({0: "\x1e99999 a.py:1\n"})
+        _, places = sender_marks.split_errors({0: "\x1e99999 a.py:1\n"})
         self.assertEqual(len(places[0]), 99_999)
-        _, places = sent_lines.split_errors({0: "\x1e9999999999 a.py:1\n"})
+        _, places = sender_marks.split_errors({0: "\x1e9999999999 a.py:1\n"})
         self.assertEqual(places[0], [])
 
     def test_a_client_that_is_not_the_kits_is_left_as_it_is(self) -> None:
         for name in ("client_py", "client_js", "client_h", "client_c", "client_hpp"):
             conditions = of(**{name: "mine", "agent_py": "x"})
-            self.assertEqual(sent_lines.mark_program(conditions, 4), conditions)
+            self.assertEqual(sender_marks.mark_program(conditions, 4), conditions)
         client = (AGENTS / "client.py").read_text()
         kit = of(client_py=client, agent_py="SILENT")
-        hand_in = sent_lines.mark_program(kit, 4)
+        hand_in = sender_marks.mark_program(kit, 4)
         self.assertIn(
             b"dump_traceback_later(4)", hand_in.content_of("client.py") or b""
         )

@@ -14,11 +14,11 @@ from typing import Any, Dict
 from unittest import mock
 
 from arena_lab.commands import hall
-from arena_lab.course.checked import conditions_of
-from arena_lab.hall import backup, conditions, serving
-from arena_lab.hall.attempts.draws import TOURNAMENT, draw_match, write
+from arena_lab.course.check_jobs import conditions_of
+from arena_lab.hall import backup, grading_terms, serving
+from arena_lab.hall.attempts.match_draws import TOURNAMENT, draw_match, write
 from arena_lab.hall.attempts.seen import Part, match_end
-from arena_lab.hall.course import DRAWN, FIXED, Net, HallError, hall_of, read_hall
+from arena_lab.hall.hall_files import DRAWN, FIXED, Net, HallError, hall_of, read_hall
 from arena_lab.hall.place import HallFolder
 from arena_lab.hall.standings.rules import GradedTeam, league
 from arena_lab.play.teams import AgentWords
@@ -82,11 +82,11 @@ class Courses(unittest.TestCase):
         text = COURSE + HAND_INS.replace('["ring:5"]', '["ring:6", "hypercube:3"]')
         hall = self.read_hall(text + 'deadline = "2099-01-01 12:00"\n' + own)
         names = hall.hand_ins.networks if hall.hand_ins else {}
-        plain = conditions.text_of(hall, names)
+        plain = grading_terms.text_of(hall, names)
         self.assertNotIn("[conditions", plain)
         own += 'agents = "degree"\nquota = 200\nboard = 64\nlabels = "fixed"\n'
         hall = self.read_hall(text + 'deadline = "2099-01-01 12:00"\n' + own)
-        result = conditions.for_teams(hall, {**names, "/net.toml": "net"})
+        result = grading_terms.for_teams(hall, {**names, "/net.toml": "net"})
         self.assertIn("# net is a file: ask your teacher for it\n", result)
         conditions_used = conditions_of(
             table_of(result), pathlib.Path(), AgentWords("agent", "agent.py")
@@ -106,12 +106,16 @@ class Courses(unittest.TestCase):
         self.assertGreater(len(homes), 1)
         # what [hand_ins] says of agents and of packages is for all networks
         output = text + "agents = 3\n" + 'deadline = "2099-01-01 12:00"\n' + own
-        self.assertIn("agents = 3\n", conditions.text_of(self.read_hall(output), names))
+        self.assertIn(
+            "agents = 3\n", grading_terms.text_of(self.read_hall(output), names)
+        )
         self.assertEqual(
-            conditions.text_of(self.read_hall(output), names).count("agents ="), 1
+            grading_terms.text_of(self.read_hall(output), names).count("agents ="), 1
         )
         packed_value = self.read_hall(text + 'packages = ["gcc"]\n' + own)
-        self.assertIn('packages = ["gcc"]\n', conditions.text_of(packed_value, names))
+        self.assertIn(
+            'packages = ["gcc"]\n', grading_terms.text_of(packed_value, names)
+        )
 
     def test_kits_that_nobody_writes_in_the_browser_are_refused(self) -> None:
         self.assertIsNone(self.read_hall(COURSE).editor)

@@ -7,7 +7,7 @@ import tarfile
 import tempfile
 import unittest
 
-from arena_lab.hall.course import HallError
+from arena_lab.hall.hall_files import HallError
 from arena_lab.hall.manifests import (
     MANIFEST,
     hash_while_adding,

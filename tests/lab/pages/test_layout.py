@@ -3,7 +3,7 @@ import math
 import random
 import unittest
 
-from arena_lab.pages.page import SCALE, laid_out, ring_of
+from arena_lab.pages.match_page import SCALE, laid_out, ring_of
 from arena_lab.rules.networks import network_named
 
 

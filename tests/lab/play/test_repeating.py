@@ -1,10 +1,10 @@
-"""Agents that are repeated alone (arena_lab/play/repeating.py)."""
+"""Agents that are repeated alone (arena_lab/play/repetitions.py)."""
 import unittest
 from typing import Any, List, Optional
 
 from arena_lab.play.players import SLEEPS, TRAVELS, WAITS
 from arena_lab.rules.draws import seed_of
-from arena_lab.play.repeating import (
+from arena_lab.play.repetitions import (
     Alone,
     Otherwise,
     PastCommand,

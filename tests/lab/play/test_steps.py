@@ -5,7 +5,7 @@ import unittest
 from typing import Any
 
 from arena_lab.play.agent_files import AgentError, function_of
-from arena_lab.play.steps import (
+from arena_lab.play.step_agents import (
     NotPlainError,
     check,
     fresh,

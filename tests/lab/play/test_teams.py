@@ -3,7 +3,7 @@ import unittest
 from typing import List, Optional, Tuple
 
 from arena_lab.pages.screen import WatchedMatch, standings, teams
-from arena_lab.pages.teams import MatchOutcome, networks_of, rank_teams
+from arena_lab.pages.ranked_teams import MatchOutcome, networks_of, rank_teams
 from arena_lab.rules.model import Match, Setup, Verdict
 from arena_lab.rules.networks import ring
 

@@ -8,7 +8,7 @@ from unittest import mock
 from arena_lab.__main__ import parser
 from arena_lab.commands import explore
 from arena_lab.search import capacity
-from arena_lab.search.explore import MAX_STATES
+from arena_lab.search.model_search import MAX_STATES
 from arena_lab.support import memory
 
 

@@ -20,7 +20,7 @@ from typing import (
 from arena_lab.course.conditions import Conditions, CourseDraws, conditions_in
 from arena_lab.course.points import Points, points_in
 from arena_lab.play.agent_files import digests
-from arena_lab.play.grounds import HOST
+from arena_lab.play.runners import HOST
 from arena_lab.play.teams import OUTSIDE, agent_named
 from arena_lab.play.wasm_modules import is_module
 from arena_lab.rules import networks

@@ -1,5 +1,6 @@
-"""Starts a program in its sandbox (arena_lab/sandbox/sandboxes.py): `python3 start.py
-CHANNEL FILES PORT SEED WORD ..`
+"""Starts a program in its sandbox (arena_lab/sandbox/sandboxes.py):
+
+    python3 program_start.py CHANNEL FILES PORT SEED WORD ..
 
 Unpacks the team's files, a tar archive that stands open as FILES, into its folder;
 opens the port to which the program will connect, and sends it over the channel, which

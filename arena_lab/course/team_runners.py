@@ -5,7 +5,7 @@ import tempfile
 from typing import Dict, Iterator, Sequence
 
 from arena_lab.course.hand_in import NETWORK, HandIn
-from arena_lab.play.grounds import Ground, LocalRunner, Nowhere
+from arena_lab.play.runners import Ground, LocalRunner, Nowhere
 from arena_lab.play.wasm_modules import file_in, is_module
 from arena_lab.rules import networks
 from arena_lab.rules.model import Setup

@@ -6,7 +6,7 @@ import pathlib
 import secrets
 from typing import Any, Dict, NamedTuple, Optional
 
-from arena_lab.hall.course import DRAWN, Net
+from arena_lab.hall.hall_files import DRAWN, Net
 from arena_lab.hall.place import write_whole
 from arena_lab.rules import draws, networks
 from arena_lab.rules.delays import ODDS, SCALES, Delays

@@ -6,7 +6,7 @@ from typing import Any, FrozenSet, NamedTuple, Optional
 from arena_lab.play.teams import INSIDE, Matches
 from arena_lab.rules.engines import EnginesDifferError
 from arena_lab.rules.fixtures import Fixture
-from arena_lab.search.explore import ExploredMatch, explore_match
+from arena_lab.search.model_search import ExploredMatch, explore_match
 from arena_lab.search.findings import FAILED, SOLVED, Comes, Finding, Solves
 from arena_lab.search.sampled_runs import follow
 from arena_lab.search.machines import Machines

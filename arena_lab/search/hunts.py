@@ -12,7 +12,7 @@ from typing import Any, Callable, List, NamedTuple, Optional, Sequence, Tuple
 
 from arena_lab.play import teams
 from arena_lab.play.matches import PlayedMatch, play
-from arena_lab.play.repeating import with_repeats
+from arena_lab.play.repetitions import with_repeats
 from arena_lab.play.schedulers import Scheduler, fair, in_runs
 from arena_lab.play.schedules import Schedule, schedule_of
 from arena_lab.play.teams import Game

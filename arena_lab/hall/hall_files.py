@@ -6,7 +6,7 @@ import re
 import zoneinfo
 from typing import Any, Dict, List, NamedTuple, Optional, Sequence, Tuple, Union
 
-from arena_lab.course.course import check_command
+from arena_lab.course.course_files import check_command
 from arena_lab.hall.sign_on.rules import SignOnRules, sign_on_of
 from arena_lab.play.wasm_modules import file_in, is_module
 from arena_lab.rules import networks

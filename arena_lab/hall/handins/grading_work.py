@@ -18,13 +18,13 @@ from django.conf import settings
 from django.db import transaction
 from django.utils import timezone
 
-from arena_lab.hall import conditions, machine, packing
+from arena_lab.hall import grading_terms, machine, packing
 from arena_lab.hall.attempts.asking import bytes_of, own_bytes
 from arena_lab.hall.children import LOG, child_of, last_line
 from arena_lab.hall.handins.models import Grading
 from arena_lab.hall.handins.windows import window_of
 from arena_lab.hall.place import SECRET, write_whole
-from arena_lab.hall.steps import Lease, Stages, WorkLostError, do_in_folder, step
+from arena_lab.hall.work_steps import Lease, Stages, WorkLostError, do_in_folder, step
 from arena_lab.support.faults import ArenaError
 
 # for how long it is known how long a team's programs took
@@ -62,14 +62,11 @@ def prepare(work: Grading, folder: pathlib.Path) -> None:
     # what decides in the end has all the room that a course gives it
     megabytes_left = max(MIN_SPACE, bytes_of(team) - own_bytes(team) >> 20)
     extra_limits = {} if work.is_secret else {"team_space": megabytes_left}
-    team_table = {
-        "name": team.name,
-        "files": [FILES],
-        "command": rules.command,
-    }
-    text = conditions.text_of(settings.HALL, names, extra_limits)
-    text += "\n[[team]]\n" + conditions.rows_in(team_table)
-    write_whole(folder / COURSE, text)
+    text = grading_terms.text_of(settings.HALL, names, extra_limits)
+    team_rows = grading_terms.rows_in(
+        {"name": team.name, "files": [FILES], "command": rules.command}
+    )
+    write_whole(folder / COURSE, f"{text}\n[[team]]\n{team_rows}")
     write_whole(
         folder / SECRET, hashlib.sha256(drawn_from(work).encode()).hexdigest() + "\n"
     )

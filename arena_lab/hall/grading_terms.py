@@ -2,7 +2,7 @@
 text, and teams check their programs by it (`arena-lab check --for`)."""
 from typing import Any, Dict, Mapping
 
-from arena_lab.hall.course import DRAWN, Hall
+from arena_lab.hall.hall_files import DRAWN, Hall
 from arena_lab.rules import draws
 from arena_lab.rules.fixtures import toml_of
 from arena_lab.rules.limits import SMALL_BOARD, SMALL_QUOTA

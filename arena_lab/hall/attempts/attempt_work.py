@@ -16,11 +16,11 @@ from django.conf import settings
 from django.db import transaction
 
 from arena_lab.hall import machine, packing
-from arena_lab.hall.attempts import draws, servers
+from arena_lab.hall.attempts import match_draws, servers
 from arena_lab.hall.attempts.models import ABSENT, CUT, Attempt, Match, Pages
 from arena_lab.hall.attempts.servers import Server, Times
-from arena_lab.hall.steps import Lease, WorkLostError, begin_work, step
-from arena_lab.pages import page
+from arena_lab.hall.work_steps import Lease, WorkLostError, begin_work, step
+from arena_lab.pages import match_page
 from arena_lab.rules.engines import program_verdict
 from arena_lab.support.faults import ArenaError
 
@@ -58,9 +58,9 @@ class Playing:
         if not any(match.replay.exists() for match in self._attempt.matches.all()):
             # of an earlier run, which came to nothing
             shutil.rmtree(self._attempt.folder, ignore_errors=True)
-            draw = draws.draw_match(self._net, self._attempt.team.name)
+            draw = match_draws.draw_match(self._net, self._attempt.team.name)
             hall = settings.HALL
-            draws.write(draw, self._folder)
+            match_draws.write(draw, self._folder)
             server = servers.start(
                 settings.PLACE.program,
                 self._folder,
@@ -73,7 +73,7 @@ class Playing:
                 server.kill()
         self._finish()
 
-    def _told(self, draw: draws.Draw, server: Server) -> Match:
+    def _told(self, draw: match_draws.Draw, server: Server) -> Match:
         """Notes where the server listens, so that the team may begin."""
         facts = {
             "run": self._attempt.runs,
@@ -148,7 +148,7 @@ def make_pages(number: int, holder: str) -> None:
         for match in work.attempt.matches.all() if work else ():
             if match.replay.exists():
                 title = f"{work.attempt.network}, {work.attempt_id}.{match.number}"
-                page.write_page(
+                match_page.write_page(
                     settings.PLACE.program, match.replay, match.page, None, title
                 )
         if work:

@@ -5,7 +5,7 @@ import random
 import sys
 from typing import Dict, List, Set
 
-from arena_lab.course import course, intake, rounds
+from arena_lab.course import course_files, intake, rounds
 from arena_lab.course.conditions import CourseDraws
 from arena_lab.course.grading import not_counted_in
 from arena_lab.course.rounds import Repeating, SolvedMatch
@@ -25,8 +25,8 @@ def repeat_graded(out: pathlib.Path, workers: int, forgets: bool) -> int:
             sum(row["team"] == team for row in rows)
             for team in {row["team"] for row in rows}
         ]
-        terms = course.terms_of(text, max(counts, default=0))
-        draws = CourseDraws(grid.text_in(out / course.SECRET).strip())
+        terms = course_files.terms_of(text, max(counts, default=0))
+        draws = CourseDraws(grid.text_in(out / course_files.SECRET).strip())
         if strongest is not Isolation.ALL:
             print(
                 f"arena-lab: {sandboxes.weakness()}; {strongest.value}", file=sys.stderr
@@ -54,6 +54,7 @@ def report_repetitions(
             f"{name}: {sum(number not in differences for number in numbers)} of {len(numbers)} solved matches repeat"
         )
     for number, difference in sorted(differences.items()):
-        also = " (as when the course was graded)" if number in before else ""
-        print(f"match {number}{also}: {difference}")
+        print(
+            f"match {number}{' (as when the course was graded)' * (number in before)}: {difference}"
+        )
     return 1 if set(differences) - before else 0

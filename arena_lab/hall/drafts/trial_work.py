@@ -21,16 +21,16 @@ from arena_lab.course.trial_files import (
     PAGE,
     PLAY,
 )
-from arena_lab.hall import conditions, machine, packing
+from arena_lab.hall import grading_terms, machine, packing
 from arena_lab.hall.attempts.asking import RequestRefusedError
 from arena_lab.hall.children import last_line
 from arena_lab.hall.drafts import writing
 from arena_lab.hall.drafts.forking import trial_in
-from arena_lab.hall.drafts.kits import WrittenKit, exercise_of, kit_of
+from arena_lab.hall.drafts.written_kits import WrittenKit, exercise_of, kit_of
 from arena_lab.hall.drafts.models import Draft, Trial
 from arena_lab.hall.handins.windows import window_of
 from arena_lab.hall.place import OWNER, write_whole
-from arena_lab.hall.steps import Lease, Stages, WorkLostError, do_in_folder, step
+from arena_lab.hall.work_steps import Lease, Stages, WorkLostError, do_in_folder, step
 from arena_lab.hall.teams.models import Team
 from arena_lab.rules import draws
 from arena_lab.sandbox import sandboxes
@@ -110,7 +110,7 @@ def conditions_of(work: Trial, kit: WrittenKit) -> Dict[str, Any]:
     that can be handed in uses the conditions of grading."""
     window = window_of(None)
     if work.kind == CHECK and kit.is_handed_in and window is not None:
-        return fields.table_of(conditions.text_of(settings.HALL, window.public, {}))
+        return fields.table_of(grading_terms.text_of(settings.HALL, window.public, {}))
     if work.kind == CHECK:
         return {**DEFAULT_CONDITIONS, "networks": RINGS}
     if work.kind == EXPLORE:
