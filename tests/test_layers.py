@@ -22,6 +22,7 @@ PACKAGES = (
     "search",
     "sweep",
     "sandbox",
+    "submissions",
     "course",
     "hall",
     "api",
@@ -200,7 +201,7 @@ class Packages(unittest.TestCase):
         # a package's own file says what it is for, and imports nothing
         self.graph = {
             name: set(imports_of(path.read_text(encoding="utf-8"), set(paths)))
-            - set(PACKAGES[:8])
+            - set(PACKAGES[: PACKAGES.index("hall")])
             for name, path in paths.items()
         }
 

@@ -5,12 +5,13 @@ import random
 import sys
 from typing import Dict, List, Set
 
-from arena_lab.course import course_files, intake, rounds
+from arena_lab.course import course_files, rounds
 from arena_lab.course.conditions import CourseDraws
 from arena_lab.course.grading import not_counted_in
 from arena_lab.course.rounds import Repeating, SolvedMatch
 from arena_lab.sandbox import sandboxes
 from arena_lab.sandbox.sandboxes import Isolation, SandboxOptions
+from arena_lab.submissions import store
 from arena_lab.sweep import grid, tables
 
 
@@ -18,7 +19,7 @@ def repeat_graded(out: pathlib.Path, workers: int, forgets: bool) -> int:
     """Repeats the course whose results a folder has; gives the exit status."""
     strongest = sandboxes.strongest()
     with tables.alone_in(out, is_there=True):
-        text = grid.text_in(out / intake.COURSE)
+        text = grid.text_in(out / store.COURSE)
         rows = tables.rows_in(out / tables.RUNS)
         matches = rounds.solved_in(rows)
         counts = [

@@ -4,12 +4,9 @@ import pathlib
 import time
 from typing import Dict, List, NamedTuple, Optional, Sequence, Tuple
 
-from arena_lab.course import course_files, intake, league, rounds
+from arena_lab.course import course_files, league, rounds
 from arena_lab.course.conditions import Conditions
 from arena_lab.course.course_files import CourseFile
-from arena_lab.course.team_runners import grounds_of
-from arena_lab.course.hand_in import HandIn
-from arena_lab.course.intake import HandInRecord
 from arena_lab.course.export import Export
 from arena_lab.course.pool import TimedResult
 from arena_lab.course.rounds import OF_ALL, Repeating, in_a_line
@@ -22,6 +19,10 @@ from arena_lab.play.summaries import Summary
 from arena_lab.rules.model import SOLVED, Verdict
 from arena_lab.sandbox import sandboxes
 from arena_lab.sandbox.sandboxes import SandboxOptions
+from arena_lab.submissions import store
+from arena_lab.submissions.store import SubmissionRecord
+from arena_lab.submissions.submission import Submission
+from arena_lab.submissions.team_runners import grounds_of
 from arena_lab.sweep import sweeping, tables
 from arena_lab.sweep.grid import Case
 
@@ -135,16 +136,16 @@ class GradingRun(NamedTuple):
         """Returns the path of a solved match's replay."""
         return rounds.replay_of(self.out, case.team.name, case.number)
 
-    def hand_in(self, team: str) -> HandIn:
+    def submission(self, team: str) -> Submission:
         """Returns the hand-in of a team, which is read once."""
         self._take(team)
-        return intake.hand_in_of(self.out, team)
+        return store.stored_submission(self.out, team)
 
-    def _take(self, team: str) -> HandInRecord:
+    def _take(self, team: str) -> SubmissionRecord:
         """Reads a team's hand-in, or its stored record."""
         return (
-            intake.record_of(self.out, team)
-            if intake.is_kept(self.out, team)
+            store.record_of(self.out, team)
+            if store.is_kept(self.out, team)
             else taken_anew(self.out, self.course, team)
         )
 
@@ -155,23 +156,24 @@ class GradingRun(NamedTuple):
         fixture = self.conditions.fixture(case)
         limits = self.course.terms.limits
         agents = [case.team.words] * fixture.setup.agents
-        files = self._take(case.team.name).files
-        origin = f"{case.scheduler} {self.conditions.seed(case)} on {case.network}"
-        empty = schedule_of(fixture, agents, origin, [], limits.line)._replace(
-            files=files
-        )
+        empty = schedule_of(
+            fixture,
+            agents,
+            f"{case.scheduler} {self.conditions.seed(case)} on {case.network}",
+            [],
+            limits.line,
+        )._replace(files=self._take(case.team.name).files)
         words = case.team.words.words
-        handed_in = self.hand_in(case.team.name)
+        submission = self.submission(case.team.name)
         with grounds_of(
-            self.sandbox, handed_in, words, fixture.setup, len(agents)
+            self.sandbox, submission, words, fixture.setup, len(agents)
         ) as grounds:
-            commands = {number: agent.words for number, agent in enumerate(agents)}
             line = (
                 max(1, limits.line // HURRY_FACTOR) if self.is_hurried else limits.line
             )
             team = programs.Team(
                 fixture,
-                commands,
+                {number: agent.words for number, agent in enumerate(agents)},
                 line,
                 dict(enumerate(grounds)),
                 limits.match,
@@ -215,9 +217,11 @@ def unplayed_row(course: CourseFile, case: Case, fault: str) -> List[str]:
     )
 
 
-def taken_anew(out: pathlib.Path, course: CourseFile, team: str) -> HandInRecord:
+def taken_anew(out: pathlib.Path, course: CourseFile, team: str) -> SubmissionRecord:
     """Reads what a team hands in now, and keeps it in a folder."""
     words = next(
         team_row.words.words for team_row in course.grid.teams if team_row.name == team
     )
-    return intake.take(out, team, course.files[team], course.conditions.folder, words)
+    return store.store_submission(
+        out, team, course.files[team], course.conditions.folder, words
+    )

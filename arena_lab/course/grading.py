@@ -10,7 +10,7 @@ import sys
 import tempfile
 from typing import Dict, Iterator, List, Sequence, Set, Tuple
 
-from arena_lab.course import intake, league, rounds
+from arena_lab.course import league, rounds
 from arena_lab.course.course_files import CourseFile
 from arena_lab.course.cutting import cut_down
 from arena_lab.course.export import Marks
@@ -29,6 +29,7 @@ from arena_lab.play.parallel import Result
 from arena_lab.rules.engines import name_of
 from arena_lab.sandbox import sandboxes, isolation
 from arena_lab.sandbox.sandboxes import Isolation
+from arena_lab.submissions import store
 from arena_lab.support.missing import MissingPackageError
 from arena_lab.sweep import report, sweeping, tables
 from arena_lab.sweep.grid import Case
@@ -48,7 +49,7 @@ def graded_in(grading: GradingRun, workers: int, digests: Dict[str, str]) -> int
         "files": {**grading.course.digests(), **digests},
     }
     done_count = tables.prepare_table(grading.out, record)
-    (grading.out / intake.COURSE).write_text(grading.text, encoding="utf-8")
+    (grading.out / store.COURSE).write_text(grading.text, encoding="utf-8")
     cases = grading.course.cases()
     commands = [team.words.words for team in grading.course.grid.teams]
     try:
@@ -80,10 +81,10 @@ def tell_changes(before: Dict[str, str], now: Dict[str, str]) -> None:
     """Says which teams have changed their files while the course was graded."""
     for name, digest in before.items():
         if now[name] != digest:
-            team = name[len(intake.TEAM) :]
+            team = name[len(store.TEAM) :]
             print(
                 f"arena-lab: team {team} has changed its files since they were read; what was graded is "
-                f"{intake.HAND_INS}/{team}.tar",
+                f"{store.HAND_INS}/{team}.tar",
                 file=sys.stderr,
             )
 
@@ -106,14 +107,14 @@ def hand_ins(out: pathlib.Path, course: CourseFile) -> Dict[str, str]:
     is_first = not (out / tables.RECORD_FILE).exists()
 
     def digest(name: str) -> str:
-        if is_first or not intake.is_kept(out, name):
+        if is_first or not store.is_kept(out, name):
             return taken_anew(out, course, name).digest
         with tempfile.TemporaryDirectory() as again:
             return taken_anew(pathlib.Path(again), course, name).digest
 
     with concurrent.futures.ThreadPoolExecutor() as readers:
         return {
-            intake.TEAM + name: record
+            store.TEAM + name: record
             for name, record in zip(course.files, readers.map(digest, course.files))
         }
 

@@ -4,9 +4,9 @@ import re
 from typing import Any, Dict, Iterator, List, NamedTuple, Optional, Sequence, Tuple
 
 from arena_lab.course import sender_marks
-from arena_lab.course.hand_in import HandIn
 from arena_lab.course.sender_marks import SentBy
 from arena_lab.play.games import Record
+from arena_lab.submissions.submission import Submission
 
 # a place in a file, as Python, Node.js, Java, gcc, rustc and Go write it
 PLACE_PATTERN = re.compile(
@@ -33,12 +33,12 @@ def marks_of(
     record: Record,
     errors: Dict[int, str],
     places: Dict[int, List[SentBy]],
-    handed_in: HandIn,
+    submission: Submission,
 ) -> List[Dict[str, Any]]:
     """The marks of a match, each of several that say the same of a line once."""
     senders = sender_marks.along(record.match.match.log, places)
     line_marks = [
-        *of_faults(record.match.faults, errors, places, handed_in),
+        *of_faults(record.match.faults, errors, places, submission),
         *of_events(record, senders),
     ]
     unlike: Dict[Tuple[str, int, str], LineMark] = {}
@@ -52,13 +52,13 @@ def of_faults(
     faults: Sequence[str],
     errors: Dict[int, str],
     places: Dict[int, List[SentBy]],
-    handed_in: HandIn,
+    submission: Submission,
 ) -> Iterator[LineMark]:
     """Yields marks where programs crashed or hung: at the place that the error names,
     else at the line that sent last."""
     for fault in faults:
         agent = agent_of(fault)
-        error_place = place_in(errors.get(agent, ""), handed_in)
+        error_place = place_in(errors.get(agent, ""), submission)
         last = places.get(agent, [])[-1:]
         if error_place:
             yield LineMark(*error_place, fault, agent)
@@ -108,13 +108,13 @@ def agent_of(fault: str) -> int:
     return int(match[1]) if match else -1
 
 
-def place_in(text: str, handed_in: HandIn) -> Optional[Tuple[str, int]]:
+def place_in(text: str, submission: Submission) -> Optional[Tuple[str, int]]:
     """The place in the program's own files that an error names: of Python's frames the
     last, else the first; and in files of the kit's client only if there is no other."""
     places = [
         (match[1], int(match[2]))
         for match in PLACE_PATTERN.finditer(text)
-        if handed_in.content_of(match[1]) is not None
+        if submission.content_of(match[1]) is not None
     ]
     own_places = [
         file_place

@@ -12,21 +12,22 @@ import random
 import time
 from typing import Dict, Iterator, List, NamedTuple, Sequence, Tuple
 
-from arena_lab.course import intake, league
+from arena_lab.course import league
 from arena_lab.course.conditions import CourseDraws
 from arena_lab.course.course_files import ProgramLimits, terms_of
-from arena_lab.course.team_runners import grounds_of
 from arena_lab.course.pool import Budget, LimitedJob, TimedResult, in_time
 from arena_lab.play import mistakes, programs, repetitions
 from arena_lab.play.agent_files import AgentError
-from arena_lab.play.schedulers import ImpossibleError
 from arena_lab.play.parallel import Result
+from arena_lab.play.schedulers import ImpossibleError
 from arena_lab.rules.fixtures import Fixture
 from arena_lab.rules.model import begin_match, objects_of
 from arena_lab.sandbox import kernel_traces
-from arena_lab.sandbox.sandboxes import SandboxOptions
 from arena_lab.sandbox.isolation import CellError
+from arena_lab.sandbox.sandboxes import SandboxOptions
 from arena_lab.sandbox.users import UserError
+from arena_lab.submissions import store
+from arena_lab.submissions.team_runners import grounds_of
 from arena_lab.support.built import ProgramError
 from arena_lab.support.fields import FileFormatError
 from arena_lab.support.missing import MissingPackageError
@@ -105,8 +106,8 @@ class Repeating(NamedTuple):
         )
         again = repetitions.with_new_keys(fixture)
         words = terms_of(self.text, 0).commands[repetition.team]
-        handed_in = intake.hand_in_of(self.out, repetition.team)
-        with grounds_of(self.sandbox, handed_in, words, setup, 1) as grounds:
+        submission = store.stored_submission(self.out, repetition.team)
+        with grounds_of(self.sandbox, submission, words, setup, 1) as grounds:
             team = programs.Team(
                 again,
                 {repetition.agent: words},

@@ -7,8 +7,8 @@ itself; they say nothing but lines of its own files, which its team alone is sho
 import re
 from typing import Any, Dict, List, NamedTuple, Sequence, Tuple
 
-from arena_lab.course.hand_in import HandIn, HandInEntry
 from arena_lab.play.last_words import MARK
+from arena_lab.submissions.submission import Submission, SubmissionEntry
 
 # a mark: the number of the command, the file and the line
 MARK_PATTERN = re.compile(rf"(?:{MARK}|\\x1e)(\d{{1,5}}) ([\w.-]{{1,60}}):(\d{{1,6}})$")
@@ -122,55 +122,55 @@ class SentBy(NamedTuple):
 NOWHERE = SentBy("", 0)
 
 
-def mark_program(handed_in: HandIn, silent: float) -> HandIn:
+def mark_program(submission: Submission, silent: float) -> Submission:
     """The program with a client that marks what it sends, if it has a kit's client. A
     program in Python that sends nothing for so many seconds says where it is."""
     python = PYTHON.replace("SILENT", f"{silent:g}")
     texts = {
         name: text
         for name, text in (
-            ("client.py", behind(handed_in, "client.py", python, "class Lines")),
-            ("client.js", behind(handed_in, "client.js", JAVASCRIPT, "class Agent")),
-            ("client.h", in_header(handed_in)),
-            ("client.c", in_client(handed_in)),
-            ("client.hpp", in_class(handed_in)),
+            ("client.py", behind(submission, "client.py", python, "class Lines")),
+            ("client.js", behind(submission, "client.js", JAVASCRIPT, "class Agent")),
+            ("client.h", in_header(submission)),
+            ("client.c", in_client(submission)),
+            ("client.hpp", in_class(submission)),
         )
         if text
     }
-    return HandIn(
+    return Submission(
         {
-            name: HandInEntry(entry.kind, texts[name].encode(), entry.is_program)
+            name: SubmissionEntry(entry.kind, texts[name].encode(), entry.is_program)
             if name in texts
             else entry
-            for name, entry in handed_in.entries.items()
+            for name, entry in submission.entries.items()
         }
     )
 
 
-def text_of(handed_in: HandIn, name: str) -> str:
-    return (handed_in.content_of(name) or b"").decode(errors="replace")
+def text_of(submission: Submission, name: str) -> str:
+    return (submission.content_of(name) or b"").decode(errors="replace")
 
 
-def behind(handed_in: HandIn, name: str, extra: str, has: str) -> str:
+def behind(submission: Submission, name: str, extra: str, has: str) -> str:
     """Returns the client's text with extra lines appended, or "" if the client is not
     the kit's."""
-    text = text_of(handed_in, name)
+    text = text_of(submission, name)
     return text + extra if has in text else ""
 
 
-def in_header(handed_in: HandIn) -> str:
-    text = text_of(handed_in, "client.h")
+def in_header(submission: Submission) -> str:
+    text = text_of(submission, "client.h")
     before, ends, rest = text.rpartition(ENDS)
     return before + C + ends + rest if "agent_look" in text else ""
 
 
-def in_client(handed_in: HandIn) -> str:
-    text = text_of(handed_in, "client.c")
-    return C_BEFORE + text if in_header(handed_in) and text else ""
+def in_client(submission: Submission) -> str:
+    text = text_of(submission, "client.c")
+    return C_BEFORE + text if in_header(submission) and text else ""
 
 
-def in_class(handed_in: HandIn) -> str:
-    text = text_of(handed_in, "client.hpp")
+def in_class(submission: Submission) -> str:
+    text = text_of(submission, "client.hpp")
     for old, new in CPP_CHANGES:
         if text.count(old) != 1:
             return ""

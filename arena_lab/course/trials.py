@@ -30,11 +30,9 @@ import time
 import traceback
 from typing import Any, Dict, List, NamedTuple, NoReturn, Optional, Set
 
-from arena_lab.course import check_steps, exercises, hand_in, sender_marks
+from arena_lab.course import check_steps, exercises, sender_marks
 from arena_lab.course.answers import check_answer
 from arena_lab.course.check_jobs import CheckBudget, CheckJob, conditions_of, join_words
-from arena_lab.course.team_runners import files_of
-from arena_lab.course.hand_in import HandIn
 from arena_lab.course.mistaken_lines import LEAVES, marks_of
 from arena_lab.course.trial_files import (
     CHECK,
@@ -60,6 +58,8 @@ from arena_lab.sandbox import calls, isolation
 from arena_lab.sandbox.isolation import CellError
 from arena_lab.sandbox.own_sandboxes import OwnSandboxes
 from arena_lab.sandbox.sandboxes import MAX_PROCESSES, Isolation, SandboxOptions
+from arena_lab.submissions.submission import Submission, read_paths
+from arena_lab.submissions.team_runners import files_of
 from arena_lab.support.faults import ArenaError
 
 STEPS = {
@@ -115,20 +115,20 @@ class TriedProgram:
     def __init__(self, folder: pathlib.Path, request: TrialRequest) -> None:
         self.folder = folder
         self.asked = request
-        self.handed_in = hand_in.read_files([folder / FILES], folder)
+        self.submission = read_paths([folder / FILES], folder)
 
-    def agent(self, handed_in: HandIn) -> AgentWords:
+    def agent(self, submission: Submission) -> AgentWords:
         """An agent that runs these files in a sandbox."""
         words = self.asked.command
         options = SandboxOptions(
             Isolation[self.asked.isolation], processes=self.asked.processes
         )
-        files_in = functools.partial(files_of, handed_in, words)
+        files_in = functools.partial(files_of, submission, words)
         return AgentWords(OUTSIDE, words, ground=OwnSandboxes(options, files_in))
 
-    def mark_program(self) -> HandIn:
+    def mark_program(self) -> Submission:
         """The program with a client that says by which line it sends."""
-        return sender_marks.mark_program(self.handed_in, self.asked.line - BEFORE)
+        return sender_marks.mark_program(self.submission, self.asked.line - BEFORE)
 
     def check_job(self, agent: AgentWords) -> CheckJob:
         request = self.asked
@@ -190,7 +190,7 @@ class TriedProgram:
         return {
             "lines": lines,
             "written": outputs,
-            "marks": marks_of(record, outputs, places, self.handed_in),
+            "marks": marks_of(record, outputs, places, self.submission),
         }
 
     def checks(self) -> Dict[str, Any]:
@@ -198,7 +198,7 @@ class TriedProgram:
         lines: List[str] = []
         # a killed check would lose its results
         budget = CheckBudget(self.asked.seconds, self.asked.seconds, lines.append)
-        job = self.check_job(self.agent(self.handed_in))
+        job = self.check_job(self.agent(self.submission))
         with contextlib.redirect_stderr(io.StringIO()):
             right, wrong = check_steps.by_steps(job, STEPS[self.asked.kind], budget)
         if wrong is not None:

@@ -13,7 +13,6 @@ from django.utils.translation import gettext as _
 from arena_lab.hall import machine
 from arena_lab.hall.attempts.asking import RequestRefusedError, make_room
 from arena_lab.hall.attempts.shown import time_of
-from arena_lab.hall.handins import unpacking
 from arena_lab.hall.handins.grading_work import FILES, place_of
 from arena_lab.hall.handins.models import Contest, Grading, HandIn
 from arena_lab.hall.handins.windows import (
@@ -28,6 +27,8 @@ from arena_lab.hall.place import log_line
 from arena_lab.hall.teams.guards import Buckets
 from arena_lab.hall.teams.models import Team, note, today
 from arena_lab.play.mistakes import plain
+from arena_lab.submissions import uploads
+from arena_lab.submissions.submission import SubmissionError
 
 # how many of a team may wait to be graded, and how often a team may send something in a
 # minute, taken or not
@@ -55,12 +56,12 @@ def take(team: Team, name: str, file: Any, number: Optional[int] = None) -> Hand
     new = settings.PLACE.folder / "hand-ins" / f"{NEW}{secrets.token_hex(8)}"
     try:
         rules = settings.HALL.hand_ins
-        files = unpacking.unpack(
-            file.read(unpacking.MAX_SENT + 1), rules.file, new / FILES
+        files = uploads.unpack_upload(
+            file.read(uploads.MAX_SENT + 1), rules.file, new / FILES
         )
-        unpacking.check_program(new / FILES, rules.file, rules.command)
+        uploads.check_program(new / FILES, rules.file, rules.command)
         return keep_hand_in(team, plain(name)[:80], files, window, new)
-    except unpacking.HandInError as fault:
+    except SubmissionError as fault:
         raise RequestRefusedError(400, str(fault)) from None
     except OSError as fault:
         log_line(f"{new}: {fault}")
@@ -74,7 +75,7 @@ def take(team: Team, name: str, file: Any, number: Optional[int] = None) -> Hand
 def keep_hand_in(
     team: Team,
     name: str,
-    unpacked_files: unpacking.UnpackedFiles,
+    unpacked_files: uploads.UploadedFiles,
     window: Optional[Window],
     new: pathlib.Path,
 ) -> HandIn:
@@ -110,11 +111,10 @@ def check(team: Team, size: int, files: int, window: Optional[Window]) -> None:
     end = window.end_for(team)
     if end is not None and timezone.now() > end:
         raise RequestRefusedError(403, _("the deadline has passed"))
-    if size > unpacking.MAX_SENT:
+    if size > uploads.MAX_SENT:
         raise RequestRefusedError(
             413,
-            _("a hand-in has at most %(count)s MB")
-            % {"count": unpacking.MAX_SENT >> 20},
+            _("a hand-in has at most %(count)s MB") % {"count": uploads.MAX_SENT >> 20},
         )
     if window.contest is None and not left_today(team):
         raise RequestRefusedError(

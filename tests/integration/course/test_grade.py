@@ -11,20 +11,21 @@ from typing import Dict, Iterator, List
 from unittest import mock
 
 from arena_lab.__main__ import main
-from arena_lab.course import course_files, team_runners, league
+from arena_lab.course import course_files, league
 from arena_lab.course.graded_matches import GradingRun
-from arena_lab.course.hand_in import HandIn
 from arena_lab.play import schedulers
 from arena_lab.rules import engines
 from arena_lab.rules.engines import TOP
 from arena_lab.sandbox import sandboxes
 from arena_lab.sandbox.sandboxes import Sandbox, Isolation, ProgramFiles, SandboxOptions
+from arena_lab.submissions.submission import Submission
 from arena_lab.support import fields
 from arena_lab.sweep import tables
 from tests.support.courses import HEAD, HONEST, rows_of_teams, team
 from tests.support.matches import AGENTS, InFolder, program
 from tests.support.output import run_call
 from tests.support.processes import remaining
+from arena_lab.submissions import team_runners
 
 EXAMPLE = TOP / "examples" / "course" / "course.toml"
 # from which the league table of the page of the examples comes
@@ -418,7 +419,7 @@ class Spies(unittest.TestCase):
         shutil.copy(self.folder / "rich" / "plan.txt", self.folder)
         sandbox = Sandbox(
             SandboxOptions(Isolation.NONE),
-            ProgramFiles(HandIn({}).archive()),
+            ProgramFiles(Submission({}).archive()),
             None,
             self.folder,
         )

@@ -14,10 +14,10 @@ from unittest import mock
 from arena_lab.course import rounds
 from arena_lab.course.course_files import course_of
 from arena_lab.course.graded_matches import GradingRun
-from arena_lab.course.hand_in import HandIn
 from arena_lab.sandbox import calls, sandboxes, groups, memory_watch
-from arena_lab.sandbox.sandboxes import ProgramFiles, Isolation, SandboxOptions
 from arena_lab.sandbox.groups import ControlGroup
+from arena_lab.sandbox.sandboxes import ProgramFiles, Isolation, SandboxOptions
+from arena_lab.submissions.submission import Submission
 from arena_lab.support.built import TOP
 from arena_lab.sweep import tables
 
@@ -203,7 +203,7 @@ class TestPrograms(Fake):
             self.assertEqual(subprocess.run(words, capture_output=True).stdout, b"")
 
     def test_what_is_said_of_a_program_that_the_kernel_has_ended(self) -> None:
-        files = ProgramFiles(HandIn({}).archive(), {}, calls.ANY)
+        files = ProgramFiles(Submission({}).archive(), {}, calls.ANY)
         with mock.patch.object(
             memory_watch, "MAX_MEMORY", 200 << 20
         ), sandboxes.sandboxes_for(

@@ -9,14 +9,15 @@ from typing import Any, Dict, Tuple
 from unittest import mock
 
 from arena_lab.__main__ import main
-from arena_lab.course import intake, league
+from arena_lab.course import league
 from arena_lab.course.graded_matches import GradingRun
-from arena_lab.course.hand_in import HandIn
 from arena_lab.play import schedules
+from arena_lab.submissions.submission import Submission
 from tests.integration.course.attacked_course import EVIL, Course
 from tests.support.courses import HEAD, HONEST, grade_words, rows_of_teams, team
 from tests.support.matches import AGENTS
 from tests.support.output import run_call
+from arena_lab.submissions import store
 
 RING = "python3 ring.py {host} {port} {key} {nodes}"
 # of a program that is compiled where it runs, as docs/HALL.md has it
@@ -76,7 +77,7 @@ class HandIns(Course):
             (self.team / f"a{number}.py").write_text(f"import a{number + 1}\n")
         self.imports("a0")
         self.assertEqual(self.row()["outcome"], "solved")
-        self.assertEqual(len(intake.record_of(self.folder / "out", "evil").files), 702)
+        self.assertEqual(len(store.record_of(self.folder / "out", "evil").files), 702)
 
     def test_a_name_that_takes_more_memory_than_the_machine_has(self) -> None:
         (self.team / "bomb.py").write_text("import " + ".".join(["a"] * 128_000))
@@ -175,15 +176,15 @@ class HandIns(Course):
             "print('no')",
         ):
             with self.subTest(variant), mock.patch.object(
-                intake, "SECONDS", 2
-            ), mock.patch.object(intake, "READ_PROGRAM", variant):
-                result = intake.take(
+                store, "SECONDS", 2
+            ), mock.patch.object(store, "READ_PROGRAM", variant):
+                result = store.store_submission(
                     self.folder / "out", "evil", [self.team], self.folder, RING
                 )
-                self.assertEqual((result.refusal, result.files), (intake.CANNOT, {}))
+                self.assertEqual((result.refusal, result.files), (store.CANNOT, {}))
                 self.assertEqual(
-                    intake.hand_in_of(self.folder / "out", "evil").refusal,
-                    intake.CANNOT,
+                    store.stored_submission(self.folder / "out", "evil").refusal,
+                    store.CANNOT,
                 )
 
 
@@ -297,15 +298,15 @@ class Again(Course):
         self.assertIn("team evil differ; name another folder", self.refusal())
 
     def test_an_archive_that_is_changed_while_it_is_graded_is_refused(self) -> None:
-        take = intake.take
+        take = store.store_submission
 
         def change_archive(out: pathlib.Path, name: str, *args: Any) -> Any:
             result = take(out, name, *args)
-            (out / intake.HAND_INS / f"{name}.tar").write_bytes(HandIn({}).archive())
+            (out / store.HAND_INS / f"{name}.tar").write_bytes(Submission({}).archive())
             return result
 
         (self.folder / "course.toml").write_text(HEAD + HONEST)
-        with mock.patch.object(intake, "take", change_archive):
+        with mock.patch.object(store, "store_submission", change_archive):
             self.assertIn(
                 "right.tar: it is not what the team has handed in, as its digest is another",
                 self.refusal(),

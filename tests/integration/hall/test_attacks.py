@@ -4,7 +4,7 @@ Other files try other attacks: test_steps.py a worker whose lease has run out;
 test_pages.py, test_isolation.py and test_hand_ins.py tokens from an IPv6 network, another
 team's matches, and a look at the black hole before the close; test_connections.py slow
 and many connections; test_nginx.py forged headers behind Caddy and nginx; test_hall.py
-and tests/lab/hall/test_unpacking.py paths, SQL, HTML, formulas, and bombs in zips.
+and tests/lab/submissions/test_uploads.py paths, SQL, HTML, formulas, and bombs in zips.
 
 Three attacks still win something. Wrong tokens from a team's own address make its
 members who have not logged in wait minutes there. The numbers of matches and hand-ins
@@ -31,7 +31,7 @@ from tests.integration.hall.hall_pages import (
     play_match,
     stopped_clock,
 )
-from tests.lab.hall.test_unpacking import zip_of
+from tests.lab.submissions.test_uploads import zip_of
 
 from django.conf import settings
 from django.contrib.auth import get_user_model
@@ -43,11 +43,13 @@ from django.utils import timezone
 from arena_lab.hall import place
 from arena_lab.hall.attempts import attempt_work
 from arena_lab.hall.attempts.models import Attempt
-from arena_lab.hall.handins import taking, unpacking
+from arena_lab.hall.handins import taking
 from arena_lab.hall.handins.models import Contest, Grading, HandIn
 from arena_lab.hall.teams.guards import TRIES
 from arena_lab.hall.teams.models import Message, Team
 from arena_lab.hall.teams.views import MAX_WAITING
+from arena_lab.submissions import uploads
+from arena_lab.submissions.submission import SubmissionError
 
 FEW = 30
 HOUR = timezone.timedelta(hours=1)
@@ -132,7 +134,7 @@ class HandIns(Hall):
             folder.mkdir(parents=True)
             raise OSError(28, "No space left on device", str(folder))
 
-        with mock.patch.object(taking.unpacking, "unpack", full):
+        with mock.patch.object(uploads, "unpack_upload", full):
             hand = self.hand_in(b"print()")
         self.assertEqual((hand.status_code, HandIn.objects.count()), (503, 0))
         self.assertNotIn(str(PLACE.folder), hand.content.decode())
@@ -153,8 +155,8 @@ class HandIns(Hall):
         many = zip_of({f"{number}/": b"" for number in range(5_000)})
         with mock.patch.object(
             zipfile, "ZipFile", side_effect=AssertionError("it was read")
-        ), self.assertRaisesRegex(unpacking.HandInError, "more than 2000 files"):
-            unpacking.write(many, "agent.py", PLACE.folder / "hand-ins" / "many")
+        ), self.assertRaisesRegex(SubmissionError, "more than 2000 files"):
+            uploads.write_upload(many, "agent.py", PLACE.folder / "hand-ins" / "many")
 
     def test_nothing_hides_in_a_source_or_a_name(self) -> None:
         source = "if True: # \u202e } \u2066 if is_right\u2069 \u2066 begin\n\tprint('\u200b\x1b[2Jé')\n"

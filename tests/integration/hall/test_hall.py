@@ -159,7 +159,7 @@ class HandIns(Halls):
         )
         ring = (agents / "ring.py").read_text().partition('"""\n')[2]
         client = (agents / "client.py").read_text()
-        from tests.lab.hall.test_unpacking import zip_of
+        from tests.lab.submissions.test_uploads import zip_of
 
         payload = zip_of(
             {"top/agent.py": (nosy + ring).encode(), "top/client.py": client.encode()}

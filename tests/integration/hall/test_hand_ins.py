@@ -11,7 +11,7 @@ from tests.integration.hall.hall_pages import (
     hall_with,
     play_match,
 )
-from tests.lab.hall.test_unpacking import zip_of
+from tests.lab.submissions.test_uploads import zip_of
 
 from django.conf import settings
 from django.core.files.uploadedfile import SimpleUploadedFile

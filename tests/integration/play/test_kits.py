@@ -3,17 +3,18 @@ tests.release.kits PROGRAM` plays all. Kits whose clients say by which line they
 built and played, too."""
 import subprocess
 
-from arena_lab.course import hand_in, sender_marks
+from arena_lab.course import sender_marks
 from arena_lab.play.agent_files import AGENTS
 from arena_lab.play.games import play_seed
-from arena_lab.play.runners import LocalRunner
 from arena_lab.play.kits import KITS
+from arena_lab.play.runners import LocalRunner
 from arena_lab.play.teams import OUTSIDE, AgentWords, Game
 from arena_lab.rules.networks import ring
 from tests.support.kits_played import PlayedKit
 from tests.support.matches import program
 from tests.support.output import InTemporary
 from tools import packages
+from arena_lab.submissions import submission
 
 
 class TestKits(InTemporary):
@@ -28,7 +29,7 @@ class TestKits(InTemporary):
         absent = packages.missing(KITS[language].packages)
         if absent:
             self.skipTest(f"Debian's {', '.join(absent)} is not installed")
-        kit = hand_in.read_files([AGENTS / language], AGENTS)
+        kit = submission.read_paths([AGENTS / language], AGENTS)
         marked_value = sender_marks.mark_program(kit, 5)
         self.assertNotEqual(marked_value, kit)
         for name in marked_value.entries:

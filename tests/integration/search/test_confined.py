@@ -7,7 +7,6 @@ import unittest
 from unittest import mock
 
 from arena_lab.course import check_steps
-from arena_lab.course import hand_in
 from arena_lab.course.check_jobs import CheckJob, CheckBudget, conditions_of
 from arena_lab.play.teams import OUTSIDE, AgentWords
 from arena_lab.sandbox import sandboxes
@@ -15,6 +14,7 @@ from arena_lab.sandbox.own_sandboxes import OwnSandboxes
 from arena_lab.sandbox.sandboxes import ProgramFiles, SandboxOptions
 from tests.support.matches import AGENTS, program
 from tests.support.output import InTemporary
+from arena_lab.submissions import submission
 
 # writes where its folder is, and whether it sees a file; enters and leaves
 PROGRAM = """import os, pathlib, sys
@@ -80,7 +80,7 @@ class Confined(InTemporary):
         self.mark.unlink()
         if sandboxes.weakness():
             raise unittest.SkipTest(f"no walls here: {sandboxes.weakness()}")
-        files = hand_in.read_files([self.folder], self.folder).archive()
+        files = submission.read_paths([self.folder], self.folder).archive()
         record = ProgramFiles(files, {}, "python")
         ground = OwnSandboxes(SandboxOptions(sandboxes.strongest()), lambda _: record)
         apart = AgentWords(OUTSIDE, f"python3 agent.py {words}", ground=ground)

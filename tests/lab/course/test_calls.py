@@ -11,8 +11,8 @@ import unittest
 from typing import Any, Dict, List
 
 from arena_lab.course.course_files import calls_of
-from arena_lab.course.hand_in import HandInEntry, HandIn
 from arena_lab.sandbox import calls, isolation
+from arena_lab.submissions.submission import SubmissionEntry, Submission
 from arena_lab.support.fields import FileFormatError
 from arena_lab.support.missing import DEBIANS_PYTHON
 from tests.support.output import run_call
@@ -115,10 +115,10 @@ class TestTable(unittest.TestCase):
             isolation.system_filter("python", ("nosuch",))
 
     def test_the_language_of_a_command(self) -> None:
-        def file(content: bytes) -> HandInEntry:
-            return HandInEntry(tarfile.REGTYPE, content, True)
+        def file(content: bytes) -> SubmissionEntry:
+            return SubmissionEntry(tarfile.REGTYPE, content, True)
 
-        entries: Dict[str, HandInEntry] = {
+        entries: Dict[str, SubmissionEntry] = {
             "careful": file(b"\x7fELF..."),
             "go.py": file(b"#!/usr/bin/env python3\nx"),
             "go.sh": file(b"#!/bin/sh\n"),
@@ -141,7 +141,9 @@ class TestTable(unittest.TestCase):
             ("ruby it.rb", "any"),
         ):
             self.assertEqual(
-                calls.language_of(words, HandIn(entries).content_of), language, words
+                calls.language_of(words, Submission(entries).content_of),
+                language,
+                words,
             )
 
 

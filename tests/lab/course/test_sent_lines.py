@@ -4,10 +4,10 @@ import tarfile
 import unittest
 
 from arena_lab.course import sender_marks
-from arena_lab.course.hand_in import HandIn, HandInEntry
 from arena_lab.course.mistaken_lines import place_in
 from arena_lab.course.sender_marks import NOWHERE, SentBy
 from arena_lab.play.agent_files import AGENTS
+from arena_lab.submissions.submission import Submission, SubmissionEntry
 
 TRACEBACK = """Traceback (most recent call last):
   File "/agent/agent.py", line 9, in <module>
@@ -19,11 +19,11 @@ client.NoSuchPort: port
 """
 
 
-def of(**texts: str) -> HandIn:
+def of(**texts: str) -> Submission:
     """Builds a hand-in from texts; `_` in a keyword stands for `.`."""
-    return HandIn(
+    return Submission(
         {
-            name.replace("_", "."): HandInEntry(tarfile.REGTYPE, text.encode())
+            name.replace("_", "."): SubmissionEntry(tarfile.REGTYPE, text.encode())
             for name, text in texts.items()
         }
     )

@@ -18,10 +18,9 @@ import threading
 import zipfile
 from typing import Dict, Iterator, List, NamedTuple
 
-from arena_lab.course.hand_in import MAX_BYTES, MAX_FILES
 from arena_lab.play.imports import names_in
+from arena_lab.submissions.submission import MAX_BYTES, MAX_FILES, SubmissionError
 from arena_lab.support.built import TOP
-from arena_lab.support.faults import ArenaError
 
 # bytes of what is sent
 MAX_SENT = 8 << 20
@@ -47,17 +46,13 @@ CANNOT = f"it cannot be unpacked within {SECONDS} s and {MEMORY >> 20} MB of mem
 SLOTS = threading.BoundedSemaphore(4)
 UNPACKS = (
     f"import sys; sys.path.insert(0, {str(TOP)!r}); "
-    "from arena_lab.hall.handins import unpacking; unpacking.main()"
+    "from arena_lab.submissions import uploads; uploads.main()"
 )
 # its status where the disk takes no more
 CANNOT_WRITE = 3
 
 
-class HandInError(ArenaError):
-    """A hand-in is refused; the text says what to change."""
-
-
-class UnpackedFiles(NamedTuple):
+class UploadedFiles(NamedTuple):
     """Unpacked files: total bytes, number of files, and the SHA-256 over names and
     contents."""
 
@@ -66,11 +61,12 @@ class UnpackedFiles(NamedTuple):
     digest: str
 
 
-def unpack(data: bytes, name: str, folder: pathlib.Path) -> UnpackedFiles:
+def unpack_upload(data: bytes, name: str, folder: pathlib.Path) -> UploadedFiles:
     """Unpacks a zip into a folder, which is made, or writes the one file that is handed
-    in, which gets this name. Raises NoHandIn, or OSError where the disk is full."""
+    in, which gets this name. Raises SubmissionError, or OSError where the disk is full.
+    """
     if len(data) > MAX_SENT:
-        raise HandInError(f"it has more than {MAX_SENT >> 20} MB")
+        raise SubmissionError(f"it has more than {MAX_SENT >> 20} MB")
     with SLOTS:
         try:
             result = subprocess.run(
@@ -81,12 +77,12 @@ def unpack(data: bytes, name: str, folder: pathlib.Path) -> UnpackedFiles:
             )
             reply = json.loads(result.stdout)
         except (subprocess.TimeoutExpired, ValueError):
-            raise HandInError(CANNOT) from None
+            raise SubmissionError(CANNOT) from None
     if result.returncode == CANNOT_WRITE:
         raise OSError(reply)
     if result.returncode:
-        raise HandInError(reply)
-    return UnpackedFiles(*reply)
+        raise SubmissionError(reply)
+    return UploadedFiles(*reply)
 
 
 def main() -> None:
@@ -102,21 +98,21 @@ def main() -> None:
     pathlib.Path("/proc/self/oom_score_adj").write_text("1000")
     folder = pathlib.Path(sys.argv[1])
     try:
-        write(sys.stdin.buffer.read(MAX_SENT + 1), sys.argv[2], folder)
+        write_upload(sys.stdin.buffer.read(MAX_SENT + 1), sys.argv[2], folder)
         print(json.dumps(measure_folder(folder)))
-    except (HandInError, OSError) as fault:
+    except (SubmissionError, OSError) as fault:
         print(json.dumps(str(fault)))
-        sys.exit(1 if isinstance(fault, HandInError) else CANNOT_WRITE)
+        sys.exit(1 if isinstance(fault, SubmissionError) else CANNOT_WRITE)
 
 
-def write(data: bytes, name: str, folder: pathlib.Path) -> None:
+def write_upload(data: bytes, name: str, folder: pathlib.Path) -> None:
     """Writes the files of a zip, or the one file."""
     if not data:
-        raise HandInError("it is empty")
+        raise SubmissionError("it is empty")
     folder.mkdir(mode=0o700, parents=True)
     # whoever reads the list of a zip makes an object of each entry, also of folders
     if data.count(ENTRY) > 2 * MAX_FILES:
-        raise HandInError(f"it has more than {MAX_FILES} files")
+        raise SubmissionError(f"it has more than {MAX_FILES} files")
     if not zipfile.is_zipfile(io.BytesIO(data)):
         (folder / name).write_bytes(data)
         return
@@ -130,15 +126,15 @@ def write(data: bytes, name: str, folder: pathlib.Path) -> None:
                 for piece in pieces(archive, entry):
                     bytes_left -= len(piece)
                     if bytes_left < 0:
-                        raise HandInError(
+                        raise SubmissionError(
                             f"its files have more than {MAX_BYTES >> 20} MB"
                         )
                     file.write(piece)
 
 
-def unreadable(fault: Exception) -> HandInError:
+def unreadable(fault: Exception) -> SubmissionError:
     """Returns the error for a broken zip."""
-    return HandInError(
+    return SubmissionError(
         f"the zip cannot be read: {str(fault)[:100] or type(fault).__name__}"
     )
 
@@ -161,22 +157,22 @@ def pieces(archive: zipfile.ZipFile, entry: str) -> Iterator[bytes]:
 
 
 def check_names(archive: zipfile.ZipFile) -> List[str]:
-    """Returns the names of a zip's files. Raises HandInError for names that lead
+    """Returns the names of a zip's files. Raises SubmissionError for names that lead
     outside of the folder."""
     entries = [entry for entry in archive.infolist() if not entry.is_dir()]
     if len(entries) > MAX_FILES:
-        raise HandInError(f"it has more than {MAX_FILES} files")
+        raise SubmissionError(f"it has more than {MAX_FILES} files")
     names: Dict[str, None] = {}
     for entry in entries:
         name = checked_name(entry)
         if name in names:
-            raise HandInError(f"{name} stands twice in the zip")
+            raise SubmissionError(f"{name} stands twice in the zip")
         names[name] = None
     folders = {str(above) for name in names for above in pathlib.PurePath(name).parents}
     if len(folders - {"."}) > MAX_FOLDERS:
-        raise HandInError(f"it has more than {MAX_FOLDERS} folders")
+        raise SubmissionError(f"it has more than {MAX_FOLDERS} folders")
     for name in folders.intersection(names):
-        raise HandInError(f"{name} is a file and a folder in the zip")
+        raise SubmissionError(f"{name} is a file and a folder in the zip")
     return list(names)
 
 
@@ -186,22 +182,22 @@ def checked_name(entry: zipfile.ZipInfo) -> str:
     name = entry.filename
     parts = name.split("/")
     if len(parts) - 1 > MAX_DEPTH:
-        raise HandInError(f"its folders are more than {MAX_DEPTH} deep")
+        raise SubmissionError(f"its folders are more than {MAX_DEPTH} deep")
     if any(part in ("", ".", "..") or not PART.fullmatch(part) for part in parts):
-        raise HandInError(
+        raise SubmissionError(
             f"the zip has {name[:60]!r}, which is no name of a file inside"
         )
     if (
         max(map(len, map(str.encode, parts))) > MAX_NAME
         or len(name.encode()) > MAX_PATH
     ):
-        raise HandInError(
+        raise SubmissionError(
             f"{name[:60]!r} is too long: a name has at most {MAX_NAME} bytes, and a path {MAX_PATH}"
         )
     if (entry.external_attr >> 16) & 0o170000 == 0o120000:
-        raise HandInError(f"{name[:60]} is a link: hand in what it leads to")
+        raise SubmissionError(f"{name[:60]} is a link: hand in what it leads to")
     if entry.compress_type not in METHODS:
-        raise HandInError(
+        raise SubmissionError(
             f"{name[:60]} is packed by another method than deflate: pack it anew by `zip`"
         )
     return name
@@ -227,15 +223,15 @@ def check_program(folder: pathlib.Path, name: str, command: str) -> None:
         names = [path.name for path in sorted(folder.glob(f"*{path.suffix}"))]
         programs = [name for name in names if name != f"{CLIENT}.py"]
         advice = f": call {programs[0]} so" if programs else " at its top"
-        raise HandInError(f"it has no {name}, which is started{advice}")
+        raise SubmissionError(f"it has no {name}, which is started{advice}")
     lacks_client = not any(folder.glob(f"{CLIENT}*"))
     if lacks_client and CLIENT in names_in(path.read_bytes()):
-        raise HandInError(
+        raise SubmissionError(
             f"{name} imports {CLIENT}, and {CLIENT}.py is not there: hand in a zip of both"
         )
 
 
-def measure_folder(folder: pathlib.Path) -> UnpackedFiles:
+def measure_folder(folder: pathlib.Path) -> UploadedFiles:
     """Returns size, number and digest of the files in a folder."""
     paths = sorted(
         (str(path.relative_to(folder)), path)
@@ -250,4 +246,4 @@ def measure_folder(folder: pathlib.Path) -> UnpackedFiles:
         digest.update(f"{len(name.encode())}:{name}{length}:".encode())
         with path.open("rb") as file:
             hashlib.file_digest(file, lambda: digest)
-    return UnpackedFiles(size, len(paths), digest.hexdigest())
+    return UploadedFiles(size, len(paths), digest.hexdigest())

@@ -18,6 +18,7 @@ import tempfile
 from typing import Dict, Iterator, NamedTuple, Optional, Sequence, Tuple
 
 from arena_lab.play.imports import SUFFIX, files_behind
+from arena_lab.support.faults import ArenaError
 
 MAX_BYTES = 32 << 20
 MAX_FILES = 2_000
@@ -26,11 +27,11 @@ MAX_DEPTH = 32
 NETWORK = "network.toml"
 
 
-class HandInRefusedError(Exception):
-    """A hand-in is beyond a bound, or cannot be read; says which."""
+class SubmissionError(ArenaError):
+    """A submission is refused; the text says why, or what to change."""
 
 
-class HandInEntry(NamedTuple):
+class SubmissionEntry(NamedTuple):
     """A file, a folder or a link: what kind it is, and a file's content or where a link
     leads."""
 
@@ -39,11 +40,11 @@ class HandInEntry(NamedTuple):
     is_program: bool = False
 
 
-class HandIn(NamedTuple):
+class Submission(NamedTuple):
     """The files and folders of a team by name, each folder before its contents; or the
     reason for a refusal."""
 
-    entries: Dict[str, HandInEntry]
+    entries: Dict[str, SubmissionEntry]
     refusal: str = ""
 
     def digest(self) -> str:
@@ -110,7 +111,7 @@ class HandIn(NamedTuple):
         """All of it as a tar archive, and more files by their names."""
         entries = dict(self.entries)
         for name, content in extra.items():
-            put_entry(entries, name, HandInEntry(tarfile.REGTYPE, content))
+            put_entry(entries, name, SubmissionEntry(tarfile.REGTYPE, content))
         buffer = io.BytesIO()
         with tarfile.open(fileobj=buffer, mode="w", format=tarfile.GNU_FORMAT) as tar:
             for name, entry in entries.items():
@@ -127,9 +128,9 @@ class HandIn(NamedTuple):
         return buffer.getvalue()
 
 
-def unpack(archive: bytes, refusal: str = "") -> HandIn:
+def read_archive(archive: bytes, refusal: str = "") -> Submission:
     """The hand-in of an archive that `archive` has made."""
-    entries: Dict[str, HandInEntry] = {}
+    entries: Dict[str, SubmissionEntry] = {}
     with tarfile.open(fileobj=io.BytesIO(archive)) as tar:
         for head in tar:
             file = tar.extractfile(head) if head.isreg() else None
@@ -140,16 +141,16 @@ def unpack(archive: bytes, refusal: str = "") -> HandIn:
                 if head.issym()
                 else b""
             )
-            entries[head.name] = HandInEntry(
+            entries[head.name] = SubmissionEntry(
                 head.type, content, head.isreg() and bool(head.mode & 0o100)
             )
-    return HandIn(entries, refusal)
+    return Submission(entries, refusal)
 
 
-def read_files(paths: Sequence[pathlib.Path], course: pathlib.Path) -> HandIn:
+def read_paths(paths: Sequence[pathlib.Path], course: pathlib.Path) -> Submission:
     """Reads the paths that a course file lists into a hand-in. A later path replaces
     earlier entries of the same name."""
-    entries: Dict[str, HandInEntry] = {}
+    entries: Dict[str, SubmissionEntry] = {}
     try:
         bytes_left = MAX_BYTES
         for name, path in [file for path in paths for file in walk_files(path, course)]:
@@ -158,11 +159,11 @@ def read_files(paths: Sequence[pathlib.Path], course: pathlib.Path) -> HandIn:
                 continue
             bytes_left -= len(entry.content)
             put_entry(entries, name, entry)
-        return HandIn(entries)
-    except HandInRefusedError as fault:
-        return HandIn({}, str(fault))
+        return Submission(entries)
+    except SubmissionError as fault:
+        return Submission({}, str(fault))
     except OSError as fault:
-        return HandIn({}, f"its files cannot be read: {fault.strerror}")
+        return Submission({}, f"its files cannot be read: {fault.strerror}")
 
 
 def walk_files(path: pathlib.Path, course: pathlib.Path) -> Iterator[Tuple[str, str]]:
@@ -174,7 +175,7 @@ def walk_files(path: pathlib.Path, course: pathlib.Path) -> Iterator[Tuple[str, 
         if parent != course and parent.is_relative_to(course)
     ]
     for link in filter(os.path.islink, [path, *parents]):
-        raise HandInRefusedError(f"{link.name} is a link: name what it leads to")
+        raise SubmissionError(f"{link.name} is a link: name what it leads to")
     top = str(path)
     if not os.path.isdir(top):
         yield path.name, top
@@ -184,26 +185,26 @@ def walk_files(path: pathlib.Path, course: pathlib.Path) -> Iterator[Tuple[str, 
     while waiting:
         prefix, folder, depth = waiting.pop()
         if depth > MAX_DEPTH:
-            raise HandInRefusedError(f"its folders are more than {MAX_DEPTH} deep")
+            raise SubmissionError(f"its folders are more than {MAX_DEPTH} deep")
         with os.scandir(folder) as entries:
             entry_list = list(itertools.islice(entries, MAX_FILES + 1))
         count += len(entry_list)
         if count > MAX_FILES:
-            raise HandInRefusedError(f"it has more than {MAX_FILES} files and folders")
+            raise SubmissionError(f"it has more than {MAX_FILES} files and folders")
         for inside in sorted(entry_list, key=lambda entry: os.fsencode(entry.name)):
             yield prefix + inside.name, inside.path
             if inside.is_dir(follow_symlinks=False):
                 waiting.append((f"{prefix}{inside.name}/", inside.path, depth + 1))
 
 
-def entry_at(path: str, limit: int) -> Optional[HandInEntry]:
+def entry_at(path: str, limit: int) -> Optional[SubmissionEntry]:
     """Reads the entry at a path, of at most `limit` bytes; None if it is neither file,
     folder nor link."""
     mode = os.lstat(path).st_mode
     if stat.S_ISLNK(mode):
-        return HandInEntry(tarfile.SYMTYPE, os.fsencode(os.readlink(path)))
+        return SubmissionEntry(tarfile.SYMTYPE, os.fsencode(os.readlink(path)))
     if stat.S_ISDIR(mode):
-        return HandInEntry(tarfile.DIRTYPE)
+        return SubmissionEntry(tarfile.DIRTYPE)
     if not stat.S_ISREG(mode):
         return None
     try:
@@ -215,19 +216,21 @@ def entry_at(path: str, limit: int) -> Optional[HandInEntry]:
     with open(descriptor, "rb") as file:
         content = file.read(limit + 1)
         if len(content) > limit:
-            raise HandInRefusedError(f"its files have more than {MAX_BYTES >> 20} MB")
-        return HandInEntry(
+            raise SubmissionError(f"its files have more than {MAX_BYTES >> 20} MB")
+        return SubmissionEntry(
             tarfile.REGTYPE, content, bool(os.fstat(descriptor).st_mode & 0o111)
         )
 
 
-def put_entry(entries: Dict[str, HandInEntry], name: str, entry: HandInEntry) -> None:
+def put_entry(
+    entries: Dict[str, SubmissionEntry], name: str, entry: SubmissionEntry
+) -> None:
     """Stores an entry. Entries that would make writing it follow a link are replaced by
     folders."""
     parts = name.split("/")
     for above in ("/".join(parts[:count]) for count in range(1, len(parts))):
         if entries.get(above, entry).kind != tarfile.DIRTYPE:
-            entries[above] = HandInEntry(tarfile.DIRTYPE)
+            entries[above] = SubmissionEntry(tarfile.DIRTYPE)
     if entry.kind != tarfile.DIRTYPE and name in entries:
         for inside in [entry for entry in entries if entry.startswith(f"{name}/")]:
             del entries[inside]

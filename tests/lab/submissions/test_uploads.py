@@ -8,9 +8,9 @@ import zipfile
 from typing import Dict
 from unittest import mock
 
-from arena_lab.hall.handins import unpacking
-from arena_lab.hall.handins.unpacking import HandInError
+from arena_lab.submissions.submission import SubmissionError
 from tests.support.output import InTemporary
+from arena_lab.submissions import uploads
 
 
 def zip_of(
@@ -34,7 +34,7 @@ class Unpacking(InTemporary):
         """The files that come of what is sent."""
         folder = self.folder / "files"
         shutil.rmtree(folder, ignore_errors=True)
-        result = unpacking.unpack(payload, name, folder)
+        result = uploads.unpack_upload(payload, name, folder)
         paths = [path for path in sorted(folder.rglob("*")) if path.is_file()]
         self.assertEqual(
             result[:2], (sum(path.stat().st_size for path in paths), len(paths))
@@ -42,7 +42,7 @@ class Unpacking(InTemporary):
         return {str(path.relative_to(folder)): path.read_bytes() for path in paths}
 
     def assert_refused(self, payload: bytes, why: str) -> None:
-        with self.assertRaisesRegex(HandInError, why):
+        with self.assertRaisesRegex(SubmissionError, why):
             self.files_of(payload)
 
     def test_a_file_and_a_zip(self) -> None:
@@ -59,7 +59,7 @@ class Unpacking(InTemporary):
 
     def test_the_digest_is_of_names_and_contents(self) -> None:
         digests = {
-            unpacking.unpack(payload, "a", self.folder / str(index)).digest
+            uploads.unpack_upload(payload, "a", self.folder / str(index)).digest
             for index, payload in enumerate(
                 (
                     zip_of({"a": b"b", "b": b""}),
@@ -70,7 +70,7 @@ class Unpacking(InTemporary):
             )
         }
         self.assertEqual(len(digests), 3)
-        message = unpacking.unpack(b"b", "a", self.folder / "one").digest
+        message = uploads.unpack_upload(b"b", "a", self.folder / "one").digest
         self.assertEqual(message, hashlib.sha256(b"1:a1:b").hexdigest())
 
     def test_names_that_lead_elsewhere(self) -> None:
@@ -104,10 +104,10 @@ class Unpacking(InTemporary):
     def test_bombs(self) -> None:
         """Of each method, with many entries, with long names and nested: each is
         refused, or taken as it stands, by a process that has less than 100 MB."""
-        zeros = bytes(unpacking.MAX_BYTES + 1)
-        half = bytes(unpacking.MAX_BYTES // 2 + 1)
+        zeros = bytes(uploads.MAX_BYTES + 1)
+        half = bytes(uploads.MAX_BYTES // 2 + 1)
         bomb = zip_of({"zeros": zeros})
-        many = {f"f{number}": b"" for number in range(unpacking.MAX_FILES + 1)}
+        many = {f"f{number}": b"" for number in range(uploads.MAX_FILES + 1)}
         long = {f"{number:065000}": b"" for number in range(50)}
         for method, payload, why in (
             (zipfile.ZIP_DEFLATED, {"zeros": zeros}, "more than 32 MB"),
@@ -121,10 +121,10 @@ class Unpacking(InTemporary):
         self.assertEqual(self.files_of(zip_of({"a": bomb})), {"a": bomb})
         large = {f"{number}": random.randbytes(7_900) for number in range(1_000)}
         self.assertEqual(self.files_of(zip_of(large)), large)
-        self.assert_refused(bytes(unpacking.MAX_SENT + 1), "more than 8 MB")
-        self.assert_refused(unpacking.ENTRY * 1_000_000, "2000 files")
+        self.assert_refused(bytes(uploads.MAX_SENT + 1), "more than 8 MB")
+        self.assert_refused(uploads.ENTRY * 1_000_000, "2000 files")
         self.assert_refused(b"", "empty")
-        self.assertLessEqual(unpacking.MEMORY, 100 << 20)
+        self.assertLessEqual(uploads.MEMORY, 100 << 20)
 
     def test_zips_that_lie(self) -> None:
         """Whatever is broken in a zip, and by whatever method it is packed, it is
@@ -136,18 +136,18 @@ class Unpacking(InTemporary):
                 broken = bytearray(whole)
                 broken[index] ^= 0xFF
                 folder = self.folder / f"{method} {index}"
-                with contextlib.suppress(HandInError):
-                    unpacking.write(bytes(broken), "agent.py", folder)
-                    self.assertLessEqual(unpacking.measure_folder(folder).files, 1)
+                with contextlib.suppress(SubmissionError):
+                    uploads.write_upload(bytes(broken), "agent.py", folder)
+                    self.assertLessEqual(uploads.measure_folder(folder).files, 1)
 
     def test_a_disk_that_is_full_is_no_fault_of_the_zip(self) -> None:
         (self.folder / "files").write_text("")
         with self.assertRaises(OSError):
-            unpacking.unpack(b"x", "agent.py", self.folder / "files")
+            uploads.unpack_upload(b"x", "agent.py", self.folder / "files")
 
     def test_who_takes_too_long_or_ends_is_refused(self) -> None:
         for program in ("import time; time.sleep(9)", "import os; os.abort()", "x"):
-            with mock.patch.object(unpacking, "UNPACKS", program), mock.patch.object(
-                unpacking, "SECONDS", 0.5
+            with mock.patch.object(uploads, "UNPACKS", program), mock.patch.object(
+                uploads, "SECONDS", 0.5
             ):
                 self.assert_refused(b"x", "cannot be unpacked within")

@@ -2,45 +2,50 @@
 import contextlib
 import pathlib
 import tempfile
-from typing import Dict, Iterator, Sequence
+from typing import Iterator, Sequence
 
-from arena_lab.course.hand_in import NETWORK, HandIn
 from arena_lab.play.runners import Ground, LocalRunner, Nowhere
 from arena_lab.play.wasm_modules import file_in, is_module
 from arena_lab.rules import networks
 from arena_lab.rules.model import Setup
 from arena_lab.sandbox import calls
 from arena_lab.sandbox.sandboxes import ProgramFiles, SandboxOptions, sandboxes_for
+from arena_lab.submissions.submission import NETWORK, Submission
 
 
 @contextlib.contextmanager
 def grounds_of(
-    options: SandboxOptions, handed_in: HandIn, words: str, setup: Setup, count: int
+    options: SandboxOptions,
+    submission: Submission,
+    words: str,
+    setup: Setup,
+    count: int,
 ) -> Iterator[Sequence[Ground]]:
     """Yields the grounds of `count` programs of a team: a sandbox each, unless the
     hand-in is refused. The player of a module needs no sandbox."""
-    if handed_in.refusal:
-        yield [Nowhere(f"the hand-in is refused: {handed_in.refusal}")] * count
+    if submission.refusal:
+        yield [Nowhere(f"the hand-in is refused: {submission.refusal}")] * count
         return
     if is_module(words):
         # it sees nothing but replies, and its memory and steps are bounded
         with tempfile.TemporaryDirectory(prefix="lab-module-") as folder:
-            handed_in.write_file(file_in(words), pathlib.Path(folder))
+            submission.write_file(file_in(words), pathlib.Path(folder))
             yield [LocalRunner(folder)] * count
         return
-    with sandboxes_for(options, files_of(handed_in, words, setup), count) as sandboxes:
+    with sandboxes_for(options, files_of(submission, words, setup), count) as sandboxes:
         yield sandboxes
 
 
-def files_of(handed_in: HandIn, words: str, setup: Setup) -> ProgramFiles:
+def files_of(submission: Submission, words: str, setup: Setup) -> ProgramFiles:
     """Returns the files visible to a program in a match: those of the hand-in, and the
     network file if the words name it."""
-    files: Dict[str, bytes] = {}
-    if "{network}" in words:
-        network = networks.Network(setup.nodes, setup.links)
-        files[NETWORK] = networks.text_of(network).encode()
+    files = (
+        {NETWORK: networks.text_of(networks.Network(setup.nodes, setup.links)).encode()}
+        if "{network}" in words
+        else {}
+    )
     return ProgramFiles(
-        handed_in.archive(**files),
+        submission.archive(**files),
         {"network": name for name in files},
-        calls.language_of(words, handed_in.content_of),
+        calls.language_of(words, submission.content_of),
     )

@@ -10,8 +10,7 @@ import pathlib
 import resource
 import sys
 
-from arena_lab.course import hand_in
-from arena_lab.course.hand_in import HandIn
+from arena_lab.submissions.submission import Submission, read_paths
 
 # bytes of memory and seconds that it may take
 MEMORY = 1 << 30
@@ -28,18 +27,12 @@ def main() -> None:
         resource.setrlimit(kind, (limit, limit))
     archive_path, folder, words, *paths = json.load(sys.stdin)
     archive = pathlib.Path(archive_path)
-    hand_in_read = hand_in.read_files(
-        list(map(pathlib.Path, paths)), pathlib.Path(folder)
-    )
+    submission = read_paths(list(map(pathlib.Path, paths)), pathlib.Path(folder))
     try:
-        files = hand_in_read.digests(words)
-        archive.write_bytes(hand_in_read.archive())
+        files = submission.digests(words)
+        archive.write_bytes(submission.archive())
     except (OSError, MemoryError, RecursionError, ValueError) as fault:
-        hand_in_read = HandIn({}, f"its files cannot be read: {type(fault).__name__}")
+        submission = Submission({}, f"its files cannot be read: {type(fault).__name__}")
         files = {}
-        archive.write_bytes(hand_in_read.archive())
-    print(json.dumps([hand_in_read.digest(), hand_in_read.refusal, files]))
-
-
-if __name__ == "__main__":
-    main()
+        archive.write_bytes(submission.archive())
+    print(json.dumps([submission.digest(), submission.refusal, files]))

@@ -10,8 +10,8 @@ import unittest
 from typing import Dict
 from unittest import mock
 
-from arena_lab.course import hand_in
-from arena_lab.course.hand_in import HandIn
+from arena_lab.submissions import submission
+from arena_lab.submissions.submission import Submission
 
 
 class HandIns(unittest.TestCase):
@@ -24,12 +24,12 @@ class HandIns(unittest.TestCase):
         self.team.mkdir()
         (self.team / "agent.py").write_text("pass")
 
-    def read_files(self, *names: str) -> HandIn:
-        return hand_in.read_files(
+    def read_files(self, *names: str) -> Submission:
+        return submission.read_paths(
             [self.folder / name for name in names or ("team",)], self.folder
         )
 
-    def unpack(self, hand_in: HandIn, **extra: bytes) -> Dict[str, str]:
+    def unpack(self, hand_in: Submission, **extra: bytes) -> Dict[str, str]:
         """What an archive has: texts of files, and where links lead."""
         with tarfile.open(fileobj=io.BytesIO(hand_in.archive(**extra))) as tar:
             return {
@@ -147,11 +147,11 @@ class HandIns(unittest.TestCase):
         with open(self.team / "big", "wb") as file:
             file.truncate(200 << 30)
         self.assertEqual(
-            self.read_files(), HandIn({}, "its files have more than 32 MB")
+            self.read_files(), Submission({}, "its files have more than 32 MB")
         )
         (self.team / "big").unlink()
         self.assertEqual(self.read_files().refusal, "")
-        with mock.patch.object(hand_in, "MAX_FILES", 3):
+        with mock.patch.object(submission, "MAX_FILES", 3):
             for name in "abc":
                 (self.team / name).touch()
             self.assertEqual(

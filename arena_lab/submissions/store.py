@@ -12,9 +12,8 @@ import subprocess
 import sys
 from typing import Dict, List, NamedTuple
 
-from arena_lab.course import hand_in
-from arena_lab.course.hand_in import HandIn
-from arena_lab.course.reading import CANNOT, SECONDS
+from arena_lab.submissions.reader import CANNOT, SECONDS
+from arena_lab.submissions.submission import Submission, read_archive
 from arena_lab.support.built import TOP
 from arena_lab.sweep.tables import TableError
 
@@ -23,10 +22,10 @@ HAND_INS = "hand-ins"
 # in the record of what rows depend on: the name of a team's hand-in
 TEAM = "team "
 # reads a hand-in, in a process of its own
-READ_PROGRAM = f"import sys; sys.path.insert(0, {str(TOP)!r}); from arena_lab.course import reading; reading.main()"
+READ_PROGRAM = f"import sys; sys.path.insert(0, {str(TOP)!r}); from arena_lab.submissions import reader; reader.main()"
 
 
-class HandInRecord(NamedTuple):
+class SubmissionRecord(NamedTuple):
     """A stored hand-in: digest, reason for a refusal, and SHA-256 of each program
     file."""
 
@@ -35,17 +34,17 @@ class HandInRecord(NamedTuple):
     files: Dict[str, str]
 
 
-def take(
+def store_submission(
     out: pathlib.Path,
     team: str,
     paths: List[pathlib.Path],
     folder: pathlib.Path,
     words: str,
-) -> HandInRecord:
+) -> SubmissionRecord:
     """Reads what a team hands in, whose program is started by these words, and keeps
     it. A process of its own reads it, within bounds of memory and time, so whatever is
     in it stops nothing else."""
-    archive, record = places(out, team)
+    archive, record_path = places(out, team)
     archive.parent.mkdir(parents=True, exist_ok=True)
     message = json.dumps([str(archive), str(folder), words, *map(str, paths)])
     try:
@@ -56,14 +55,14 @@ def take(
             text=True,
             timeout=SECONDS,
         )
-        hand_in_record = HandInRecord(*json.loads(result.stdout))
+        record = SubmissionRecord(*json.loads(result.stdout))
     except (subprocess.TimeoutExpired, TypeError, ValueError):
-        archive.write_bytes(HandIn({}).archive())
-        hand_in_record = HandInRecord(HandIn({}, CANNOT).digest(), CANNOT, {})
-    record.write_text(
-        json.dumps(hand_in_record._asdict(), indent=1) + "\n", encoding="utf-8"
+        archive.write_bytes(Submission({}).archive())
+        record = SubmissionRecord(Submission({}, CANNOT).digest(), CANNOT, {})
+    record_path.write_text(
+        json.dumps(record._asdict(), indent=1) + "\n", encoding="utf-8"
     )
-    return hand_in_record
+    return record
 
 
 def places(out: pathlib.Path, team: str) -> List[pathlib.Path]:
@@ -75,34 +74,32 @@ def is_kept(out: pathlib.Path, team: str) -> bool:
     return all(path.is_file() for path in places(out, team))
 
 
-def record_of(out: pathlib.Path, team: str) -> HandInRecord:
+def record_of(out: pathlib.Path, team: str) -> SubmissionRecord:
     """Reads the record of a stored hand-in."""
-    record = places(out, team)[1]
+    path = places(out, team)[1]
     try:
-        values = json.loads(record.read_text(encoding="utf-8"))
-        return HandInRecord(values["digest"], values["refusal"], values["files"])
+        values = json.loads(path.read_text(encoding="utf-8"))
+        return SubmissionRecord(values["digest"], values["refusal"], values["files"])
     except (KeyError, TypeError, ValueError):
         raise TableError(
-            f"{record}: it is not as it was written: name another folder"
+            f"{path}: it is not as it was written: name another folder"
         ) from None
 
 
-def hand_in_of(out: pathlib.Path, team: str) -> HandIn:
+def stored_submission(out: pathlib.Path, team: str) -> Submission:
     """Reads a stored hand-in. Raises TableError if its archive does not match the
     recorded digest."""
-    hand_in_record = record_of(out, team)
-    return unpack(
-        str(places(out, team)[0]), hand_in_record.digest, hand_in_record.refusal
-    )
+    record = record_of(out, team)
+    return read_verified(str(places(out, team)[0]), record.digest, record.refusal)
 
 
 @functools.lru_cache(maxsize=4)
-def unpack(archive: str, digest: str, refusal: str) -> HandIn:
+def read_verified(archive: str, digest: str, refusal: str) -> Submission:
     """Unpacks an archive, and raises TableError if its digest is not the one given."""
-    hand_in_read = hand_in.unpack(pathlib.Path(archive).read_bytes(), refusal)
-    if hand_in_read.digest() != digest:
+    submission = read_archive(pathlib.Path(archive).read_bytes(), refusal)
+    if submission.digest() != digest:
         raise TableError(
             f"{archive}: it is not what the team has handed in, as its digest is another: name another "
             "folder by --out, and start again"
         )
-    return hand_in_read
+    return submission

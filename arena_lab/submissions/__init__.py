@@ -1,0 +1,1 @@
+"""Submissions: what teams hand in, from the browser to the sandbox."""
