@@ -16,7 +16,7 @@ import subprocess
 import sys
 import threading
 import zipfile
-from typing import Dict, Iterator, List, NamedTuple
+from typing import Dict, Iterator, List, Mapping, NamedTuple
 
 from arena_lab.play.imports import names_in
 from arena_lab.submissions.submission import MAX_BYTES, MAX_FILES, SubmissionError
@@ -83,6 +83,15 @@ def unpack_upload(data: bytes, name: str, folder: pathlib.Path) -> UploadedFiles
     if result.returncode:
         raise SubmissionError(reply)
     return UploadedFiles(*reply)
+
+
+def write_texts(texts: Mapping[str, str], folder: pathlib.Path) -> UploadedFiles:
+    """Writes texts into a folder, which is made, by the names of their files, which
+    have no folders."""
+    folder.mkdir(mode=0o700, parents=True)
+    for name, text in texts.items():
+        (folder / name).write_text(text, encoding="utf-8", newline="\n")
+    return measure_folder(folder)
 
 
 def main() -> None:

@@ -34,6 +34,7 @@ from arena_lab.hall.work_steps import Lease, Stages, WorkLostError, do_in_folder
 from arena_lab.hall.teams.models import Team
 from arena_lab.rules import draws
 from arena_lab.sandbox import sandboxes
+from arena_lab.submissions import uploads
 from arena_lab.support import fields
 from arena_lab.support.faults import ArenaError
 
@@ -64,10 +65,7 @@ def play(number: int, holder: str) -> None:
 
 def prepare(work: Trial, folder: pathlib.Path) -> None:
     """Writes the program, and what is asked for."""
-    (folder / FILES).mkdir(mode=0o700, parents=True)
-    for name, text in work.files.items():
-        path = folder / FILES / name
-        path.write_text(text, encoding="utf-8", newline="\n")
+    uploads.write_texts(work.files, folder / FILES)
     try:
         kit = kit_of(work.language)
     except RequestRefusedError:

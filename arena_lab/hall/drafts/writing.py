@@ -1,9 +1,6 @@
 """What teams write, within limits."""
-import io
-import zipfile
 from typing import Any, Dict, Optional
 
-from django.core.files.base import ContentFile
 from django.db import transaction
 from django.db.models import F
 from django.utils import timezone
@@ -17,6 +14,7 @@ from arena_lab.hall.handins import taking
 from arena_lab.hall.handins.models import HandIn
 from arena_lab.hall.teams.guards import Buckets
 from arena_lab.hall.teams.models import Team
+from arena_lab.submissions import uploads
 
 # bytes of a draft, its files, and characters of a file's name
 MAX_BYTES = 128 << 10
@@ -123,11 +121,13 @@ def hand_in(team: Team, language: str, files: Any, contest: Optional[int]) -> Ha
         raise RequestRefusedError(403, _("guests hand in nothing"))
     if not kit.is_handed_in:
         raise RequestRefusedError(400, _("hand-ins are of another language here"))
-    buffer = io.BytesIO()
-    with zipfile.ZipFile(buffer, "w", zipfile.ZIP_DEFLATED) as archive:
-        for name, text in files.items():
-            archive.writestr(name, text)
-    return taking.take(team, f"{kit.main}.zip", ContentFile(buffer.getvalue()), contest)
+    return taking.take(
+        team,
+        f"{kit.main}.zip",
+        size_of(files),
+        lambda folder: uploads.write_texts(files, folder),
+        contest,
+    )
 
 
 def draft_dict(draft: Draft) -> Dict[str, Any]:

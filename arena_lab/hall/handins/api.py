@@ -36,10 +36,7 @@ class HandIns(ViewSet):
     def create(self, request: Any) -> Response:
         serializer = Sent(data=request.data)
         serializer.is_valid(raise_exception=True)
-        file = serializer.validated_data["file"]
-        hand_in = taking.take(
-            request.user, file.name, file, serializer.validated_data["contest"]
-        )
+        hand_in = taking.take_upload(request.user, **serializer.validated_data)
         return Response(
             taking.hand_in_dict(hand_in),
             status=201,

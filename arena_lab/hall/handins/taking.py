@@ -3,7 +3,7 @@ import datetime
 import pathlib
 import secrets
 import shutil
-from typing import Any, Dict, List, Optional
+from typing import Any, Callable, Dict, List, Optional
 
 from django.conf import settings
 from django.db import transaction
@@ -39,12 +39,31 @@ NEW = "new-"
 submissions = Buckets(60)
 
 
-def take(team: Team, name: str, file: Any, number: Optional[int] = None) -> HandIn:
-    """Takes a file that a team hands in, for the course or for the contest of a number,
-    or refuses it."""
+def take_upload(team: Team, file: Any, contest: Optional[int]) -> HandIn:
+    """Takes a file or a zip that a team hands in, or refuses it."""
+    return take(
+        team,
+        file.name,
+        file.size,
+        lambda folder: uploads.unpack_upload(
+            file.read(uploads.MAX_SENT + 1), settings.HALL.hand_ins.file, folder
+        ),
+        contest,
+    )
+
+
+def take(
+    team: Team,
+    name: str,
+    size: int,
+    write: Callable[[pathlib.Path], uploads.UploadedFiles],
+    number: Optional[int],
+) -> HandIn:
+    """Takes what `write` writes into a folder, for the course or for the contest of a
+    number, or refuses it. `size` is how many bytes are sent."""
     contest = None if number is None else Contest.objects.filter(pk=number).first()
     window = None if contest is None and number is not None else window_of(contest)
-    check(team, file.size, 1, window)
+    check(team, size, 1, window)
     if submissions.wait(team.name, A_MINUTE):
         raise RequestRefusedError(
             429,
@@ -56,9 +75,7 @@ def take(team: Team, name: str, file: Any, number: Optional[int] = None) -> Hand
     new = settings.PLACE.folder / "hand-ins" / f"{NEW}{secrets.token_hex(8)}"
     try:
         rules = settings.HALL.hand_ins
-        files = uploads.unpack_upload(
-            file.read(uploads.MAX_SENT + 1), rules.file, new / FILES
-        )
+        files = write(new / FILES)
         uploads.check_program(new / FILES, rules.file, rules.command)
         return keep_hand_in(team, plain(name)[:80], files, window, new)
     except SubmissionError as fault:

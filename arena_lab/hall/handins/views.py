@@ -71,7 +71,7 @@ def take(request: Any) -> HttpResponse:
     try:
         # a contest number that is no number matches no contest
         number = int(contest) if NUMBER.fullmatch(contest) else 0
-        taking.take(request.team, file.name, file, number if contest else None)
+        taking.take_upload(request.team, file, number if contest else None)
     except RequestRefusedError as fault:
         return list_hand_ins(request, str(fault), fault.status_code)
     return redirect("/hand-ins")

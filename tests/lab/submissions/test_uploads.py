@@ -45,6 +45,17 @@ class Unpacking(InTemporary):
         with self.assertRaisesRegex(SubmissionError, why):
             self.files_of(payload)
 
+    def test_texts_are_written_as_a_zip_of_them_is_unpacked(self) -> None:
+        texts = {"agent.py": "print('\u00e9')\r\n", "client.py": ""}
+        self.assertEqual(
+            uploads.write_texts(texts, self.folder / "texts"),
+            uploads.unpack_upload(
+                zip_of({name: text.encode() for name, text in texts.items()}),
+                "agent.py",
+                self.folder / "zip",
+            ),
+        )
+
     def test_a_file_and_a_zip(self) -> None:
         self.assertEqual(self.files_of(b"print()"), {"agent.py": b"print()"})
         for method in (zipfile.ZIP_STORED, zipfile.ZIP_DEFLATED):
