@@ -58,13 +58,12 @@ def prepare(work: Grading, folder: pathlib.Path) -> None:
             "the hall takes no hand-ins any more, or has no network of this contest"
         )
     folder.mkdir(mode=0o700)
-    shutil.copytree(work.hand_in.folder / FILES, folder / FILES)
     # what decides in the end has all the room that a course gives it
     megabytes_left = max(MIN_SPACE, bytes_of(team) - own_bytes(team) >> 20)
     extra_limits = {} if work.is_secret else {"team_space": megabytes_left}
     text = grading_terms.text_of(settings.HALL, names, extra_limits)
     team_rows = grading_terms.rows_in(
-        {"name": team.name, "files": [FILES], "command": rules.command}
+        {"name": team.name, "files": [f"../{FILES}"], "command": rules.command}
     )
     write_whole(folder / COURSE, f"{text}\n[[team]]\n{team_rows}")
     write_whole(
@@ -119,8 +118,6 @@ def finish(work: Grading, holder: str, folder: pathlib.Path) -> None:
     for row in rows:
         networks[row["network"]][0] += row["solved"]
         networks[row["network"]][1] += 1
-    # the hand-in has them
-    shutil.rmtree(folder / FILES)
     for name in MATCHES:
         packing.pack(folder / OUT / name)
     with transaction.atomic():
