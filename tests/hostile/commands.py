@@ -160,6 +160,20 @@ COMMANDS = [
         beside=[MODULE],
     ),
     Command(
+        "attest",
+        [
+            "attest",
+            "examples/attested0.jsonl",
+            "--module",
+            f"{MODULE}:8",
+            "--spurious-wakeups",
+            "2",
+        ],
+        "",
+        "examples/attested0.jsonl",
+        beside=[MODULE],
+    ),
+    Command(
         ALL_HOLES,
         [
             "explore",

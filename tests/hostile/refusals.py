@@ -89,6 +89,7 @@ WANTED = {
     "twin": "guess.twin",
     "recover": "first0.jsonl",
     "explore": "triangle.explored",
+    "attest": "attested.printed",
 }
 CONTEST_TABLE = b"""\
   # team             outcome     moves lost

@@ -58,6 +58,10 @@ EXAMPLES = [
     Example(
         "explore examples/version1.toml 0", "triangle.answers", "triangle.explored"
     ),
+    Example(
+        f"attest examples/attested0.jsonl --module {TOP}/examples/agents/wasm/ring.wasm:8",
+        stdout="attested.printed",
+    ),
 ]
 
 

@@ -25,6 +25,7 @@ from tests.support.program_rows import fault_of, play, rows_of
 
 # each adds its cases to CASES
 FILES = (
+    "attest_cases",
     "contest_cases",
     "contest_files",
     "example_cases",

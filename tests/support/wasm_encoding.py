@@ -123,6 +123,7 @@ def module(
     imports: Sequence[str] = (),
     source: str = "arena",
     data: bytes = b"",
+    exports_memory: bool = False,
 ) -> bytes:
     """A module with a memory of one page that begins with this data, and with these
     functions of `arena`, which are numbered before its own."""
@@ -137,6 +138,8 @@ def module(
         for index, function in enumerate(functions)
         if function.export
     ]
+    if exports_memory:
+        exports.append(name("memory") + b"\x02\0")
     return b"\0asm\1\0\0\0" + b"".join(
         (
             section(1, vector([*host, *own])),

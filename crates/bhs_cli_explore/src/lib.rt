@@ -11,4 +11,7 @@ mod worlds;
 
 pub use explore::explore_named;
 pub use holes::explore_holes_named;
-pub use modules::explore_modules_named;
+pub use modules::{
+    ModuleFile, begun_line, explore_modules_named, file_of, modules_for, print_report,
+    report_count, report_module,
+};

@@ -42,9 +42,9 @@ use std::rt::Files;
 
 /// The file of a module, and the arguments of the agents that run it.
 #[derive(Drop)]
-pub(crate) struct ModuleFile {
-    pub(crate) bytes: Vec<u8>,
-    pub(crate) arguments: Vec<u32>,
+pub struct ModuleFile {
+    pub bytes: Vec<u8>,
+    pub arguments: Vec<u32>,
 }
 
 /// The roles of agents that run the modules of files, and these files in the order of the roles.
@@ -131,7 +131,7 @@ pub(crate) fn wanted<'l, E: Write>(
 }
 
 /// Prints what was found, whose exit status is given.
-pub(crate) fn print_report<W: Output, E: Write>(
+pub fn print_report<W: Output, E: Write>(
     text: &str,
     status: u8,
     writer: &mut W,
@@ -143,9 +143,9 @@ pub(crate) fn print_report<W: Output, E: Write>(
     if printed == DONE { status } else { printed }
 }
 
-// Splits the list of modules into its first element and the rest. The command needs one module for all agents, or one
-// for each agent.
-fn modules_for<'m>(
+/// Splits the list of modules into its first element and the rest. A command needs one module for all agents, or one
+/// for each agent.
+pub fn modules_for<'m>(
     agents: u16,
     modules: &'m [AgentModule],
 ) -> Option<(&'m AgentModule, &'m [AgentModule])>
@@ -164,8 +164,8 @@ fn modules_for<'m>(
     }
 }
 
-// Reports how many modules were given for how many agents, and what to change. Answers the exit status.
-fn report_count<E: Write>(name: &str, modules: usize, agents: u16, errors: &mut E) -> u8
+/// Reports how many modules were given for how many agents, and what to change. Answers the exit status.
+pub fn report_count<E: Write>(name: &str, modules: usize, agents: u16, errors: &mut E) -> u8
     ensures { IsOfFault result }
 {
     let status = report(name, Fault::Modules { modules, agents }, errors);
@@ -311,8 +311,8 @@ fn line_of(
     Ok(line)
 }
 
-// The line that names the module of a file, up to how an agent failed.
-fn begun_line(alloc: Global, file: &[u8], arguments: &[u32]) -> Result<String, Memory>
+/// The line that names the module of a file, up to what is told of its agents.
+pub fn begun_line(alloc: Global, file: &[u8], arguments: &[u32]) -> Result<String, Memory>
     ensures { IfOk result (λ line. string_bytes line ≡ module_items file.now arguments.now) }
 {
     let digest = digest_of(alloc, file)?;
@@ -350,14 +350,14 @@ fn cause_text(cause: FailureCause) -> &'static str
     }
 }
 
-// The bytes of a module's file.
-fn file_of<F: Files>(alloc: Global, files: &F, name: &str) -> Result<Vec<u8>, Fault> {
+/// The bytes of a module's file.
+pub fn file_of<F: Files>(alloc: Global, files: &F, name: &str) -> Result<Vec<u8>, Fault> {
     let mut file = fs::open(files, name)?;
     Ok(read_text(alloc, &mut file, MAX_TEXT, MAX_TURNS)?)
 }
 
-// Reports why a file is no module of agents, and answers the exit status.
-fn report_module<E: Write>(name: &str, fault: &ModuleFault, errors: &mut E) -> u8
+/// Reports why a file is no module of agents, and answers the exit status.
+pub fn report_module<E: Write>(name: &str, fault: &ModuleFault, errors: &mut E) -> u8
     ensures { IsOfFault result }
 {
     if let ModuleFault::Inside {

@@ -26,6 +26,8 @@ use Rattle.bhs_cli_explore.specs.Discoveries.{Explores, ExploresMatch, found_in,
 use Rattle.bhs_cli_explore.specs.Discoveries.{exploration_done, exploration_ends, explores_nothing, explores_on}
 use Rattle.bhs_cli_explore.specs.Holes.{ExploresHoles, TellsHoles, all_told, explores_holes, explores_no_holes}
 use Rattle.bhs_cli_explore.specs.Holes.{other_nodes, tells_fault, tells_last, tells_on}
+use Rattle.bhs_cli_attest.specs.Attesting.{AttestsReplay, attests, attests_nothing}
+use Rattle.bhs_cli_attest.specs.Lines.{all_follow}
 use Rattle.bhs_cli_explore.specs.ModuleExploration.{ExploresModules, explores_modules, explores_no_modules}
 use Rattle.bhs_cli_rehearse.specs.Rehearsal.{Rehearses, done, unfiled, ends}
 use Rattle.bhs_cli_rehearse.specs.RehearsedTournaments.{RehearsesNamed, rehearses_on, refuses_file}
@@ -34,7 +36,7 @@ use Rattle.bhs_cli_rehearse.specs.InteractiveTournaments.{interaction_done, inte
 use Rattle.bhs_cli_rehearse.specs.InteractiveTournaments.{interaction_unfiled}
 use Rattle.bhs_cli.specs.Showing.{Prints, all, part, held_back, PrintsByLine, whole, cut_off, kept_back, Reports}
 use Rattle.bhs_cli.specs.Showing.{prints, stops}
-use Rattle.bhs_cli.specs.declared.reporting.statuses.TheConstants.{DONE}
+use Rattle.bhs_cli.specs.declared.reporting.statuses.TheConstants.{DONE, FAILING}
 use Rattle.bhs_cli_serve.specs.Contests.{Files, all_filed, unfiled_one, Tables, tabled, untabled, Hosts, fares}
 use Rattle.bhs_cli_serve.specs.Contests.{fails}
 use Rattle.bhs_cli_serve.specs.Contests.{Serves, serves_on, goes_unheard, refuses_contest}
@@ -208,6 +210,14 @@ module _ {P I O : Type 0} (files : P → List ℕ → WriteAnswer → P → Type
       (other_nodes ready) output told
   of_all_holes arguments exploration (explores_no_holes fault is not_done kept) = inr (inr (fault, is))
 
+  of_attestation : (arguments : List (List ℕ)) (wakeups : ℕ) → AttestsReplay takes flushes arguments wakeups output
+      output' code → IsStatus code
+  of_attestation arguments wakeups (attests play read enough text ended said report) =
+      rw report.coded (of_either (report.printed == DONE) report.printed ended
+      (of_print takes flushes output output' report.printed text report.prints)
+      (rw said.told (of_either (all_follow said.lines) FAILING DONE (inr (inl (inr refl))) (inl refl))))
+  of_attestation arguments wakeups (attests_nothing fault is kept) = inr (inr (fault, is))
+
   of_served : (port : ℕ) → Serves files takes flushes port output output' code → IsStatus code
   of_served port (serves_on lineup assembled heard shows hosts) =
       of_host files takes flushes _ _ _ heard output' code hosts
@@ -235,6 +245,7 @@ module _ {P I O : Type 0} (files : P → List ℕ → WriteAnswer → P → Type
   of_deed (order.Explore name exploration) explored = of_exploration exploration explored
   of_deed (order.ExploreModules name modules exploration) explored = of_modules _ exploration explored.1
   of_deed (order.ExploreAllHoles name modules exploration) explored = of_all_holes _ exploration explored.1
+  of_deed (order.Attest replay modules wakeups) attested = of_attestation _ wakeups attested.1
   of_deed (order.Serve name hosting) served = of_served hosting.port served.1
 
   of_order : (order : Order) → Obeys files gives takes flushes order input input' output output' code → IsStatus code

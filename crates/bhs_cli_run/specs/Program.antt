@@ -7,6 +7,7 @@ use Rattle.bhs_cli_words.specs.declared.orders.Order.{Order}
 use Rattle.bhs_cli_words.specs.declared.orders.Order.TheVariants as order
 use Rattle.bhs_cli_results.specs.Appeals.{Appeals}
 use Rattle.bhs_cli_results.specs.ContestTables.{TablesContest}
+use Rattle.bhs_cli_attest.specs.Attesting.{AttestsReplay}
 use Rattle.bhs_cli_explore.specs.Discoveries.{Explores}
 use Rattle.bhs_cli_explore.specs.Holes.{ExploresHoles}
 use Rattle.bhs_cli.specs.Fault.{IsOfFault}
@@ -73,6 +74,8 @@ module _ {P I O : Type 0} (files : P → List ℕ → WriteAnswer → P → Type
   Does (order.ExploreAllHoles name modules exploration) input input' output output' code =
       (input' ≡ input)
       × ExploresHoles takes flushes (map (λ it. it.arguments) modules) exploration output output' code
+  Does (order.Attest replay modules wakeups) input input' output output' code =
+      (input' ≡ input) × AttestsReplay takes flushes (map (λ it. it.arguments) modules) wakeups output output' code
   Does (order.Serve name hosting) input input' output output' code =
       (input' ≡ input) × Serves files takes flushes hosting.port output output' code
 

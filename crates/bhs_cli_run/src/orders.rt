@@ -6,6 +6,7 @@ ghost use Rattle.bhs_cli.specs.declared.reporting.statuses.TheConstants.{NO_MEMO
 ghost use Rattle.bhs_cli_run.specs.Program.{IsStatus, Obeys, Runs};
 
 use bhs_cli::{Fault, REFUSED_WORDS, check, print_recovered, report, show_text};
+use bhs_cli_attest::attest_named;
 use bhs_cli_explore::{explore_holes_named, explore_modules_named, explore_named};
 use bhs_cli_rehearse::{rehearse_interactively_named, rehearse_named};
 use bhs_cli_results::{
@@ -118,6 +119,19 @@ fn obey<
             modules,
             exploration,
         } => explore_holes_named(alloc, rt, tournament, modules, exploration, writer, errors),
+        Order::Attest {
+            replay,
+            modules,
+            wakeups,
+        } => attest_named(
+            alloc,
+            rt,
+            replay.as_str(),
+            &modules,
+            wakeups,
+            writer,
+            errors,
+        ),
         Order::Serve {
             tournament,
             hosting,

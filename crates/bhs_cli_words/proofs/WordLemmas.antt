@@ -11,14 +11,15 @@ use Rattle.clap.specs.declared.error.kind.ErrorKind.{ErrorKind}
 use Rattle.clap.specs.declared.error.kind.ErrorKind.TheVariants.{DisplayHelp, DisplayHelpOnMissingArgumentOrSubcommand}
 use Rattle.clap.specs.declared.error.kind.ErrorKind.TheVariants.{DisplayVersion}
 use Rattle.clap.proofs.OnLiterals.{clap_on_literals}
-use Rattle.bhs_cli_words.specs.Arguments.{number_in}
-use Rattle.bhs_cli_words.specs.Exploring.{drawing_in, explore, plain_exploration_in}
+use Rattle.bhs_cli_words.specs.Arguments.{number_in, number_of}
+use Rattle.bhs_cli_words.specs.Exploring.{drawing_in, explore, plain_exploration_in, wakeups_option}
 use Rattle.bhs_cli_words.specs.CommandLine.{AskAfter, AsksHelp, AsksVersion, Says, appeal_of, arena, check}
-use Rattle.bhs_cli_words.specs.CommandLine.{command_in, entries_in, explain, exploring_of, faults, is_dashed, judge}
+use Rattle.bhs_cli_words.specs.CommandLine.{attest, attesting_of, command_in, entries_in, explain, exploring_of, faults}
+use Rattle.bhs_cli_words.specs.CommandLine.{is_dashed, judge}
 use Rattle.bhs_cli_words.specs.CommandLine.{judging_of, order_by, recover, rehearse, table, twin}
 use Rattle.bhs_cli_words.specs.declared.orders.Order.{Order}
 use Rattle.bhs_cli_words.specs.declared.orders.Order.TheVariants.{Check, Explain, Explore, Judge, Recover, Rehearse}
-use Rattle.bhs_cli_words.specs.declared.orders.Order.TheVariants.{RehearseInteractively, Serve, Table, Twin}
+use Rattle.bhs_cli_words.specs.declared.orders.Order.TheVariants.{Attest, RehearseInteractively, Serve, Table, Twin}
 use Rattle.bhs_cli_words.specs.declared.orders.Order.TheVariants.{ContestTable, ExploreModules, RecoverContest}
 use Rattle.bhs_cli_words.specs.declared.orders.Order.TheVariants.{ExploreAllHoles}
 use Rattle.bhs_cli_words.specs.declared.orders.Order.TheVariants as order
@@ -72,7 +73,9 @@ help_fault words (inr (inr (inr (inr (inr (inr (inr (inl asks)))))))) =
     asked_after (codes "recover" ∷ []) words asks (refl, refl)
 help_fault words (inr (inr (inr (inr (inr (inr (inr (inr (inl asks))))))))) =
     asked_after (codes "explore" ∷ []) words asks (refl, refl)
-help_fault words (inr (inr (inr (inr (inr (inr (inr (inr (inr asks))))))))) =
+help_fault words (inr (inr (inr (inr (inr (inr (inr (inr (inr (inl asks)))))))))) =
+    asked_after (codes "attest" ∷ []) words asks (refl, refl)
+help_fault words (inr (inr (inr (inr (inr (inr (inr (inr (inr (inr asks)))))))))) =
     asked_after (codes "serve" ∷ []) words asks (refl, refl)
 
 pub version_fault : (words : List Text) → AsksVersion words → faults words ≡ DisplayVersion ∷ []
@@ -353,6 +356,26 @@ all_holes_found tournament word spelled e f h =
     (reads_more (record { faultless = refl; goes = refl })
     (reads_none (leaf_of explore) _)))))) refl refl
 
+attest_enters : Enters (codes "attest") (leaf_of attest)
+unfolding clap_on_literals
+attest_enters = record {
+  takes = λ rest none. ap₂ line_fault (passed_whole (codes "attest") rest) (passed (codes "attest") rest)
+      ∙ ap (λ (kinds : Kinds). or_else kinds []) none;
+  finds = λ rest. ap (λ (w : Walk). entered line w.stopped) (passed (codes "attest") rest);
+}
+
+attest_found : (replay spelled : Text) → is_dashed replay ≡ false → is_dashed spelled ≡ false
+    → (faults (codes "attest" ∷ replay ∷ codes "--module" ∷ spelled ∷ []) ≡ [])
+    × (option_and_then order_by (command_in (codes "attest" ∷ replay ∷ codes "--module" ∷ spelled ∷ []))
+    ≡ attesting_of replay (spelled ∷ []) (number_of wakeups_option wakeups_option.default))
+unfolding clap_on_literals
+attest_found replay spelled e f =
+    order_read attest_enters (replay ∷ codes "--module" ∷ spelled ∷ []) _ _
+    (reads_more (read_plain (leaf_of attest) _ 1 idle replay e refl)
+    (reads_more (record { faultless = refl; goes = refl })
+    (reads_more (read_plain (leaf_of attest) _ 2 (option (codes "module")) spelled f refl)
+    (reads_none (leaf_of attest) _)))) refl refl
+
 here : (words given : List Text) (order : Order) → words ≡ given → Gives given order → Gives words order
 here words given order is gives = subst (λ (ws : List Text). Gives ws order) (sym is) gives
 
@@ -410,6 +433,13 @@ says_gives words (ExploreAllHoles tournament modules exploration)
       found.0,
       found.1 ∙ ap (exploring_of tournament (spelled ∷ []) true) says
           ∙ ap (option_map (λ (m : List AgentModule). ExploreAllHoles tournament m exploration)) reads,
+    )
+says_gives words (Attest replay modules wakeups) (spelled, plain, also, says, reads, is) =
+    let found = attest_found replay spelled plain also in
+    here words _ _ is (
+      found.0,
+      found.1 ∙ ap (attesting_of replay (spelled ∷ [])) says
+          ∙ ap (option_map (λ (m : List AgentModule). Attest replay m wakeups)) reads,
     )
 says_gives words (Serve tournament hosting) (port, sessions, turns, pause, plain, also, says, is) =
     let found = serve_found tournament port sessions turns pause hosting.prefix plain also

@@ -12,13 +12,14 @@ use Rattle.clap.specs.declared.error.kind.ErrorKind.{ErrorKind}
 use Rattle.clap.specs.declared.error.kind.ErrorKind.TheVariants.{DisplayHelp, DisplayVersion}
 use Rattle.bhs_text.specs.Teams.{is_team}
 use Rattle.bhs_cli_words.specs.Arguments.{behind, command, flag, is_given, may_have, must_have, number_in, program}
-use Rattle.bhs_cli_words.specs.Arguments.{all_said, text_in, texts_in}
-use Rattle.bhs_cli_words.specs.Exploring.{explore, exploration_by, modules_in, plain_exploration_in}
+use Rattle.bhs_cli_words.specs.Arguments.{all_said, number_of, numbered, text_in, texts_in}
+use Rattle.bhs_cli_words.specs.Exploring.{explore, exploration_by, module_words, modules_in, plain_exploration_in}
+use Rattle.bhs_cli_words.specs.Exploring.{wakeups_option}
 use Rattle.bhs_cli_words.specs.Serving.{hosting_by, hosting_in, plain_words, serve}
 use Rattle.bhs_cli_words.specs.declared.orders.Order.{Order}
 use Rattle.bhs_cli_words.specs.declared.orders.Order.TheVariants.{Rehearse, Check, Judge, Table, Explain, Twin}
 use Rattle.bhs_cli_words.specs.declared.orders.Order.TheVariants.{Explore, ExploreModules, ExploreAllHoles, Recover}
-use Rattle.bhs_cli_words.specs.declared.orders.Order.TheVariants.{RehearseInteractively, Serve}
+use Rattle.bhs_cli_words.specs.declared.orders.Order.TheVariants.{Attest, RehearseInteractively, Serve}
 use Rattle.bhs_cli_words.specs.declared.orders.Order.TheVariants.{ContestTable, RecoverContest}
 use Rattle.bhs_cli_words.specs.declared.orders.Order.TheVariants as variants
 use Rattle.bhs_cli_words.specs.declared.orders.AgentModule.{AgentModule}
@@ -60,11 +61,14 @@ abbrev pub recover : Shape
 recover = command (codes "recover")
     (must_have (codes "file") ∷ behind (codes "replay") (may_have (codes "prefix")) ∷ [])
 
+abbrev pub attest : Shape
+attest = command (codes "attest") (must_have (codes "replay") ∷ module_words ∷ numbered wakeups_option ∷ [])
+
 abbrev pub arena : App
 arena =
     with_subcommand (with_subcommand (with_subcommand (with_subcommand (with_subcommand (with_subcommand
-    (with_subcommand (with_subcommand (with_subcommand (program (codes "arena")) rehearse) check) judge) table) explain)
-    twin) recover) explore) serve
+    (with_subcommand (with_subcommand (with_subcommand (with_subcommand (program (codes "arena")) rehearse) check)
+    judge) table) explain) twin) recover) explore) attest) serve
 
 -- ---- what clap makes of the words that stand after the program's name
 
@@ -160,6 +164,13 @@ exploring_of tournament (word ∷ words) is_all (Some exploration) =
     option_map (exploring_modules tournament is_all exploration) (modules_in (word ∷ words))
 exploring_of tournament (word ∷ words) is_all None = None
 
+-- the comparison of a replay with the modules that words say, of agents that may wake again so often
+abbrev pub attesting_of : (replay : Text) → (words : List Text) → (wakeups : Option ℕ) → Option Order
+attesting_of replay [] wakeups = None
+attesting_of replay (word ∷ words) (Some wakeups) =
+    option_map (λ modules. Attest replay modules wakeups) (modules_in (word ∷ words))
+attesting_of replay (word ∷ words) None = None
+
 -- the order that a command gives
 abbrev pub order_by : Text × List Row → Option Order
 order_by (name, rows) =
@@ -178,9 +189,12 @@ order_by (name, rows) =
     else (if bytes_eq name (codes "explore")
     then exploring_of (text_in (codes "tournament") rows) (texts_in (codes "module") rows)
     (is_given (codes "all-holes") rows) (exploration_by rows)
+    else (if bytes_eq name (codes "attest")
+    then attesting_of (text_in (codes "replay") rows) (texts_in (codes "module") rows)
+    (number_of wakeups_option (text_in wakeups_option.name rows))
     else (if bytes_eq name (codes "serve")
     then option_map (Serve (text_in (codes "tournament") rows)) (hosting_by rows)
-    else None))))))))
+    else None)))))))))
 
 -- the order that the words describe, or None
 abbrev pub order_in : List Text → Option Order
@@ -246,6 +260,10 @@ Says words (ExploreAllHoles tournament modules exploration) =
     (word : Text) × (spelled : Text) × IsName tournament × IsName word × IsName spelled
     × (plain_exploration_in word ≡ Some exploration) × (modules_in (spelled ∷ []) ≡ Some modules)
     × (words ≡ codes "explore" ∷ tournament ∷ word ∷ codes "--module" ∷ spelled ∷ codes "--all-holes" ∷ [])
+Says words (Attest replay modules wakeups) =
+    (spelled : Text) × IsName replay × IsName spelled
+    × (number_of wakeups_option wakeups_option.default ≡ Some wakeups) × (modules_in (spelled ∷ []) ≡ Some modules)
+    × (words ≡ codes "attest" ∷ replay ∷ codes "--module" ∷ spelled ∷ [])
 Says words (Serve tournament hosting) =
     (port : Text) × (sessions : Text) × (turns : Text) × (pause : Text)
     × IsName tournament × IsName hosting.prefix
@@ -294,7 +312,8 @@ AsksHelp words = AskAfter [] words
     ⊎ (AskAfter (codes "twin" ∷ []) words
     ⊎ (AskAfter (codes "recover" ∷ []) words
     ⊎ (AskAfter (codes "explore" ∷ []) words
-    ⊎ AskAfter (codes "serve" ∷ []) words))))))))
+    ⊎ (AskAfter (codes "attest" ∷ []) words
+    ⊎ AskAfter (codes "serve" ∷ []) words)))))))))
 
 -- the words that ask for the version and do nothing else
 abbrev pub AsksVersion : List Text → Type 0

@@ -1,6 +1,7 @@
 //! The commands of the program. Each command has a row for each of its words and options, with name, range, default and
 //! help; the whole command line is derived from these rows.
 
+pub(crate) mod attest;
 pub(crate) mod check;
 pub(crate) mod explain;
 pub(crate) mod explore;
@@ -68,7 +69,7 @@ pub(crate) enum Takes {
 }
 
 /// The commands, in the order of the help.
-pub(crate) const COMMANDS: [Subcommand; 9] = [
+pub(crate) const COMMANDS: [Subcommand; 10] = [
     rehearse::COMMAND,
     check::COMMAND,
     judge::COMMAND,
@@ -77,6 +78,7 @@ pub(crate) const COMMANDS: [Subcommand; 9] = [
     twin::COMMAND,
     recover::COMMAND,
     explore::COMMAND,
+    attest::COMMAND,
     serve::COMMAND,
 ];
 

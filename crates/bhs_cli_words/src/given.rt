@@ -4,7 +4,7 @@ ghost use Rattle.std.specs.Prelude.{◌≡◌, ◌<◌, ◌^◌, IfOk, Some, map
 ghost use Rattle.bhs_cli_words.specs.Arguments.{is_given, number_in, number_within, text_in, texts_in};
 ghost use Rattle.bhs_cli_words.specs.Serving.{hosting_by};
 ghost use Rattle.bhs_cli_words.specs.Exploring.{drawing_by, exploration_by};
-ghost use Rattle.bhs_cli_words.specs.CommandLine.{appeal_of, contest_table_by, entries_in, exploring_of};
+ghost use Rattle.bhs_cli_words.specs.CommandLine.{appeal_of, attesting_of, contest_table_by, entries_in, exploring_of};
 ghost use Rattle.bhs_cli_words.specs.CommandLine.{exploring_host, exploring_modules};
 ghost use Rattle.bhs_cli_words.specs.CommandLine.{is_one_word, judging_by, judging_of, order_by, recovery_by};
 ghost use Rattle.bhs_cli_words.specs.CommandLine.{rehearsal_of, tabling_by};
@@ -52,6 +52,7 @@ fn order_named(
         "twin" => twin_given(alloc, words),
         "recover" => recovery_given(alloc, words),
         "explore" => exploring_given(alloc, words),
+        "attest" => attesting_given(alloc, words),
         "serve" => serving_given(alloc, words),
         _ => Ok(None),
     }
@@ -280,6 +281,43 @@ fn exploring_modules(
             modules,
             exploration,
         }
+    }
+}
+
+// The order that the words of `attest` give.
+fn attesting_given(alloc: Global, words: &ArgMatches<'_>) -> Result<Option<Order>, AllocError>
+    ensures { IfOk result (λ order. order ≡ order_by (codes "attest", rows_of (found_of words.now))) }
+{
+    let Some(wakeups) = short_given(words, &explore::WAKEUPS) else {
+        return Ok(None);
+    };
+    let replay = text_given(alloc, words, &REPLAY)?;
+    match words.get_strs(explore::MODULE.id) {
+        Some(texts) => attesting(alloc, replay, texts, wakeups),
+        None => attesting(alloc, replay, &[], wakeups),
+    }
+}
+
+// The order to compare a replay with the modules that the words describe. Without modules there is none.
+fn attesting(
+    alloc: Global,
+    replay: Text,
+    words: &[&str],
+    wakeups: u16,
+) -> Result<Option<Order>, AllocError>
+    ensures { IfOk result (λ order. order
+        ≡ attesting_of replay (map (λ word. word.now) words.now) (Some wakeups)) }
+{
+    if words.is_empty() {
+        return Ok(None);
+    }
+    match modules_in(alloc, words)? {
+        Some(modules) => Ok(Some(Order::Attest {
+            replay,
+            modules,
+            wakeups,
+        })),
+        None => Ok(None),
     }
 }
 

@@ -1,5 +1,6 @@
 //! The texts of the help, but those of single words and options.
 
+pub(crate) mod attest;
 pub(crate) mod check;
 pub(crate) mod explain;
 pub(crate) mod explore;

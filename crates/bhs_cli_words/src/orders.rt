@@ -80,6 +80,13 @@ pub enum Order {
         modules: AgentModules,
         exploration: Exploration,
     },
+    /// Compares the log of the replay with what modules say: one module for all agents, or one for each. An agent that
+    /// sleeps may wake again so often although nothing has changed in front of it.
+    Attest {
+        replay: Text,
+        modules: AgentModules,
+        wakeups: u16,
+    },
     /// Serves the tournament of this file to agents that connect.
     Serve {
         tournament: Text,

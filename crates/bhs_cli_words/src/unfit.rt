@@ -1,6 +1,6 @@
 //! The message on a word that its command does not accept.
 
-use crate::commands::{Argument, COMMANDS, Need, Takes, explore, judge, table};
+use crate::commands::{Argument, COMMANDS, Need, Takes, attest, explore, judge, table};
 use crate::drawings::{objective_in, scheduler_in};
 use crate::given::{is_given, number_by};
 use crate::orders::MAX_ARGUMENTS;
@@ -46,6 +46,7 @@ fn apart(name: &str, words: &ArgMatches<'_>) -> Option<&'static str> {
     match name {
         "judge" if !is_whole_appeal(words) => Some(judge::TOGETHER),
         "table" if is_there(words, &table::PREFIX) => Some(table::ONE_WORD),
+        "attest" if !is_there(words, &explore::MODULE) => Some(attest::NEED_MODULE),
         "explore" if lacks_module(words) => Some(explore::NEED_MODULE),
         "explore" if lacks_draws(words) => Some(explore::NEED_DRAWS),
         _ => None,

@@ -7,13 +7,13 @@ use Rattle.bhs_schedules.specs.declared.answers.Step.TheVariants as steps
 use Rattle.bhs_schedules.specs.Strategies.{History, Observation, Strategy}
 use Rattle.bhs_client.specs.declared.player.PlayFault.{PlayFault}
 use Rattle.bhs_client.specs.declared.player.PlayFault.TheVariants as fault
-use Rattle.bhs_client.specs.declared.searchers.SearcherFault.{SearcherFault}
-use Rattle.bhs_client.specs.declared.searchers.SearcherFault.TheVariants as searcher_fault
-use Rattle.bhs_client.specs.Searchers.{KeepsTo}
+use Rattle.bhs_agents.specs.declared.searchers.SearcherFault.{SearcherFault}
+use Rattle.bhs_agents.specs.declared.searchers.SearcherFault.TheVariants as searcher_fault
+use Rattle.bhs_agents.specs.Searchers.{KeepsTo}
 use Rattle.bhs_client.specs.Talks.{Hears, Meets, speaks, sleeps, sleeps_on, Talks, goes_on, HearsNone, stuck}
 use Rattle.bhs_client.specs.Talks.{BreaksOff, silent, unheard, asleep, Breaks, fault_by}
-use Rattle.bhs_client.specs.declared.wake_ups.WakeUps.{WakeUps as WakeUpsInCode}
-use Rattle.bhs_client.proofs.WakeUpLemmas.{IsCounting, row_is}
+use Rattle.bhs_agents.specs.declared.wake_ups.WakeUps.{WakeUps as WakeUpsInCode}
+use Rattle.bhs_agents.proofs.WakeUpLemmas.{IsCounting, row_is}
 
 -- an agent that follows its strategy follows it still once more has happened
 pub follows_on : {S : Type 0} (strategy : S → Strategy) (has_met : S → History → Type 0) (start old new : S)

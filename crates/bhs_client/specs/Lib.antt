@@ -1,9 +1,6 @@
 pub mod CommandLines
 pub mod ReplyLines
-pub mod Modules
 pub mod Protocols
-pub mod Searchers
-pub mod WakeUps
 pub mod Talks
 pub mod Transcripts
 pub mod Charters

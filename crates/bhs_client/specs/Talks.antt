@@ -14,11 +14,11 @@ use Rattle.bhs_client.specs.declared.player.PlayEnd.TheVariants.{Accused}
 use Rattle.bhs_client.specs.declared.player.PlayEnd.TheVariants as ended
 use Rattle.bhs_client.specs.declared.player.PlayFault.{PlayFault}
 use Rattle.bhs_client.specs.declared.player.PlayFault.TheVariants as fault
-use Rattle.bhs_client.specs.declared.searchers.SearcherFault.{SearcherFault}
-use Rattle.bhs_client.specs.declared.searchers.SearcherFault.TheVariants as searcher_fault
+use Rattle.bhs_agents.specs.declared.searchers.SearcherFault.{SearcherFault}
+use Rattle.bhs_agents.specs.declared.searchers.SearcherFault.TheVariants as searcher_fault
 use Rattle.bhs_client.specs.CommandLines.{meant}
 use Rattle.bhs_client.specs.ReplyLines.{reply_on}
-use Rattle.bhs_client.specs.WakeUps.{wake_ups_in}
+use Rattle.bhs_agents.specs.WakeUps.{wake_ups_in}
 
 -- a line that a server takes for this command of an agent that enters with this key: it is neither blank nor too long
 pub record IsLineOf (key : List ℕ) (command : Command) (line : List ℕ) : Type 0 where

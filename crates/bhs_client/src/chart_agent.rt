@@ -3,11 +3,13 @@
 ghost use Rattle.std.specs.Prelude.{◌≡◌, IfOk};
 ghost use Rattle.bhs_protocols_charts.specs.Charting as charting;
 ghost use Rattle.bhs_protocols_charts.specs.Programs.{charting_of, tells_of};
-ghost use Rattle.bhs_client.specs.Searchers.{observation_of};
+ghost use Rattle.bhs_agents.specs.Searchers.{observation_of};
+ghost use Rattle.bhs_client.specs.Charters.{searcher_fault};
 
-use crate::searchers::{AgentNews, Searcher, SearcherFault};
+use bhs_agents::{AgentNews, Searcher, SearcherFault};
 use bhs_model::Reply;
 use bhs_protocols_charts::agent::{after, after_waking, does};
+use bhs_protocols_charts::charts::ChartFault;
 use bhs_protocols_charts::memories::{Memory, NetworkFacts};
 use bhs_schedules::Step;
 use std::alloc::Global;
@@ -47,7 +49,7 @@ impl Searcher for ChartAgent {
     fn begin(&mut self) -> Result<Step, SearcherFault> {
         self.memory = Memory::Begins;
         self.has_departed = false;
-        Ok(does(self.alloc, &self.memory)?)
+        does(self.alloc, &self.memory).map_err(searcher_fault)
     }
 
     fn next(&mut self, news: &AgentNews) -> Result<Step, SearcherFault> {
@@ -57,7 +59,7 @@ impl Searcher for ChartAgent {
         if self.has_departed {
             return Ok(Step::Stops);
         }
-        Ok(does(self.alloc, &self.memory)?)
+        does(self.alloc, &self.memory).map_err(searcher_fault)
     }
 }
 
@@ -80,7 +82,17 @@ fn after_news(
 {
     match news {
         AgentNews::Heard(Reply::No(why)) => Err(SearcherFault::Refused(*why)),
-        AgentNews::Heard(reply) => Ok(after(alloc, known, held, reply)?),
+        AgentNews::Heard(reply) => after(alloc, known, held, reply).map_err(searcher_fault),
         AgentNews::Woke => Ok(after_waking(held)),
+    }
+}
+
+// A chart is not written only if a number is too large, or memory is lacking.
+fn searcher_fault(fault: ChartFault) -> SearcherFault
+    ensures { result ≡ searcher_fault fault }
+{
+    match fault {
+        ChartFault::TooLarge => SearcherFault::Size,
+        ChartFault::Memory => SearcherFault::Memory,
     }
 }

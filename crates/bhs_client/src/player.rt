@@ -2,14 +2,13 @@
 
 ghost use Rattle.std.specs.Prelude.{◌≡◌, ◌≢◌, ◌≤◌, ℕ, List, string_bytes, IfErr, IfOk, IsTrue, OnOk, OnErr};
 ghost use Rattle.bhs_client.specs.declared.player.PlayFault.{PlayFault};
-ghost use Rattle.bhs_client.specs.Searchers.{observation_of};
+ghost use Rattle.bhs_agents.specs.Searchers.{observation_of};
 ghost use Rattle.bhs_client.specs.Talks.{Breaks, BreaksOff, Ends, Hears, HearsNone, Meets, Says, end_after, fault_by};
 ghost use Rattle.bhs_schedules.specs.Strategies.{Woke};
 
 use crate::commands::line_of;
 use crate::replies::reply_of;
-use crate::searchers::{AgentNews, Searcher, SearcherFault};
-use crate::wake_ups::WakeUps;
+use bhs_agents::{AgentNews, PlayLimits, Searcher, SearcherFault, WakeUps};
 use bhs_model::{Command, MAX_LINE, Reply, Why};
 use bhs_schedules::Step;
 use std::alloc::{AllocError, Global};
@@ -47,15 +46,6 @@ pub trait ServerConnection {
 #[derive(Clone, Copy, Debug, PartialEq, Eq, Drop, Error)]
 #[error("the connection is lost")]
 pub struct Lost;
-
-/// How long an agent plays.
-#[derive(Clone, Copy, Debug, PartialEq, Eq, Drop)]
-pub struct PlayLimits {
-    /// The agent hears a reply or wakes at most this often.
-    pub turns: u64,
-    /// The spurious wake-ups in a row that the agent may have. One wake-up more, and the agent sleeps until the close.
-    pub spurious_wakeups: u32,
-}
 
 /// How an agent ended that has played to its end.
 #[derive(Clone, Copy, Debug, PartialEq, Eq, Drop)]

@@ -5,9 +5,9 @@ ghost use Rattle.bhs_schedules.specs.Strategies.{Heard};
 ghost use Rattle.bhs_protocols.specs.Halves as halves_specs;
 ghost use Rattle.bhs_protocols.specs.Shuttle as shuttle_specs;
 ghost use Rattle.bhs_client.specs.Protocols as specs;
-ghost use Rattle.bhs_client.specs.Searchers.{observation_of};
+ghost use Rattle.bhs_agents.specs.Searchers.{observation_of};
 
-use crate::searchers::{AgentNews, Searcher, SearcherFault};
+use bhs_agents::{AgentNews, Searcher, SearcherFault};
 use bhs_model::Reply;
 use bhs_protocols::{halves, shuttle};
 use bhs_schedules::Step;

@@ -7,7 +7,7 @@ use Rattle.bhs_schedules.specs.declared.answers.Step.{Step}
 use Rattle.bhs_schedules.specs.declared.answers.Step.TheVariants.{Says as SaysIt, Sleeps, Stops, Fails}
 use Rattle.bhs_schedules.specs.Strategies.{History, Observation, Strategy}
 use Rattle.bhs_client.specs.Talks.{Says, Meets, speaks, sleeps, sleeps_on, Talks, begins, goes_on}
-use Rattle.bhs_client.specs.WakeUps.{wake_ups_in}
+use Rattle.bhs_agents.specs.WakeUps.{wake_ups_in}
 use Rattle.bhs_client.specs.Transcripts.{Transcript, unused, Writes, Reads}
 use Rattle.bhs_player.specs.declared.wire.Wire.{Wire}
 use Rattle.bhs_player.specs.Wires.{ended, IsHeard, IsSaid}

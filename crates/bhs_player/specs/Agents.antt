@@ -5,7 +5,7 @@ use Rattle.bhs_wasm.specs.Contents.{contents_of}
 use Rattle.bhs_wasm_read.specs.Modules.{module_in}
 use Rattle.bhs_wasm_team.specs.declared.agents.TheConstants.{FUEL}
 use Rattle.bhs_client.specs.Charters.{strategy_of_charter}
-use Rattle.bhs_client.specs.Modules.{strategy_of_module}
+use Rattle.bhs_agents.specs.Modules.{strategy_of_module}
 use Rattle.bhs_client.specs.Protocols.{strategy_of_agent}
 use Rattle.bhs_player.specs.declared.agents.PlayedAgent.{PlayedAgent}
 use Rattle.bhs_player.specs.declared.agents.PlayedAgent.TheVariants as played

@@ -6,8 +6,9 @@ ghost use Rattle.bhs_wasm_read.specs.Modules.{module_in};
 ghost use Rattle.bhs_player.specs.Agents.{IsChosen};
 
 use crate::words::AgentChoice;
+use bhs_agents::ModuleAgent;
 use bhs_cli_words::AgentModule;
-use bhs_client::{ChartAgent, ModuleAgent, PlayFault, ProtocolAgent};
+use bhs_client::{ChartAgent, PlayFault, ProtocolAgent};
 use bhs_model::{MAX_TEXT, MAX_TURNS};
 use bhs_stream::{ReadFault, read_text};
 use bhs_wasm_read::{ModuleFault, module_of};

@@ -7,7 +7,8 @@ ghost use Rattle.bhs_player.specs.Wires.{IsCut, IsHeard, IsSaid, IsUnheard};
 
 use crate::agents::PlayedAgent;
 use crate::wire::Wire;
-use bhs_client::{PlayEnd, PlayFault, PlayLimits, play};
+use bhs_agents::PlayLimits;
+use bhs_client::{PlayEnd, PlayFault, play};
 use bhs_stream::{Input, Output};
 
 // The most observations of an agent: many more than there are in any match of a file.

@@ -21,7 +21,7 @@ use Rattle.bhs_schedules.specs.declared.answers.Step.TheVariants.{Says, Stops}
 use Rattle.bhs_schedules.specs.Strategies.{History, Heard, Strategy}
 use Rattle.bhs_client.specs.CommandLines.{data_of, PortFits}
 use Rattle.bhs_client.specs.Talks.{IsLineOf, Talks, Meets, begins, goes_on, speaks}
-use Rattle.bhs_client.specs.WakeUps.{wake_ups_in}
+use Rattle.bhs_agents.specs.WakeUps.{wake_ups_in}
 use Rattle.bhs_client.proofs.CommandLemmas.{first_in-data_of, is_plain}
 use Rattle.bhs_client.proofs.ReplyLemmas.{reply_on-line}
 use Rattle.bhs_client.specs.Transcripts.{Transcript, unused, Writes, Reads}

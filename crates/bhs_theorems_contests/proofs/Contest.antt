@@ -33,13 +33,15 @@ use Rattle.bhs_theorems_isolation.specs.Met.{Meeting, Hears, Refuses, Arrives, v
 use Rattle.bhs_theorems_isolation.specs.ContestMet.{Attended, TookPart, IsLeftAs, IsLeftAway, IsSentAsMet, is_whole}
 use Rattle.bhs_theorems_isolation.specs.ContestMet.{AreSaid}
 use Rattle.bhs_theorems_isolation.proofs.ContestMetLemmas.{sent_as_met_lemma}
-use Rattle.bhs_theorems_contests.specs.Contests.{IsPlayedOut, IsPlayedBy, IsPlayedIn, IsPlainMatch, IsOrderly, trial_in}
+use Rattle.bhs_attest.specs.Laws.{trial_in}
+use Rattle.bhs_theorems_contests.specs.Contests.{IsPlayedOut, IsPlayedBy, IsPlayedIn, IsPlainMatch, IsOrderly}
 use Rattle.bhs_theorems_contests.specs.Contests.{ContestsAreSolved, ContestsAreNeverWrong, ContestsStayWithin}
 use Rattle.bhs_theorems_contests.proofs.Steps.{steps, steps_met, steps-view_from}
 use Rattle.bhs_theorems_contests.proofs.Doings.{Doing, met_in, Follows, with_arrival, arrival_met}
 use Rattle.bhs_theorems_contests.proofs.Doings.{arrival_follows}
-use Rattle.bhs_theorems_contests.proofs.Scenes.{Keeps, IsPlayedTo, terms_of}
+use Rattle.bhs_theorems_contests.proofs.Scenes.{Keeps, terms_of}
 use Rattle.bhs_theorems_contests.proofs.Heart.{heart}
+use Rattle.bhs_theorems_contests.proofs.Reached.{IsReached, reached_by_play}
 use Rattle.bhs_theorems_contests.proofs.Early.{within_early}
 use Rattle.bhs_theorems_contests.proofs.Final.{judged, never_wrong}
 use Rattle.bhs_theorems_contests.proofs.Talking.{spoken}
@@ -259,28 +261,26 @@ module _ (play : Play) (held : Held) (wakeups : ℕ) (strategies : Strategies) (
   }
 
   -- a schedule comes to where the log does
-  played_to : (moves most_lost : ℕ) (clients : (agent : ℕ) → Attended)
+  reached : (moves most_lost : ℕ) (clients : (agent : ℕ) → Attended)
       → ((agent : ℕ) → agent < play.setup.agents → IsPlayedIn play wakeups strategies agent (clients agent))
       → IsOrderly trial → EveryScheduleSolves trial moves most_lost → EveryScheduleCanRest trial
-      → IsPlayedTo trial final events
-  played_to moves most_lost clients played orderly solves rests =
-      heart trial final orderly moves most_lost solves rests events [] (begins (to_play clients played))
-      plain.kept plain.free (λ agent. refl)
+      → IsReached trial events
+  reached moves most_lost clients played orderly solves rests =
+      reached_by_play trial final events
+      (heart trial final orderly moves most_lost solves rests events [] (begins (to_play clients played))
+      plain.kept plain.free (λ agent. refl))
 
 pub contests_are_solved : ContestsAreSolved
 contests_are_solved play held wakeups strategies moves lost clients played plain done orderly solves rests =
-    judged (trial_in play held wakeups strategies) (λ agent. (state_of play).past agent) moves lost solves
-    (events_of play.log) (decided_done play done)
-    (played_to play held wakeups strategies plain moves lost clients played orderly solves rests)
+    judged (trial_in play held wakeups strategies) moves lost solves (events_of play.log) (decided_done play done)
+    (reached play held wakeups strategies plain moves lost clients played orderly solves rests)
 
 pub contests_are_never_wrong : ContestsAreNeverWrong
 contests_are_never_wrong play held wakeups strategies moves lost clients played plain orderly solves rests =
-    never_wrong (trial_in play held wakeups strategies) (λ agent. (state_of play).past agent) moves lost solves rests
-    (events_of play.log)
-    (played_to play held wakeups strategies plain moves lost clients played orderly solves rests)
+    never_wrong (trial_in play held wakeups strategies) moves lost solves rests (events_of play.log)
+    (reached play held wakeups strategies plain moves lost clients played orderly solves rests)
 
 pub contests_stay_within : ContestsStayWithin
 contests_stay_within play held wakeups strategies moves lost clients played plain orderly solves rests =
-    within_early (trial_in play held wakeups strategies) (λ agent. (state_of play).past agent) moves lost solves rests
-    (events_of play.log)
-    (played_to play held wakeups strategies plain moves lost clients played orderly solves rests)
+    within_early (trial_in play held wakeups strategies) moves lost solves rests (events_of play.log)
+    (reached play held wakeups strategies plain moves lost clients played orderly solves rests)

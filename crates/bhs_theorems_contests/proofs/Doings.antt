@@ -7,7 +7,7 @@ use Rattle.bhs_schedules.specs.declared.answers.Step.TheVariants.{Says, Sleeps, 
 use Rattle.bhs_schedules.specs.Strategies.{Heard, Woke, History, Strategy}
 use Rattle.bhs_theorems_isolation.specs.Met.{Meeting, Hears, Refuses, Arrives, past_after, view_from}
 use Rattle.bhs_theorems_isolation.specs.Met.{answer_to, takes_commands, IsDue}
-use Rattle.bhs_client.specs.WakeUps.{wake_ups_in}
+use Rattle.bhs_agents.specs.WakeUps.{wake_ups_in}
 
 pub data Doing : Type 0 where
   Naps : Doing

@@ -6,7 +6,6 @@ use Rattle.std.specs.List.{range_with_len}
 use Rattle.std.proofs.lemmas.Bool.{cond_both}
 use Rattle.bhs_model.specs.declared.events.Event.{Event}
 use Rattle.bhs_model.specs.declared.events.Event.TheVariants.{Tell, Deliver, Close}
-use Rattle.bhs_model.specs.Views.{View}
 use Rattle.bhs_model.specs.Worlds.{World}
 use Rattle.bhs_model.specs.Runs.{State, changed, reply, run}
 use Rattle.bhs_model.specs.Kept.{lost, lost_after, destroys}
@@ -23,8 +22,7 @@ use Rattle.bhs_schedules.proofs.Losses.{counted_within}
 use Rattle.bhs_schedules.proofs.Turns.{turns_append}
 use Rattle.bhs_schedules.proofs.Turns.{found_more, lost_more, verdict_is}
 use Rattle.bhs_theorems_contests.specs.Contests.{IsWithin}
-use Rattle.bhs_theorems_contests.proofs.Findings.{findings_kept}
-use Rattle.bhs_theorems_contests.proofs.Scenes.{Keeps, IsPlayedTo, lost_is}
+use Rattle.bhs_theorems_contests.proofs.Reached.{IsReached, lost_is, found_is}
 
 -- ---- events more
 
@@ -82,45 +80,42 @@ turns_further trial scene (agent ∷ schedule) =
     ≤ (findings trial.world (turns trial scene (agent ∷ schedule)).events).moves = rest.moves in
     record { moves = omega (arith, fewer, others); lost = λ other is. rest.lost other (first.lost other is) }
 
--- ---- a contest
+-- ---- a log
 
-pub within_early : (trial : Trial) (final : ℕ → View) (moves most_lost : ℕ)
-    → EveryScheduleSolves trial moves most_lost → EveryScheduleCanRest trial → (whole : List Event)
-    → IsPlayedTo trial final whole → IsWithin moves most_lost (verdict_after trial.world whole)
-within_early trial final moves most_lost solves rests whole played =
+pub within_early : (trial : Trial) (moves most_lost : ℕ) → EveryScheduleSolves trial moves most_lost
+    → EveryScheduleCanRest trial → (whole : List Event) → IsReached trial whole
+    → IsWithin moves most_lost (verdict_after trial.world whole)
+within_early trial moves most_lost solves rests whole r =
     let world : World = trial.world in
-    let front : List Event = played.front in
-    let k : Keeps trial final front = played.keeps in
+    let scene : Scene = under trial r.schedule in
     let all : ℕ = world.agents in
-    let found : findings world whole ≡ findings world k.scene.events = elim played.end [
-      | inl is ↦ ap (findings world) is ∙ sym (sym (findings_kept world k.scene.events) ∙ ap (findings world) k.kept)
-      | inr is ↦ ap (findings world) is ∙ found_more world front Close
-          ∙ sym (sym (findings_kept world k.scene.events) ∙ ap (findings world) k.kept)
+    let found : findings world whole ≡ findings world scene.events = elim r.end [
+      | inl is ↦ ap (findings world) is ∙ sym (found_is trial whole r)
+      | inr is ↦ ap (findings world) is ∙ found_more world r.front Close ∙ sym (found_is trial whole r)
     ] in
-    let marks : lost world whole ≡ lost world k.scene.events = elim played.end [
-      | inl is ↦ ap (lost world) is ∙ sym (lost_is trial final front k)
-      | inr is ↦ ap (lost world) is ∙ lost_more world front Close ∙ sym (lost_is trial final front k)
+    let marks : lost world whole ≡ lost world scene.events = elim r.end [
+      | inl is ↦ ap (lost world) is ∙ sym (lost_is trial whole r)
+      | inr is ↦ ap (lost world) is ∙ lost_more world r.front Close ∙ sym (lost_is trial whole r)
     ] in
-    let more = rests k.schedule in
-    let last : Scene = turns trial k.scene more.0 in
-    let there : under trial (k.schedule ++ more.0) ≡ last =
-    turns_append trial opening k.schedule more.0 ∙ ap (λ (scene : Scene). turns trial scene more.0) k.is in
-    let further : IsFurther world k.scene.events last.events = turns_further trial k.scene more.0 in
-    let solved = solves (k.schedule ++ more.0) more.1 in
+    let more = rests r.schedule in
+    let last : Scene = turns trial scene more.0 in
+    let there : under trial (r.schedule ++ more.0) ≡ last = turns_append trial opening r.schedule more.0 in
+    let further : IsFurther world scene.events last.events = turns_further trial scene more.0 in
+    let solved = solves (r.schedule ++ more.0) more.1 in
     let judged = ap (verdict trial) there ∙ verdict_is trial last in
-    let last_moves : (verdict trial (under trial (k.schedule ++ more.0))).moves ≡ (findings world last.events).moves =
+    let last_moves : (verdict trial (under trial (r.schedule ++ more.0))).moves ≡ (findings world last.events).moves =
     ap (λ (v : Verdict). v.moves) judged in
-    let last_lost : (verdict trial (under trial (k.schedule ++ more.0))).lost
+    let last_lost : (verdict trial (under trial (r.schedule ++ more.0))).lost
     ≡ count_by (lost world last.events) (range_with_len 0 all) = ap (λ (v : Verdict). v.lost) judged in
-    let most_made : (verdict trial (under trial (k.schedule ++ more.0))).moves ≤ moves = solved.moves in
-    let most_gone : (verdict trial (under trial (k.schedule ++ more.0))).lost ≤ most_lost = solved.lost in
+    let most_made : (verdict trial (under trial (r.schedule ++ more.0))).moves ≤ moves = solved.moves in
+    let most_gone : (verdict trial (under trial (r.schedule ++ more.0))).lost ≤ most_lost = solved.lost in
     let made : (findings world whole).moves ≤ (findings world last.events).moves =
     subst (λ (f : Findings). f.moves ≤ (findings world last.events).moves) (sym found) further.moves in
     let gone : count_by (lost world whole) (range_with_len 0 all)
     ≤ count_by (lost world last.events) (range_with_len 0 all) =
     subst (λ (m : ℕ → Bool). count_by m (range_with_len 0 all)
     ≤ count_by (lost world last.events) (range_with_len 0 all)) (sym marks)
-    (counted_within (lost world k.scene.events) (lost world last.events) further.lost (range_with_len 0 all)) in
+    (counted_within (lost world scene.events) (lost world last.events) further.lost (range_with_len 0 all)) in
     record {
       moves = omega (arith, made, last_moves, most_made);
       lost = omega (arith, gone, last_lost, most_gone);

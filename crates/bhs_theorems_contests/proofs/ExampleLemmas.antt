@@ -23,7 +23,8 @@ use Rattle.bhs_shared_match.specs.SharedMatches.{Given}
 use Rattle.bhs_session.specs.Texts.{text_of}
 use Rattle.bhs_client.specs.CommandLines.{data_of}
 use Rattle.bhs_theorems_isolation.specs.ContestMet.{TookPart}
-use Rattle.bhs_theorems_contests.specs.Contests.{IsPlayedIn, trial_in}
+use Rattle.bhs_attest.specs.Laws.{trial_in}
+use Rattle.bhs_theorems_contests.specs.Contests.{IsPlayedIn}
 use Rattle.bhs_theorems_contests.specs.Example.{searched_triangle, said_by_first, said_by_second, pass_of}
 use Rattle.bhs_theorems_contests.specs.Example.{first, second, clients}
 use Rattle.bhs_theorems_contests.specs.Example.{TheLawSpeaksOfIt}

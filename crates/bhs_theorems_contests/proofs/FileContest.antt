@@ -19,9 +19,10 @@ use Rattle.bhs_wasm_team.specs.Agents.{strategy_of}
 use Rattle.bhs_wasm_team.specs.Laws.{IsSolved, trial_in as trial_of_roles}
 use Rattle.bhs_wasm_team.specs.Roles.{all_roles, role_at, role_of, role_number, strategies_in}
 use Rattle.bhs_cli_explore.specs.ModuleExploration.{ModuleLine, arguments_of, programs_of}
-use Rattle.bhs_theorems_contests.specs.Contests.{IsOrderly, WaitsOnLinks, trial_in}
-use Rattle.bhs_theorems_contests.specs.ModuleContests.{IsModuleContest, ModulesAreNeverWrong, ModulesSolveContests}
-use Rattle.bhs_theorems_contests.specs.ModuleContests.{RunsItsFile}
+use Rattle.bhs_attest.specs.Laws.{trial_in}
+use Rattle.bhs_theorems_contests.specs.Contests.{IsOrderly, WaitsOnLinks}
+use Rattle.bhs_theorems_contests.specs.ModuleContests.{IsExplored, IsModuleContest, ModulesAreNeverWrong}
+use Rattle.bhs_theorems_contests.specs.ModuleContests.{ModulesSolveContests, RunsItsFile}
 use Rattle.bhs_theorems_contests.proofs.Contest.{contests_are_solved, contests_are_never_wrong, contests_stay_within}
 use Rattle.bhs_theorems_contests.proofs.Orderly.{waiters_are_orderly}
 use Rattle.bhs_theorems_contests.proofs.Waiters.{programs_wait}
@@ -65,51 +66,66 @@ module _ (lines : List ModuleLine) (roles : Roles)
       let contents : contents_of (role_at roles place).program ≡ it.program = cc in
       it.runs ∙ ap₂ (λ (c : Contents) (a : List ℕ). strategy_of c a FUEL) (sym contents) (sym arguments)
 
-  strategies_are : (strategies : Strategies) → ((agent : ℕ) → RunsItsFile lines roles agent (strategies agent))
-      → strategies_in roles FUEL ≡ strategies
-  strategies_are strategies run =
-      sym (fun_ext (λ (agent : ℕ). runs_its_role agent (strategies agent) (run agent)))
+-- ---- a match that was explored
 
-module _ (play : Play) (bounds : Bounds) (it : IsModuleContest play bounds) where
-  abbrev links : List (ℕ × ℕ)
+module _ (play : Play) (bounds : Bounds) (it : IsExplored play bounds) where
+  abbrev pub links : List (ℕ × ℕ)
   links = it.report.is_found.links
 
-  abbrev wakeups : ℕ
+  abbrev pub wakeups : ℕ
   wakeups = it.exploration.wakeups
 
-  abbrev trial : Trial
-  trial = trial_in play (is_held links) wakeups it.strategies
-
-  same : strategies_in it.roles FUEL ≡ it.strategies
-  same = strategies_are it.report.lines it.roles it.report.are (it.report.have ∙ sym it.all) it.strategies it.runs
-
-  by : IsSolved trial bounds
-  by =
-      let solved : IsSolved (trial_of_roles play.net play.setup links wakeups it.roles FUEL) bounds =
+  -- the strategies of the roles solve it
+  pub roles_solve : IsSolved (trial_of_roles play.net play.setup links wakeups it.roles FUEL) bounds
+  roles_solve =
       subst (λ (n : Network). IsSolved (trial_of_roles n play.setup links wakeups it.roles FUEL) bounds) it.net
       (subst (λ (s : Setup). IsSolved (trial_of_roles it.ready.game.net s links wakeups it.roles FUEL) bounds) it.setup
-      (it.report.is_found.is_found.solved bounds it.solves)) in
-      subst (λ (s : Strategies). IsSolved (trial_in play (is_held links) wakeups s) bounds) same solved
+      (it.report.is_found.is_found.solved bounds it.solves))
+
+  pub runs_as_explored : (agent : ℕ) (strategy : Strategy) → RunsItsFile it.report.lines it.roles agent strategy
+      → strategy ≡ strategies_in it.roles FUEL agent
+  runs_as_explored = runs_its_role it.report.lines it.roles it.report.are (it.report.have ∙ sym it.all)
+
+-- ---- a contest
+
+module _ (play : Play) (bounds : Bounds) (it : IsModuleContest play bounds) where
+  abbrev held : List (ℕ × ℕ)
+  held = links play bounds it.explored
+
+  abbrev spurious : ℕ
+  spurious = wakeups play bounds it.explored
+
+  abbrev trial : Trial
+  trial = trial_in play (is_held held) spurious it.strategies
+
+  same : strategies_in it.explored.roles FUEL ≡ it.strategies
+  same = sym (fun_ext (λ (agent : ℕ).
+      runs_as_explored play bounds it.explored agent (it.strategies agent) (it.runs agent)))
+
+  by : IsSolved trial bounds
+  by = subst (λ (s : Strategies). IsSolved (trial_in play (is_held held) spurious s) bounds) same
+      (roles_solve play bounds it.explored)
 
   orderly : IsOrderly trial
   orderly =
       let waits : (agent : ℕ) → WaitsOnLinks (it.strategies agent) = λ agent. subst WaitsOnLinks
-      (ap (λ (s : Strategies). s agent) same) (programs_wait.modules_wait (contents_of (role_of it.roles agent).program)
-      (role_of it.roles agent).arguments.items FUEL) in
+      (ap (λ (s : Strategies). s agent) same)
+      (programs_wait.modules_wait (contents_of (role_of it.explored.roles agent).program)
+      (role_of it.explored.roles agent).arguments.items FUEL) in
       waiters_are_orderly trial it.enters waits
 
 pub modules_solve_contests : ModulesSolveContests
 modules_solve_contests play bounds it done =
-    contests_are_solved play (is_held (links play bounds it)) (wakeups play bounds it) it.strategies bounds.moves
+    contests_are_solved play (is_held (held play bounds it)) (spurious play bounds it) it.strategies bounds.moves
     bounds.lost it.clients it.played it.plain done (orderly play bounds it) (by play bounds it).solves
     (by play bounds it).rests
 
 pub modules_are_never_wrong : ModulesAreNeverWrong
 modules_are_never_wrong play bounds it = (
-  contests_are_never_wrong play (is_held (links play bounds it)) (wakeups play bounds it) it.strategies bounds.moves
+  contests_are_never_wrong play (is_held (held play bounds it)) (spurious play bounds it) it.strategies bounds.moves
       bounds.lost it.clients it.played it.plain (orderly play bounds it) (by play bounds it).solves
       (by play bounds it).rests,
-  contests_stay_within play (is_held (links play bounds it)) (wakeups play bounds it) it.strategies bounds.moves
+  contests_stay_within play (is_held (held play bounds it)) (spurious play bounds it) it.strategies bounds.moves
       bounds.lost it.clients it.played it.plain (orderly play bounds it) (by play bounds it).solves
       (by play bounds it).rests,
 )

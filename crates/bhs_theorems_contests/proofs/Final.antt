@@ -32,8 +32,7 @@ use Rattle.bhs_protocols.specs.Configurations.{Configuration, blank, turns_in}
 use Rattle.bhs_protocols.proofs.ConfigurationLemmas.{configurations_follow}
 use Rattle.bhs_protocols.proofs.LastWordLemmas.{right_after}
 use Rattle.bhs_model.proofs.SameDoomLemmas.{range_out}
-use Rattle.bhs_theorems_contests.proofs.Findings.{findings_kept}
-use Rattle.bhs_theorems_contests.proofs.Scenes.{Keeps, IsPlayedTo, state_is, lost_is}
+use Rattle.bhs_theorems_contests.proofs.Reached.{IsReached, state_is, lost_is, found_is}
 
 -- who is done in some events is done in others with the same past and the same lost agents
 done_same : (world : World) (one two : List Event) → run world two ≡ run world one → lost world two ≡ lost world one
@@ -97,19 +96,19 @@ same_after : (world : World) (one two : List Event) → run world one ≡ run wo
     ≡ findings world two → lost world one ≡ lost world two → verdict_after world one ≡ verdict_after world two
 same_after world one two same found marks i = verdict_by world (same i) (found i) (marks i)
 
-pub judged : (trial : Trial) (final : ℕ → View) (moves most_lost : ℕ) → EveryScheduleSolves trial moves most_lost
-    → (whole : List Event) → AreDone trial.world whole → IsPlayedTo trial final whole
+pub judged : (trial : Trial) (moves most_lost : ℕ) → EveryScheduleSolves trial moves most_lost → (whole : List Event)
+    → AreDone trial.world whole → IsReached trial whole
     → IsSolvedWithin moves most_lost (verdict_after trial.world whole)
-judged trial final moves most_lost solves whole done played =
+judged trial moves most_lost solves whole done r =
     let world : World = trial.world in
-    let front : List Event = played.front in
-    let k : Keeps trial final front = played.keeps in
-    let same : (run world front).past ≡ (run world whole).past = elim played.end [
+    let front : List Event = r.front in
+    let scene : Scene = under trial r.schedule in
+    let same : (run world front).past ≡ (run world whole).past = elim r.end [
       | inl is ↦ sym (ap (λ (events : List Event). (run world events).past) is)
       | inr is ↦ sym (ap (λ (events : List Event). (run world events).past) is
           ∙ ap (λ (s : State). s.past) (run_more world front Close))
     ] in
-    let same_lost : lost world front ≡ lost world whole = elim played.end [
+    let same_lost : lost world front ≡ lost world whole = elim r.end [
       | inl is ↦ sym (ap (lost world) is)
       | inr is ↦ sym (ap (lost world) is ∙ lost_more world front Close)
     ] in
@@ -117,21 +116,18 @@ judged trial final moves most_lost solves whole done played =
       | inl ended ↦ inl (ap (λ (pasts : ℕ → View). standing (pasts agent)) same ∙ ended)
       | inr is ↦ inr (ap (λ (marks : ℕ → Bool). marks agent) same_lost ∙ is)
     ] in
-    let done_scene : AreDone world k.scene.events =
-    done_same world front k.scene.events (state_is trial final front k) (lost_is trial final front k) done_front in
-    let rest : IsAtRest trial (under trial k.schedule) =
-    subst (IsAtRest trial) (sym k.is) (at_rest trial k.schedule k.scene k.is done_scene) in
-    let there : verdict_after world whole ≡ verdict_after world front = elim played.end [
+    let done_scene : AreDone world scene.events =
+    done_same world front scene.events (state_is trial whole r) (lost_is trial whole r) done_front in
+    let there : verdict_after world whole ≡ verdict_after world front = elim r.end [
       | inl is ↦ ap (verdict_after world) is
       | inr is ↦ ap (verdict_after world) is ∙ verdicts_stand_lemma world front (Close ∷ []) done_front
     ] in
-    let here : verdict_after world front ≡ verdict_after world k.scene.events =
-    sym (same_after world k.scene.events front (state_is trial final front k)
-    (sym (findings_kept world k.scene.events) ∙ ap (findings world) k.kept) (lost_is trial final front k)) in
-    let closed : verdict trial k.scene ≡ verdict_after world k.scene.events =
-    verdicts_stand_lemma world k.scene.events (Close ∷ []) done_scene in
-    subst (IsSolvedWithin moves most_lost)
-    (ap (verdict trial) k.is ∙ closed ∙ sym here ∙ sym there) (solves k.schedule rest)
+    let here : verdict_after world scene.events ≡ verdict_after world front =
+    same_after world scene.events front (state_is trial whole r) (found_is trial whole r) (lost_is trial whole r) in
+    let closed : verdict trial scene ≡ verdict_after world scene.events =
+    verdicts_stand_lemma world scene.events (Close ∷ []) done_scene in
+    subst (IsSolvedWithin moves most_lost) (closed ∙ here ∙ sym there)
+    (solves r.schedule (at_rest trial r.schedule scene refl done_scene))
 
 -- ---- no accusation is wrong
 
@@ -156,17 +152,15 @@ wrongly : (world : World) (accused : Option (ℕ × ℕ)) → passes (λ link. n
 wrongly world None is = absurd (false≢true is)
 wrongly world (Some link) is = record { link = link; is = refl; wrong = not-true (is_right world link) is }
 
-pub never_wrong : (trial : Trial) (final : ℕ → View) (moves most_lost : ℕ)
-    → EveryScheduleSolves trial moves most_lost → EveryScheduleCanRest trial → (whole : List Event)
-    → IsPlayedTo trial final whole → (verdict_after trial.world whole).outcome ≢ Wrong
-never_wrong trial final moves most_lost solves rests whole played wrong =
+pub never_wrong : (trial : Trial) (moves most_lost : ℕ) → EveryScheduleSolves trial moves most_lost
+    → EveryScheduleCanRest trial → (whole : List Event) → IsReached trial whole
+    → (verdict_after trial.world whole).outcome ≢ Wrong
+never_wrong trial moves most_lost solves rests whole r wrong =
     let world : World = trial.world in
-    let front : List Event = played.front in
-    let k : Keeps trial final front = played.keeps in
-    let same : findings world whole ≡ findings world k.scene.events = elim played.end [
-      | inl is ↦ ap (findings world) is ∙ sym (sym (findings_kept world k.scene.events) ∙ ap (findings world) k.kept)
-      | inr is ↦ ap (findings world) is ∙ found_more world front Close
-          ∙ sym (sym (findings_kept world k.scene.events) ∙ ap (findings world) k.kept)
+    let scene : Scene = under trial r.schedule in
+    let same : findings world whole ≡ findings world scene.events = elim r.end [
+      | inl is ↦ ap (findings world) is ∙ sym (found_is trial whole r)
+      | inr is ↦ ap (findings world) is ∙ found_more world r.front Close ∙ sym (found_is trial whole r)
     ] in
     let some = range_out (λ (agent : ℕ). passes (λ link. not (is_right world link))
     ((findings world whole).accused agent)) world.agents
@@ -174,10 +168,9 @@ never_wrong trial final moves most_lost solves rests whole played wrong =
     (is_silent world (findings world whole)) (is_unfinished world (run world whole).position)
     (accuses world (findings world whole) (λ link. not (is_over_dark world link)))
     (first_unreached world (findings world whole)) wrong) in
-    let it = wrongly world ((findings world whole).accused some.0) some.2 in
-    let there : (turns_in trial blank k.schedule).accused some.0 ≡ Some it.link =
-    ap (λ (c : Configuration). c.accused some.0) (sym (configurations_follow trial k.schedule))
-    ∙ ap (λ (scene : Scene). (findings world scene.events).accused some.0) k.is
-    ∙ ap (λ (found : Findings). found.accused some.0) (sym same) ∙ it.is in
-    true≢false (sym (right_after trial k.schedule some.0 it.link
-    (record { moves = moves; lost = most_lost; solves = solves; rests = rests }) some.1 there) ∙ it.wrong)
+    let accusation = wrongly world ((findings world whole).accused some.0) some.2 in
+    let there : (turns_in trial blank r.schedule).accused some.0 ≡ Some accusation.link =
+    ap (λ (c : Configuration). c.accused some.0) (sym (configurations_follow trial r.schedule))
+    ∙ ap (λ (found : Findings). found.accused some.0) (sym same) ∙ accusation.is in
+    true≢false (sym (right_after trial r.schedule some.0 accusation.link
+    (record { moves = moves; lost = most_lost; solves = solves; rests = rests }) some.1 there) ∙ accusation.wrong)

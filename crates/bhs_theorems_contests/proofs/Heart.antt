@@ -26,13 +26,15 @@ use Rattle.bhs_schedules.specs.Everywhere.{EveryScheduleSolves}
 use Rattle.bhs_schedules.specs.Endings.{EveryScheduleCanRest}
 use Rattle.bhs_schedules.proofs.Turns.{run_more, lost_more}
 use Rattle.bhs_theorems_isolation.specs.Met.{Meeting, Hears, Refuses, Arrives, past_after, answer_to, IsDue}
-use Rattle.bhs_theorems_contests.specs.Contests.{IsOrderly, AreOverFree}
+use Rattle.bhs_attest.specs.Laws.{AreOverFree}
+use Rattle.bhs_attest.proofs.Deeds.{says_deed}
+use Rattle.bhs_theorems_contests.specs.Contests.{IsOrderly}
 use Rattle.bhs_theorems_contests.proofs.Steps.{steps, steps_met, Grows, grow_run}
-use Rattle.bhs_theorems_contests.proofs.Untouched.{all_out}
+use Rattle.bhs_attest.proofs.Untouched.{all_out}
 use Rattle.bhs_theorems_contests.proofs.Stuck.{never_stuck}
 use Rattle.bhs_theorems_contests.proofs.Doings.{Doing, Naps, Meets, met_in, IsBy, IsOdd, Follows}
-use Rattle.bhs_theorems_contests.proofs.Scenes.{Keeps, IsPlayedTo, state_is, stands_at, takes_at}
-use Rattle.bhs_theorems_contests.proofs.Scenes.{deed_is, says_deed, event_turn}
+use Rattle.bhs_theorems_contests.proofs.Scenes.{Keeps, IsPlayedTo, state_is, stands_at, listens_at}
+use Rattle.bhs_theorems_contests.proofs.Scenes.{deed_is, event_turn}
 use Rattle.bhs_theorems_contests.proofs.Scenes.{nap_turn, refuse_turn, terms_of}
 
 or_left : (one two : Bool) → one ≡ true → (one || two) ≡ true
@@ -202,7 +204,7 @@ module _ (trial : Trial) (final : ℕ → View) (orderly : IsOrderly trial) (mov
       ∙ ap (λ (step : Step). action_at trial.held trial.wakeups (state.position agent) (r.keeps.scene.woken agent) step
       agent) r.by
       ∙ says_deed trial.held trial.wakeups (state.position agent) (r.keeps.scene.woken agent) command agent
-      (takes_at trial final front agent r.due.0))
+      (listens_at trial final front agent r.due.0))
       (ap (λ (more : List Event). front ++ more) (cond-true _ _ _ is_heard))
       (ap (λ (said : Option Reply). hearing said (r.keeps.scene.history agent))
       (answered_by_past world state agent command is_heard

@@ -24,7 +24,7 @@ use Rattle.bhs_protocols.proofs.RingLemmas.{shuttle_solves_all_rings}
 use Rattle.bhs_protocols.proofs.HalvesRings.{halves_solve_all_rings}
 use Rattle.bhs_protocols_unmapped.specs.Degrees.{ports_beside}
 use Rattle.bhs_schedules.specs.Schedules.{Trial}
-use Rattle.bhs_theorems_contests.specs.Contests.{trial_in}
+use Rattle.bhs_attest.specs.Laws.{trial_in}
 use Rattle.bhs_theorems_contests.specs.Instances.{ChartersSolveContests, DividersSolveContests}
 use Rattle.bhs_theorems_contests.specs.Instances.{HalvesSolveContests, MapsSolveContests, ShuttleSolvesContests}
 use Rattle.bhs_theorems_contests.specs.Instances.{limits_of}

@@ -1,11 +1,10 @@
 pub mod Steps
-pub mod Untouched
 pub mod Stuck
 pub mod Doings
-pub mod WakeUpBounds
 pub mod Scenes
 pub mod Heart
 pub mod Findings
+pub mod Reached
 pub mod Final
 pub mod Early
 pub mod Spelling
@@ -19,3 +18,4 @@ pub mod InstanceLemmas
 pub mod FileContest
 pub mod Chains
 pub mod ExampleLemmas
+pub mod AttestedLemmas

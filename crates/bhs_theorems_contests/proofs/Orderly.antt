@@ -30,7 +30,7 @@ use Rattle.bhs_protocols.proofs.ConfigurationLemmas.{open_turn}
 use Rattle.bhs_theorems_isolation.specs.Met.{takes_commands}
 use Rattle.bhs_theorems_contests.specs.Contests.{WaitersAreOrderly}
 use Rattle.bhs_theorems_contests.proofs.Stuck.{stays_by}
-use Rattle.bhs_theorems_contests.proofs.Scenes.{by_agent}
+use Rattle.bhs_attest.proofs.Deeds.{by_agent}
 
 -- an agent has departed last, and was told so
 record HasDeparted (strategy : Strategy) (history : History) : Type 0 where

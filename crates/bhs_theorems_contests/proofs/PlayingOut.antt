@@ -25,7 +25,7 @@ use Rattle.bhs_theorems_isolation.specs.ContestMet.{AreSaid}
 use Rattle.bhs_theorems_contests.proofs.Doings.{Doing, Naps, Meets, met_in, IsBy, IsOdd, Terms, Follows}
 use Rattle.bhs_theorems_contests.proofs.Spelling.{commands_said, reply_read, some_text}
 use Rattle.bhs_theorems_contests.proofs.Talking.{IsOwn, Speaks}
-use Rattle.bhs_client.specs.WakeUps.{wake_ups_in}
+use Rattle.bhs_agents.specs.WakeUps.{wake_ups_in}
 use Rattle.bhs_theorems_contests.proofs.Plain.{IsWhole, ArePlain}
 
 -- ---- the command that a pass keeps

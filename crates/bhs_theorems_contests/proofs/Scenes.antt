@@ -1,94 +1,43 @@
 -- A scene that a schedule leads to, in which the first events of a log have happened.
 use Rattle.std.proofs.Common.{ℕ, ◌<◌, ◌≤◌, ◌≡◌, ◌∙◌, ◌⊎◌, true, false, Option}
-use Rattle.std.proofs.Common.{List, [], ◌∷◌, ◌++◌, ◌==◌, nat_lt, refl, sym, ap, ap₂}
-use Rattle.std.proofs.Common.{inl, inr, subst, arith, if◌then◌else◌, append-nil}
-use Rattle.std.proofs.lemmas.Bool.{false≢true, cond-true, cond-false, lt-ltb, le-ltb}
-use Rattle.std.proofs.lemmas.Bool.Decides.{eqb_tells}
+use Rattle.std.proofs.Common.{List, [], ◌∷◌, ◌++◌, nat_lt, refl, sym, ap, ap₂}
+use Rattle.std.proofs.Common.{subst, arith, if◌then◌else◌, append-nil}
+use Rattle.std.proofs.lemmas.Bool.{false≢true, cond-true, cond-false, lt-ltb}
 use Rattle.bhs_model.specs.declared.commands.Command.{Command}
 use Rattle.bhs_model.specs.declared.events.Event.{Event}
-use Rattle.bhs_model.specs.declared.events.Event.TheVariants.{Tell, Deliver, Close}
+use Rattle.bhs_model.specs.declared.events.Event.TheVariants.{Tell, Close}
 use Rattle.bhs_model.specs.declared.replies.Reply.{Reply}
 use Rattle.bhs_model.specs.Views.{View, standing}
 use Rattle.bhs_model.specs.Standings.{standing_at}
 use Rattle.bhs_model.specs.Worlds.{World}
 use Rattle.bhs_model.specs.Runs.{State, Position, Before, At, Bound, After, changed, heard}
-use Rattle.bhs_model.specs.Runs.{arrives, told, delivered, next}
+use Rattle.bhs_model.specs.Runs.{next}
 use Rattle.bhs_model.specs.Runs.{run, reply}
 use Rattle.bhs_model.specs.Kept.{keeps, kept, lost}
-use Rattle.bhs_model.specs.Draws.{Held}
 use Rattle.bhs_model.proofs.StepLemmas.{changed_same, changed_other, next_unheard, heard_by_past, refused_by_past}
 use Rattle.bhs_model.proofs.KeptLemmas.{kept_suffice_lemma}
 use Rattle.bhs_model.proofs.AddLemmas.{events_add_lemma}
-use Rattle.bhs_model.proofs.LegalLemmas.{all_run, either}
+use Rattle.bhs_model.proofs.LegalLemmas.{all_run}
 use Rattle.bhs_schedules.specs.declared.answers.Step.{Step}
 use Rattle.bhs_schedules.specs.declared.answers.Step.TheVariants.{Says, Sleeps}
 use Rattle.bhs_schedules.specs.Strategies.{Heard, Woke, History, hearing}
 use Rattle.bhs_schedules.specs.Schedules.{Trial, Scene, opening, state_of, Action, Makes, Wakes, Rests}
 use Rattle.bhs_schedules.specs.Schedules.{action_at, deed, done, turn, under}
-use Rattle.bhs_schedules.proofs.Turns.{run_more}
+use Rattle.bhs_schedules.proofs.Turns.{run_more, turns_append}
 use Rattle.bhs_theorems_isolation.specs.Met.{Refuses, answer_to, takes_commands, IsDue}
 use Rattle.bhs_theorems_contests.proofs.Steps.{steps, steps_met}
-use Rattle.bhs_theorems_contests.proofs.Untouched.{IsUntouched, untouched_told, untouched_deliver}
-use Rattle.bhs_theorems_contests.proofs.Stuck.{turns-append}
+use Rattle.bhs_attest.specs.Attested.{is_listening}
+use Rattle.bhs_attest.proofs.Deeds.{by_agent, IsFor, untouched_by, open_by, says_deed, wakes_deed}
 use Rattle.bhs_theorems_contests.proofs.Doings.{Doing, Naps, Meets, met_in, Terms, Follows, follows_same}
-use Rattle.bhs_theorems_contests.proofs.WakeUpBounds.{woken_few}
-use Rattle.bhs_client.specs.WakeUps.{wake_ups_in}
+use Rattle.bhs_attest.proofs.WakeUpBounds.{woken_few}
+use Rattle.bhs_agents.specs.WakeUps.{wake_ups_in}
 
--- case distinction on whether a number is this agent's
-pub by_agent : (P : ℕ → Type 0) (agent other : ℕ) → P agent → ((other == agent) ≡ false → P other) → P other
-by_agent P agent other own others = elim (eqb_tells other agent) [
-  | inl h ↦ subst P (sym h.1) own
-  | inr h ↦ others h.0
-]
-
--- what an event of an agent leaves of another
-abbrev pub IsFor : (agent : ℕ) → Event → Type 0
-IsFor agent (Tell other command) = other ≡ agent
-IsFor agent (Deliver other) = other ≡ agent
-IsFor agent Close = ⊥
-
-untouched_by : (world : World) (state : State) (agent other : ℕ) (event : Event) → IsFor agent event
-    → (other == agent) ≡ false → IsUntouched other state (next world state event)
-untouched_by world state agent other (Tell speaker command) own apart =
-    untouched_told world state speaker other command (ap (λ (k : ℕ). other == k) own ∙ apart)
-untouched_by world state agent other (Deliver traveller) own apart =
-    untouched_deliver world state traveller other (ap (λ (k : ℕ). other == k) own ∙ apart)
-untouched_by world state agent other Close own apart = absurd own
-
-open_by : (world : World) (state : State) (agent : ℕ) (event : Event) → IsFor agent event
-    → (next world state event).closed ≡ state.closed
-open_by world state agent (Tell speaker command) own =
-    either (λ (after : State). after.closed ≡ state.closed) (heard world state speaker command)
-    (told world state speaker command) state refl refl
-open_by world state agent (Deliver traveller) own =
-    either (λ (after : State). after.closed ≡ state.closed) (arrives world state traveller)
-    (delivered world state traveller (state.position traveller)) state
-    (at (state.position traveller)) refl
-  where
-    at : (position : Position) → (delivered world state traveller position).closed ≡ state.closed
-    at Before = refl
-    at (At node came) = refl
-    at (Bound node port) = refl
-    at After = refl
-open_by world state agent Close own = absurd own
-
--- the action of an agent at a node or before entering
-pub says_deed : (held : Held) (wakeups : ℕ) (position : Position) (woken : ℕ) (command : Command) (agent : ℕ)
-    → takes_commands (standing_at position) ≡ true
-    → action_at held wakeups position woken (Says command) agent ≡ Makes (Tell agent command)
-says_deed held wakeups Before woken command agent takes = refl
-says_deed held wakeups (At node came) woken command agent takes = refl
-says_deed held wakeups (Bound node port) woken command agent takes = absurd (false≢true takes)
-says_deed held wakeups After woken command agent takes = absurd (false≢true takes)
-
-wakes_deed : (held : Held) (wakeups : ℕ) (position : Position) (woken : ℕ) (agent : ℕ)
-    → takes_commands (standing_at position) ≡ true → woken ≤ wakeups
-    → action_at held wakeups position woken Sleeps agent ≡ Wakes
-wakes_deed held wakeups Before woken agent takes few = cond-false (nat_lt wakeups woken) _ _ (le-ltb wakeups woken few)
-wakes_deed held wakeups (At node came) woken agent takes few =
-    cond-false (nat_lt wakeups woken) _ _ (le-ltb wakeups woken few)
-wakes_deed held wakeups (Bound node port) woken agent takes few = absurd (false≢true takes)
-wakes_deed held wakeups After woken agent takes few = absurd (false≢true takes)
+-- who takes commands listens
+listening : (position : Position) → takes_commands (standing_at position) ≡ true → is_listening position ≡ true
+listening Before takes = refl
+listening (At node came) takes = refl
+listening (Bound node port) takes = absurd (false≢true takes)
+listening After takes = absurd (false≢true takes)
 
 abbrev pub terms_of : Trial → Terms
 terms_of trial = record { wakeups = trial.wakeups; quota = trial.world.quota; board = trial.world.board }
@@ -126,7 +75,7 @@ module _ (trial : Trial) (final : ℕ → View) where
   pub turned_is : (schedule : List ℕ) (scene : Scene) (agent : ℕ) (it : Action) → under trial schedule ≡ scene
       → deed trial scene agent ≡ it → under trial (schedule ++ agent ∷ []) ≡ done trial scene agent it
   turned_is schedule scene agent it is does =
-      turns-append trial opening schedule (agent ∷ []) ∙ ap (λ (from : Scene). turn trial from agent) is
+      turns_append trial opening schedule (agent ∷ []) ∙ ap (λ (from : Scene). turn trial from agent) is
       ∙ ap (done trial scene agent) does
 
   -- it stands where the past of the log says
@@ -134,10 +83,11 @@ module _ (trial : Trial) (final : ℕ → View) where
       ≡ standing_at ((run trial.world front).position agent)
   stands_at front agent = (all_run trial.world front agent).standing
 
-  pub takes_at : (front : List Event) (agent : ℕ)
+  pub listens_at : (front : List Event) (agent : ℕ)
       → takes_commands (standing ((run trial.world front).past agent)) ≡ true
-      → takes_commands (standing_at ((run trial.world front).position agent)) ≡ true
-  takes_at front agent takes = ap takes_commands (sym (stands_at front agent)) ∙ takes
+      → is_listening ((run trial.world front).position agent) ≡ true
+  listens_at front agent takes =
+      listening ((run trial.world front).position agent) (ap takes_commands (sym (stands_at front agent)) ∙ takes)
 
   pub deed_is : (front : List Event) (k : Keeps front) (agent : ℕ) → agent < trial.world.agents
       → deed trial k.scene agent ≡ action_at trial.held trial.wakeups ((run trial.world front).position agent)
@@ -230,7 +180,7 @@ module _ (trial : Trial) (final : ℕ → View) where
       ∙ ap (λ (step : Step). action_at trial.held trial.wakeups ((run world front).position agent)
       (scene.woken agent) step agent) sleeps
       ∙ wakes_deed trial.held trial.wakeups ((run world front).position agent) (scene.woken agent) agent
-      (takes_at front agent takes) (omega (arith, count, few)) in
+      (listens_at front agent takes) (omega (arith, count, few)) in
       record {
         keeps = record {
           scene = after;
@@ -281,7 +231,7 @@ module _ (trial : Trial) (final : ℕ → View) where
       ∙ ap (λ (step : Step). action_at trial.held trial.wakeups (state.position agent) (k.scene.woken agent) step agent)
       says
       ∙ says_deed trial.held trial.wakeups (state.position agent) (k.scene.woken agent) command agent
-      (takes_at front agent due.0))
+      (listens_at front agent due.0))
       (ap (λ (more : List Event). front ++ more) (cond-false _ _ _ unheard) ∙ append-nil front)
       (ap (λ (r : Option Reply). hearing r (k.scene.history agent))
       (refused_by_past world state agent command within k.open_still due.1))

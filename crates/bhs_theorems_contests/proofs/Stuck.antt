@@ -1,5 +1,5 @@
 -- An agent that has stopped at a node stays there, so the match is not solved.
-use Rattle.std.proofs.Common.{ℕ, ◌≡◌, ◌<◌, ◌∙◌, Bool, true, false, not, List, [], ◌∷◌}
+use Rattle.std.proofs.Common.{ℕ, ◌≡◌, ◌<◌, ◌∙◌, Bool, true, false, not, List}
 use Rattle.std.proofs.Common.{◌++◌, ◌==◌, nat_lt, refl, sym, ap}
 use Rattle.std.proofs.Common.{Option, inl, inr, subst, if◌then◌else◌}
 use Rattle.std.proofs.lemmas.Bool.{cond_both}
@@ -23,17 +23,8 @@ use Rattle.bhs_schedules.specs.Schedules.{deed, done, turn, turns, under, openin
 use Rattle.bhs_schedules.specs.Everywhere.{EveryScheduleSolves}
 use Rattle.bhs_schedules.specs.Endings.{EveryScheduleCanRest}
 use Rattle.bhs_schedules.proofs.Closed.{IsKept, kept_by_turns}
-use Rattle.bhs_schedules.proofs.Turns.{run_more, IsOwn, own_deed, verdict_is}
-use Rattle.bhs_theorems_contests.proofs.Untouched.{untouched_told, untouched_deliver}
-
--- ---- schedules one behind the other
-
-pub turns-append : (trial : Trial) (scene : Scene) (one two : List ℕ)
-    → turns trial scene (one ++ two) ≡ turns trial (turns trial scene one) two
-turns-append trial scene [] two = refl
-turns-append trial scene (agent ∷ one) two = turns-append trial (turn trial scene agent) one two
-
--- ---- agents that stopped at a node
+use Rattle.bhs_schedules.proofs.Turns.{run_more, turns_append, IsOwn, own_deed, verdict_is}
+use Rattle.bhs_attest.proofs.Untouched.{untouched_told, untouched_deliver}
 
 pub record HasStopped (trial : Trial) (agent : ℕ) (position : Position) (history : History)
     (scene : Scene) : Type 0 where
@@ -118,7 +109,7 @@ never_stuck trial moves lost solves rests schedule scene is agent node came with
     let more = rests schedule in
     let last : Scene = under trial (schedule ++ more.0) in
     let there : turns trial scene more.0 ≡ last =
-    ap (λ (from : Scene). turns trial from more.0) (sym is) ∙ sym (turns-append trial opening schedule more.0) in
+    ap (λ (from : Scene). turns trial from more.0) (sym is) ∙ sym (turns_append trial opening schedule more.0) in
     let stopped : HasStopped trial agent (At node came) (scene.history agent) last =
     subst (HasStopped trial agent (At node came) (scene.history agent)) there
     (kept_by_turns trial (HasStopped trial agent (At node came) (scene.history agent)) scene more.0

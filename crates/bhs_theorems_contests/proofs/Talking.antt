@@ -13,7 +13,7 @@ use Rattle.bhs_client.specs.ReplyLines.{reply_on}
 use Rattle.bhs_client.specs.Talks.{IsLineOf, Says as SaysTo, Meets, speaks, sleeps, sleeps_on, Talks, begins}
 use Rattle.bhs_client.specs.Talks.{goes_on}
 use Rattle.bhs_client.specs.Transcripts.{Transcript, unused, Writes, Reads}
-use Rattle.bhs_client.specs.WakeUps.{wake_ups_in}
+use Rattle.bhs_agents.specs.WakeUps.{wake_ups_in}
 
 -- what an agent says that does this next
 pub record IsLineSaid (key : List ℕ) (command : Command) (own : List ℕ) : Type 0 where

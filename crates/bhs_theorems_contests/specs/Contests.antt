@@ -1,16 +1,15 @@
 -- Contests whose agents were played by clients that follow their strategies.
-use Rattle.std.specs.Prelude.{ℕ, ◌<◌, ◌≤◌, ◌≡◌, ◌≢◌, ◌⊎◌, false, List, [], ◌∷◌, ◌++◌, map, length}
+use Rattle.std.specs.Prelude.{ℕ, ◌<◌, ◌≤◌, ◌≡◌, ◌≢◌, ◌⊎◌, List, [], ◌∷◌, ◌++◌, map, length}
 use Rattle.std.specs.List.{AllByRecursion}
 use Rattle.bhs_net.specs.Network.{IsPortLabelled}
 use Rattle.bhs_model.specs.declared.commands.Command.{Command}
 use Rattle.bhs_model.specs.declared.commands.Command.TheVariants.{Enter, Write, Depart}
 use Rattle.bhs_model.specs.declared.events.Event.{Event}
-use Rattle.bhs_model.specs.declared.events.Event.TheVariants.{Tell, Deliver}
+use Rattle.bhs_model.specs.declared.events.Event.TheVariants.{Tell}
 use Rattle.bhs_model.specs.declared.replies.Reply.TheVariants.{Gone}
 use Rattle.bhs_model.specs.Views.{Ended as Stopped, standing}
-use Rattle.bhs_model.specs.Worlds.{World}
-use Rattle.bhs_model.specs.Runs.{State, Before, Bound, initial, next}
-use Rattle.bhs_model.specs.Draws.{Held, is_held}
+use Rattle.bhs_model.specs.Runs.{Before, Bound, initial}
+use Rattle.bhs_model.specs.Draws.{Held}
 use Rattle.bhs_model.specs.Kept.{kept}
 use Rattle.bhs_model.specs.Marks.{events_of}
 use Rattle.bhs_match.specs.Decided.{AreAllDone}
@@ -28,6 +27,7 @@ use Rattle.bhs_schedules.specs.Everywhere.{IsSolvedWithin, EveryScheduleSolves, 
 use Rattle.bhs_schedules.specs.Endings.{EveryScheduleCanRest}
 use Rattle.bhs_client.specs.Talks.{Talks}
 use Rattle.bhs_client.specs.Transcripts.{Transcript, unused, Writes, Reads}
+use Rattle.bhs_attest.specs.Laws.{AreOverFree, trial_in}
 use Rattle.bhs_theorems_isolation.specs.ContestMet.{Attended, fed, TookPart}
 
 -- ---- a session that a client played by a strategy
@@ -57,17 +57,6 @@ abbrev pub IsShort : (board : ℕ) → Event → Type 0
 IsShort board (Tell agent (Write expect put)) = length put ≤ board
 IsShort board event = Unit {0}
 
--- the event is no delivery over a held link
-abbrev pub IsOverFree : Held → State → Event → Type 0
-IsOverFree held state (Deliver agent) = is_held held (state.position agent) ≡ false
-IsOverFree held state event = Unit {0}
-
--- none of these events is a delivery over a held link
-abbrev pub AreOverFree : Held → World → State → List Event → Type 0
-AreOverFree held world state [] = Unit {0}
-AreOverFree held world state (event ∷ events) =
-    IsOverFree held state event × AreOverFree held world (next world state event) events
-
 -- The premises on the match and its log. The network is a graph with port labels, as each `Net` is, and the log is what
 -- a match keeps, as each `Sealed` shows. No Write was refused as too long, since a pass does not keep the text of such
 -- a Write, and no agent arrived over a link that the trial holds.
@@ -95,11 +84,6 @@ WaitsOnLinks strategy = (history : History) (port : ℕ) → strategy history �
 abbrev pub WaitersAreOrderly : Type 0
 WaitersAreOrderly = (trial : Trial) → ((agent : ℕ) → trial.strategies agent [] ≡ Says Enter)
     → ((agent : ℕ) → WaitsOnLinks (trial.strategies agent)) → IsOrderly trial
-
--- the match as a trial of these strategies
-abbrev pub trial_in : Play → Held → (wakeups : ℕ) → Strategies → Trial
-trial_in play held wakeups strategies =
-    record { world = world_in play; held = held; wakeups = wakeups; strategies = strategies }
 
 -- this agent's session took part in the match, and its client played by the agent's strategy
 pub record IsPlayedIn (play : Play) (wakeups : ℕ) (strategies : Strategies) (agent : ℕ) (one : Attended) : Type 0 where

@@ -5,6 +5,7 @@ use Rattle.bhs_model.specs.declared.events.Event.TheVariants.{Tell, Deliver, Clo
 use Rattle.bhs_model.specs.declared.marks.Mark.TheVariants as marks
 use Rattle.bhs_model.specs.declared.replies.Reply.TheVariants.{Here, Gone, Noted, Over}
 use Rattle.bhs_model.specs.Examples.{none_held}
+use Rattle.bhs_model.specs.Marks.{events_of}
 use Rattle.bhs_match.specs.Decided.{AreAllDone}
 use Rattle.bhs_match.specs.Matches.{Play}
 use Rattle.bhs_shared_match.specs.Passes.{Passed}
@@ -20,7 +21,8 @@ use Rattle.bhs_server.specs.Exchanges.{Exchange, Took, Came, session_text, comma
 use Rattle.bhs_server.specs.Exchanges.{arrivals_in}
 use Rattle.bhs_theorems_isolation.specs.ContestExample.{receipt}
 use Rattle.bhs_theorems_isolation.specs.ContestMet.{Attended}
-use Rattle.bhs_theorems_contests.specs.Contests.{IsPlayedIn, IsPlainMatch, IsOrderly, trial_in}
+use Rattle.bhs_attest.specs.Laws.{IsSchedule, trial_in}
+use Rattle.bhs_theorems_contests.specs.Contests.{IsPlayedIn, IsPlainMatch, IsOrderly}
 
 -- The triangle, with node 2 as the black hole. Agent 1 goes there and is destroyed. Agent 0 goes to node 1, comes back
 -- and accuses the other link.
@@ -91,6 +93,10 @@ pub record TheLawSpeaksOfIt : Type 0 where
   pub orderly : IsOrderly (trial_in searched_triangle none_held 0 explorers)
   pub solves : EveryScheduleSolves (trial_in searched_triangle none_held 0 explorers) 3 1
   pub rests : EveryScheduleCanRest (trial_in searched_triangle none_held 0 explorers)
+
+-- its log is a schedule of these strategies
+abbrev pub ItIsASchedule : Type 0
+ItIsASchedule = IsSchedule (trial_in searched_triangle none_held 0 explorers) (events_of searched_triangle.log)
 
 -- and this is its verdict
 abbrev pub ItIsSolved : Type 0

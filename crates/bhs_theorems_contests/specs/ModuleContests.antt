@@ -33,9 +33,9 @@ pub record RunsItsFile (lines : List ModuleLine) (roles : Roles) (agent : ℕ) (
   pub says : module_in line.file ≡ Some program
   pub runs : strategy ≡ strategy_of program line.arguments FUEL
 
--- Of this match `arena explore --module` has told that every schedule solves it within these bounds. The contest has
--- the same network and setup; each of its agents was played by the file of its line, and first says Enter.
-pub record IsModuleContest (play : Play) (bounds : Bounds) : Type 0 where
+-- Of a match with the same network and setup `arena explore --module` has reported that every schedule solves it within
+-- these bounds.
+pub record IsExplored (play : Play) (bounds : Bounds) : Type 0 where
   pub ready : Ready
   pub exploration : Exploration
   pub roles : Roles
@@ -47,13 +47,17 @@ pub record IsModuleContest (play : Play) (bounds : Bounds) : Type 0 where
   pub solves : found_in report.found ≡ found.Solves bounds
   pub net : ready.game.net ≡ play.net
   pub setup : ready.game.setup ≡ play.setup
+
+-- Such a match as a contest: each of its agents was played by the file of its line, and first says Enter.
+pub record IsModuleContest (play : Play) (bounds : Bounds) : Type 0 where
+  pub explored : IsExplored play bounds
   pub strategies : Strategies
-  pub runs : (agent : ℕ) → RunsItsFile report.lines roles agent (strategies agent)
+  pub runs : (agent : ℕ) → RunsItsFile explored.report.lines explored.roles agent (strategies agent)
   pub enters : (agent : ℕ) → strategies agent [] ≡ Says Enter
   pub clients : (agent : ℕ) → Attended
   pub played : (agent : ℕ) → agent < play.setup.agents
-      → IsPlayedIn play exploration.wakeups strategies agent (clients agent)
-  pub plain : IsPlainMatch (is_held report.is_found.links) play
+      → IsPlayedIn play explored.exploration.wakeups strategies agent (clients agent)
+  pub plain : IsPlainMatch (is_held explored.report.is_found.links) play
 
 -- If such a contest gave the match back settled, and all agents have ended or are lost, then it is solved within the
 -- moves and lost agents that were told.

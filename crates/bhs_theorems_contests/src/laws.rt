@@ -1,8 +1,10 @@
 //! What a team solves under every schedule it solves in a contest. The functions do nothing.
 
+ghost use Rattle.bhs_theorems_contests.specs.AttestedMatches.{AttestedMatchesAreNeverWrong, AttestedMatchesAreSolved};
+ghost use Rattle.bhs_theorems_contests.specs.AttestedMatches.{LogsOfSchedulesAreNeverWrong, LogsOfSchedulesAreSolved};
 ghost use Rattle.bhs_theorems_contests.specs.Contests.{ContestsAreNeverWrong, ContestsAreSolved, ContestsStayWithin};
 ghost use Rattle.bhs_theorems_contests.specs.Contests.{WaitersAreOrderly};
-ghost use Rattle.bhs_theorems_contests.specs.Example.{ItIsSolved, TheLawSpeaksOfIt};
+ghost use Rattle.bhs_theorems_contests.specs.Example.{ItIsASchedule, ItIsSolved, TheLawSpeaksOfIt};
 ghost use Rattle.bhs_theorems_contests.specs.Instances.{ChartersSolveContests, DividersSolveContests};
 ghost use Rattle.bhs_theorems_contests.specs.Instances.{HalvesSolveContests, MapsSolveContests};
 ghost use Rattle.bhs_theorems_contests.specs.Instances.{ProgramsWait, ShuttleSolvesContests};
@@ -66,8 +68,25 @@ pub fn modules_solve_contests()
     ensures never_wrong { ModulesAreNeverWrong }
 {}
 
-/// A contest of two agents on the triangle, worked out by hand: the law speaks of it, and its verdict.
+/// Let the log of a match be a schedule of some strategies, and let every schedule of them solve the match. If all
+/// agents have ended or are lost, the match is solved within the same moves and lost agents. Whenever it ended, no
+/// accusation was wrong, and no more moves were made and no more agents lost. Nothing is assumed of clients.
+pub fn logs_of_schedules_are_solved()
+    ensures solved { LogsOfSchedulesAreSolved }
+    ensures never_wrong { LogsOfSchedulesAreNeverWrong }
+{}
+
+/// What `arena explore --module` reported that every schedule solves, a match that `arena attest` has attested for the
+/// same files, arguments and spurious wake-ups solves within the reported moves and lost agents, if all agents have
+/// ended or are lost. Whenever it ended, no accusation was wrong, and no more moves were made and no more agents lost.
+pub fn attested_matches_are_solved()
+    ensures solved { AttestedMatchesAreSolved }
+    ensures never_wrong { AttestedMatchesAreNeverWrong }
+{}
+
+/// A contest of two agents on the triangle, worked out by hand: the laws speak of it and of its log, and its verdict.
 pub fn worked_contest()
     ensures law { TheLawSpeaksOfIt }
+    ensures schedule { ItIsASchedule }
     ensures verdict { ItIsSolved }
 {}

@@ -51,5 +51,8 @@ returns-in-ExploreModules g c = rw c.in-ExploreModules.is (does (refl, c.explore
 pub returns-in-ExploreAllHoles : goal.returns-in-ExploreAllHoles
 returns-in-ExploreAllHoles g c = rw c.in-ExploreAllHoles.is (does (refl, c.explore_holes_named.ensures))
 
+pub returns-in-Attest : goal.returns-in-Attest
+returns-in-Attest g c = rw c.in-Attest.is (does (refl, c.attest_named.ensures))
+
 pub returns-in-Serve : goal.returns-in-Serve
 returns-in-Serve g c = rw c.in-Serve.is (does (refl, c.serve_named.ensures))

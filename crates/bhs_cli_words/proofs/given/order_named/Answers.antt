@@ -15,8 +15,8 @@ differs one other apart = go (bytes_eq one other) refl
 -- No command has this name.
 no_order : (name : Text) (rows : List Row) → name ≢ codes "rehearse" → name ≢ codes "check" → name ≢ codes "judge"
     → name ≢ codes "table" → name ≢ codes "explain" → name ≢ codes "twin" → name ≢ codes "recover"
-    → name ≢ codes "explore" → name ≢ codes "serve" → order_by (name, rows) ≡ None
-no_order name rows rehearse check judge table explain twin recover explore serve =
+    → name ≢ codes "explore" → name ≢ codes "attest" → name ≢ codes "serve" → order_by (name, rows) ≡ None
+no_order name rows rehearse check judge table explain twin recover explore attest serve =
     rw (
       differs name (codes "rehearse") rehearse,
       differs name (codes "check") check,
@@ -26,6 +26,7 @@ no_order name rows rehearse check judge table explain twin recover explore serve
       differs name (codes "twin") twin,
       differs name (codes "recover") recover,
       differs name (codes "explore") explore,
+      differs name (codes "attest") attest,
       differs name (codes "serve") serve,
     ) refl
 
@@ -33,4 +34,4 @@ pub returns-in_default : goal.returns-in_default
 returns-in_default c =
     let no = c.in_default in
     no_order c.args.name.now (rows_of (found_of c.args.words.now)) no.not-rehearse no.not-check no.not-judge
-    no.not-table no.not-explain no.not-twin no.not-recover no.not-explore no.not-serve
+    no.not-table no.not-explain no.not-twin no.not-recover no.not-explore no.not-attest no.not-serve

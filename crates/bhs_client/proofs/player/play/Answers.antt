@@ -1,10 +1,10 @@
 use Rattle.std.proofs.Common.{◌∙◌, [], ◌∷◌, Some, refl, sym, ap}
 use Rattle.std.proofs.lemmas.Result.{IfOk-weaker}
 use Rattle.bhs_client.specs.declared.player.PlayEnd.{PlayEnd}
-use Rattle.bhs_client.specs.Searchers.{observation_of}
-use Rattle.bhs_client.specs.declared.searchers.SearcherFault.TheVariants as searcher_fault
+use Rattle.bhs_agents.specs.Searchers.{observation_of}
+use Rattle.bhs_agents.specs.declared.searchers.SearcherFault.TheVariants as searcher_fault
 use Rattle.bhs_client.specs.Talks.{begins, silent}
-use Rattle.bhs_client.proofs.WakeUpLemmas.{counting_none, counting_on, row_room, since_room}
+use Rattle.bhs_agents.proofs.WakeUpLemmas.{counting_none, counting_on, row_room, since_room}
 use Rattle.bhs_client.proofs.TalkLemmas.{follows_on, talks_on, breaks_off, then_off, not_failed, by_fault, on_fault}
 use Rattle.bhs_client.proofs.player.play.Goals as goal
 

@@ -1,9 +1,9 @@
 -- The talk so far follows the strategy for some history. The agent's state has this history, its next step is the
 -- strategy's, and its count of wake-ups is that of the history.
 use Rattle.bhs_schedules.specs.Strategies.{History}
-use Rattle.bhs_client.specs.Searchers.{KeepsTo}
+use Rattle.bhs_agents.specs.Searchers.{KeepsTo}
 use Rattle.bhs_client.specs.Talks.{Talks}
-use Rattle.bhs_client.proofs.WakeUpLemmas.{IsCounting}
+use Rattle.bhs_agents.proofs.WakeUpLemmas.{IsCounting}
 use Rattle.bhs_client.proofs.player.play.Given as goal
 
 abbrev pub invariant-loop : goal.invariant-loop

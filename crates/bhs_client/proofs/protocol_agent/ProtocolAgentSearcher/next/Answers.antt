@@ -1,6 +1,6 @@
 use Rattle.std.proofs.Common.{◌∷◌, refl}
 use Rattle.std.proofs.lemmas.Result.{IfOk-weaker}
-use Rattle.bhs_client.specs.Searchers.{observation_of}
+use Rattle.bhs_agents.specs.Searchers.{observation_of}
 use Rattle.bhs_client.proofs.ProtocolLemmas.{does_by, holds_on}
 use Rattle.bhs_client.proofs.protocol_agent.ProtocolAgentSearcher.next.Goals as goal
 

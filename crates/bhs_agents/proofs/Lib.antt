@@ -1,0 +1,2 @@
+mod ModuleLemmas
+pub mod WakeUpLemmas

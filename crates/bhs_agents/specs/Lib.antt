@@ -1,0 +1,3 @@
+pub mod Searchers
+pub mod WakeUps
+pub mod Modules

@@ -1,0 +1,4 @@
+pub mod Lines
+pub mod Comparing
+pub mod Attesting
+pub mod Reports
