@@ -82,7 +82,11 @@ COMMANDS = {
         PLAYS + PAGES + ("django", "rest_framework", "waitress", "whitenoise"),
     ),
     "json": Command(
-        "print what `arena judge`, `table`, `check` or `explore` finds as JSON", ()
+        "print what `arena judge`, `table`, `check`, `explore` or `attest` finds as JSON",
+        (),
+    ),
+    "verify": Command(
+        "get again what a line of `json` says, and tell what differs", ()
     ),
     "page": Command(
         "write a page of a match that has ended, or of each match of a contest", PAGES

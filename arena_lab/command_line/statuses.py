@@ -39,7 +39,8 @@ EXIT_MEANINGS: Dict[str, Tuple[str, bool]] = {
     "sweep": (A_TEAM_FAILS, True),
     "grade": ("a match does not repeat, or could not be played", True),
     "hall": ("", True),
-    "json": ("`arena explore` finds a schedule that fails", True),
+    "json": ("`explore` finds a schedule that fails, or `attest` a difference", True),
+    "verify": ("something differs, or the bounds do not follow", True),
     "page": ("engines differ", True),
     "watch": ("", True),
 }

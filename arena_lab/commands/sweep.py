@@ -52,7 +52,7 @@ from arena_lab.play.parallel import Parallelism
 from arena_lab.rules.engines import program_at
 from arena_lab.support.faults import ArenaError
 from arena_lab.support.missing import check
-from arena_lab.sweep import grid, verify
+from arena_lab.sweep import grid, row_checks
 from arena_lab.sweep.sweeping import SweepJob, SweepRequest, made_of, swept, verify_rows
 from arena_lab.sweep.tables import alone_in, prepare_table
 
@@ -76,7 +76,7 @@ def add_arguments(parser: argparse.ArgumentParser) -> None:
         metavar="N",
         type=at_least_one,
         nargs="?",
-        const=verify.ALL,
+        const=row_checks.ALL,
         help="write nothing: "
         "play N drawn rows of the folder again, or all, and compare",
     )

@@ -107,11 +107,25 @@ def by_check(text: str) -> Tuple[Object, str]:
 
 def by_explore(text: str) -> Tuple[Object, str]:
     """Parses the JSON lines of a result: finding, counts, and one line per module."""
-    finding, counts, *modules = lines = [
-        json.loads(text_line) for text_line in text.splitlines()
-    ]
-    again = "".join(json.dumps(value, separators=(",", ":")) + "\n" for value in lines)
-    return {"found": finding, "counts": counts, "modules": modules}, again
+    finding, counts, *modules = lines = lines_of_json(text)
+    return {"found": finding, "counts": counts, "modules": modules}, as_printed(lines)
+
+
+def by_attest(text: str) -> Tuple[Object, str]:
+    """Parses the JSON lines of a comparison: one per agent, and one for all."""
+    *agents, summary = lines = lines_of_json(text)
+    return {"summary": summary, "agents": agents}, as_printed(lines)
+
+
+def lines_of_json(text: str) -> List[Object]:
+    return [json.loads(line) for line in text.removesuffix("\n").split("\n")]
+
+
+def as_printed(lines: Sequence[Object]) -> str:
+    return "".join(
+        json.dumps(line, separators=(",", ":"), ensure_ascii=False) + "\n"
+        for line in lines
+    )
 
 
 # of each command its reader, which gives the result and spells it again
@@ -120,6 +134,7 @@ READERS: Dict[str, Callable[[str], Tuple[Object, str]]] = {
     "table": by_table,
     "check": by_check,
     "explore": by_explore,
+    "attest": by_attest,
 }
 
 

@@ -26,7 +26,7 @@ from arena_lab.rules.engines import NAMES, EnginesDifferError, name_of
 from arena_lab.rules.fixtures import Fixture
 from arena_lab.support.fields import FileFormatError
 from arena_lab.support.progress import along
-from arena_lab.sweep import every, grid, report, verify
+from arena_lab.sweep import every, grid, report, row_checks
 from arena_lab.sweep.grid import Case, Grid
 from arena_lab.sweep.tables import (
     COLUMNS,
@@ -223,9 +223,9 @@ def verify_rows(
         )
     check_rows(grid.grid_of(work.text), cases, out)
     rows = cells_in(out / RUNS)
-    numbers = verify.chosen(len(rows), count)
+    numbers = row_checks.chosen(len(rows), count)
     again = request.parallelism.results(work, [cases[number] for number in numbers])
-    differences = verify.differing_rows(
+    differences = row_checks.differing_rows(
         numbers,
         rows,
         (
@@ -239,7 +239,7 @@ def verify_rows(
     for name in other_paths:
         print(f"{name} is not what is made of the rows", file=sys.stderr)
     print(f"by {name_of(work.program)}: ", end="")
-    return verify.report_differences(numbers, len(rows), differences) or int(
+    return row_checks.report_differences(numbers, len(rows), differences) or int(
         bool(other_paths)
     )
 

@@ -124,6 +124,8 @@ class Texts(unittest.TestCase):
             ("explore", '{"found":"solves"}\n'),
             ("explore", '{"found": "solves"}\n{"states":1}\n'),
             ("explore", '{"found":"solves"}\n{"states":1}\nmore\n'),
+            ("attest", '{"attested": true}\n'),
+            ("attest", '{"attested":true}\n\n'),
         ):
             with self.subTest(command, text=text):
                 self.assertRaises(
@@ -188,6 +190,26 @@ class Runs(InFolder):
             self.assertEqual(
                 result["origin"]["defaults"],
                 {"max-states": "10000000", "spurious-wakeups": "2"},
+            )
+
+    def test_the_lines_of_attest(self) -> None:
+        module_word = EXAMPLES / "agents" / "wasm" / "ring.wasm"
+        for number, status, lines in ((8, 0, 2), (4, 1, 1)):
+            result = self.compare(
+                "attest",
+                EXAMPLES / "attested0.jsonl",
+                "--module",
+                f"{module_word}:{number}",
+            )
+            self.assertEqual(result["status"], status)
+            summary = result["result"]["summary"]
+            self.assertEqual(
+                summary, {"attested": not status, "agents": 2, "spurious_wakeups": 2}
+            )
+            self.assertEqual(len(result["result"]["agents"]), lines)
+            self.assertEqual(
+                [row["file"] for row in result["origin"]["files"]],
+                [str(EXAMPLES / "attested0.jsonl"), str(module_word)],
             )
 
     def test_what_is_left_out_of_a_table_is_a_fault(self) -> None:

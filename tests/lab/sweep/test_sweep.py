@@ -7,7 +7,7 @@ from unittest import mock
 
 from arena_lab.play.parallel import Result
 from arena_lab.support.fields import FileFormatError
-from arena_lab.sweep import report, statistic, tables, verify
+from arena_lab.sweep import report, row_checks, statistic, tables
 from arena_lab.sweep.grid import Grid, grid_of
 from arena_lab.sweep.tables import TableError
 from tests.support.needing import needs
@@ -336,25 +336,25 @@ def cells(run: int) -> List[str]:
 class Verified(unittest.TestCase):
     def test_what_comes_out_otherwise(self) -> None:
         now = tables.with_check(["0", *cells(0)[1:-2], "", "agent 1: raises"])
-        self.assertIsNone(verify.differing(0, cells(0), cells(0)))
+        self.assertIsNone(row_checks.differing(0, cells(0), cells(0)))
         self.assertEqual(
-            verify.differing(0, cells(0), now), verify.Differing(0, ["fault"])
+            row_checks.differing(0, cells(0), now), verify.Differing(0, ["fault"])
         )
         with contextlib.redirect_stderr(
             io.StringIO()
         ) as errors, contextlib.redirect_stdout(io.StringIO()) as stream, mock.patch(
             "arena_lab.support.progress.bar", mock.MagicMock()
         ):
-            differences = verify.differing_rows(
+            differences = row_checks.differing_rows(
                 [0, 1], [cells(0), cells(1)], [Result(cells(0), ""), Result(None, "no")]
             )
-            self.assertEqual(verify.report_differences([0, 1], 9, differences), 1)
+            self.assertEqual(row_checks.report_differences([0, 1], 9, differences), 1)
         self.assertEqual(errors.getvalue(), "run 1 comes out otherwise: fault\n")
         self.assertEqual(stream.getvalue(), "2 of 9 rows were played again: 1 differ\n")
 
     def test_which_rows(self) -> None:
-        self.assertEqual(verify.chosen(3, verify.ALL), [0, 1, 2])
-        self.assertEqual(verify.chosen(3, 5), [0, 1, 2])
-        draw = verify.chosen(1000, 500)
+        self.assertEqual(row_checks.chosen(3, verify.ALL), [0, 1, 2])
+        self.assertEqual(row_checks.chosen(3, 5), [0, 1, 2])
+        draw = row_checks.chosen(1000, 500)
         self.assertEqual(len(set(draw)), 500)
-        self.assertNotEqual(draw, verify.chosen(1000, 500))
+        self.assertNotEqual(draw, row_checks.chosen(1000, 500))
