@@ -75,7 +75,8 @@ def announce_answer(listener: socket.socket, announce: Callable[[], object]) -> 
         with contextlib.suppress(OSError, http.client.HTTPException):
             connection = http.client.HTTPConnection(host, port, timeout=ANSWER_SECONDS)
             with contextlib.closing(connection):
-                connection.request("GET", "/health")
+                # the log has each 503 of /health, which waits for a first worker
+                connection.request("GET", "/favicon.ico")
                 connection.getresponse().read()
             announce()
             return

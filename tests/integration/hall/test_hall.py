@@ -71,6 +71,7 @@ class Matches(Halls):
         self.hall.wait(lambda: packing.packed_path(page).exists(), "the page is made")
         health = self.hall.ask("GET", "/health")
         self.assertEqual((health.status, health.json()["waiting"]), (200, 0))
+        self.assertNotIn("ERROR", self.hall.faults())
 
     def test_a_team_with_a_map_is_told_the_map_and_no_black_hole(self) -> None:
         token = self.tokens["cedar"]
