@@ -13,10 +13,11 @@ from django.conf import settings
 from requests.adapters import HTTPAdapter
 from urllib3.exceptions import HTTPError
 
-from arena_lab.hall.sign_on.rules import is_safe_address, secret_in
+from arena_lab.hall.sign_on.rules import EMAIL, is_safe_address, secret_in
 
 DISCOVERY = "/.well-known/openid-configuration"
 ENDPOINTS = ("authorization_endpoint", "token_endpoint", "jwks_uri")
+USER_INFO = "userinfo_endpoint"
 # signatures by a key of the provider alone: none is by the client's secret, or absent
 ALGORITHMS = [
     f"{kind}{bits}" for kind in ("RS", "PS", "ES") for bits in (256, 384, 512)
@@ -154,7 +155,13 @@ class Provider:
                     code=code,
                     code_verifier=flow.verifier,
                 )
-            return self._checked(token, flow.nonce, metadata)
+                claims = self._checked(token, flow.nonce, metadata)
+                address = metadata.get(USER_INFO)
+                if address and not set(needed_claims()) <= set(claims):
+                    response = session.request("GET", address)
+                    response.raise_for_status()
+                    claims = join_claims(claims, response.json())
+        return claims
 
     def _checked(
         self, token: Dict[str, Any], nonce: str, metadata: Dict[str, Any]
@@ -202,10 +209,29 @@ class Provider:
             self._waiting.release()
 
 
+def needed_claims() -> List[str]:
+    """Returns the claims by which the hall tells who somebody is. Some providers put
+    them into the document of the userinfo endpoint and not into the token."""
+    rules = settings.HALL.sign_on
+    names = [rules.claim, rules.team_claim, rules.teacher_claim]
+    if rules.claim == EMAIL:
+        names.append("email_verified")
+    return [name for name in names if name]
+
+
+def join_claims(claims: Dict[str, Any], document: Any) -> Dict[str, Any]:
+    """Returns the claims of a token with those of a document of the same person. What
+    the provider has signed counts first."""
+    if document["sub"] != claims["sub"]:
+        raise ProviderError("it writes of another person")
+    return {**document, **claims}
+
+
 def check_metadata(document: Any) -> None:
     if document["issuer"] != settings.HALL.sign_on.issuer:
         raise ProviderError("it names itself as another issuer")
-    if not all(is_safe_address(document[name]) for name in ENDPOINTS):
+    optional = [USER_INFO] if USER_INFO in document else []
+    if not all(is_safe_address(document[name]) for name in (*ENDPOINTS, *optional)):
         raise ProviderError("it has an address without encryption")
 
 

@@ -14,6 +14,7 @@ from authlib.jose import JsonWebKey, jwt
 
 CLIENT = "arena"
 SECRET = "of the client"
+ACCESS = "of the person"
 # bytes of a piece of an answer
 PIECE = 16
 # what a token says unless a test says otherwise
@@ -41,6 +42,8 @@ class OidcProvider:
         self.sign: Callable[[Dict[str, Any]], str] = self.sign_right
         # what stands in the place of an answer, by its path
         self.answers: Dict[str, Tuple[int, Dict[str, str], bytes]] = {}
+        # claims of the person in a document beside the token
+        self.document: Dict[str, Any] = {}
         # seconds between pieces of an answer
         self.pause = 0.0
         self.requests: Dict[str, int] = {}
@@ -101,6 +104,9 @@ class OidcProvider:
             return 302, {"Location": f"{query['redirect_uri']}?{answer}"}, b""
         if name == "token":
             return self.token(query, headers)
+        if name == "userinfo":
+            is_right = headers["Authorization"] == f"Bearer {ACCESS}"
+            return 200 if is_right else 401, {}, json.dumps(self.document).encode()
         document: Any = {"keys": [self.key.as_dict(is_private=False)]}
         if name == "openid-configuration":
             document = {
@@ -139,7 +145,7 @@ class OidcProvider:
         }
         claims = {name: value for name, value in claims.items() if value is not None}
         document = {
-            "access_token": "a",
+            "access_token": ACCESS,
             "token_type": "Bearer",
             "id_token": self.sign(claims),
         }

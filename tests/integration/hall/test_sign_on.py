@@ -116,6 +116,24 @@ class People(SignOn):
             self.provider.claims["email_verified"] = word
             self.assert_refused(self.sign_in(), "your address is not verified")
 
+    def test_a_provider_may_write_claims_beside_the_token(self) -> None:
+        """As Shibboleth does; what it has signed counts, and another person is none."""
+        address = f"{self.provider.issuer}/userinfo"
+        self.provider.metadata = {"userinfo_endpoint": address}
+        self.provider.person = {"sub": "17"}
+        right = {"sub": "17", "email": MAIL, "email_verified": True}
+        self.provider.document = right
+        self.assertEqual(self.sign_in().status_code, 302)
+        self.provider.document = {**right, "sub": "18"}
+        self.assert_refused(self.sign_in(), SILENT, 502)
+        self.provider.document = right
+        self.provider.claims = {"email_verified": False}
+        self.assert_refused(self.sign_in(), "your address is not verified")
+        # a token that says all is enough
+        self.provider.claims = {"email": MAIL, "email_verified": True}
+        self.provider.document = {}
+        self.assertEqual(self.sign_in().status_code, 302)
+
     def test_another_claim_may_name_people(self) -> None:
         self.teach(members=["Ada"], claim="preferred_username")
         self.provider.person = {"sub": "17", "preferred_username": "Ada"}
@@ -315,6 +333,7 @@ class Faults(SignOn):
             ("issuer", "https://evil.example"),
             ("token_endpoint", "http://evil.example/token"),
             ("jwks_uri", "file:///etc/passwd"),
+            ("userinfo_endpoint", "http://evil.example/userinfo"),
             ("large", "a" * asking.MAX_BYTES),
         ):
             self.provider.metadata = {name: value}
