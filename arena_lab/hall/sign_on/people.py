@@ -11,7 +11,7 @@ from django.contrib.contenttypes.models import ContentType
 from django.db import transaction
 from django.utils.translation import gettext as _
 
-from arena_lab.hall.sign_on.rules import EMAIL
+from arena_lab.hall.sign_on.rules import EMAIL, VERIFIED
 from arena_lab.hall.teams.models import Team, note
 
 # characters of a new team's name before those that are drawn, and of those
@@ -45,7 +45,7 @@ def person_of(claims: Dict[str, Any]) -> str:
 
 def is_verified(claims: Dict[str, Any]) -> bool:
     """Returns whether the provider has verified the address; some write true as text."""
-    word = claims.get("email_verified")
+    word = claims.get(VERIFIED)
     return word is True or word == "true"
 
 

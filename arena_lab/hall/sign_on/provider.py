@@ -13,7 +13,12 @@ from django.conf import settings
 from requests.adapters import HTTPAdapter
 from urllib3.exceptions import HTTPError
 
-from arena_lab.hall.sign_on.rules import EMAIL, is_safe_address, secret_in
+from arena_lab.hall.sign_on.rules import (
+    EMAIL,
+    VERIFIED,
+    is_safe_address,
+    secret_in,
+)
 
 DISCOVERY = "/.well-known/openid-configuration"
 ENDPOINTS = ("authorization_endpoint", "token_endpoint", "jwks_uri")
@@ -215,16 +220,20 @@ def needed_claims() -> List[str]:
     rules = settings.HALL.sign_on
     names = [rules.claim, rules.team_claim, rules.teacher_claim]
     if rules.claim == EMAIL:
-        names.append("email_verified")
+        names.append(VERIFIED)
     return [name for name in names if name]
 
 
 def join_claims(claims: Dict[str, Any], document: Any) -> Dict[str, Any]:
     """Returns the claims of a token with those of a document of the same person. What
-    the provider has signed counts first."""
+    the provider has signed counts first, and an address that the token names is not
+    verified by a document that names another one."""
     if document["sub"] != claims["sub"]:
         raise ProviderError("it writes of another person")
-    return {**document, **claims}
+    extra = dict(document)
+    if EMAIL in claims and document.get(EMAIL) != claims[EMAIL]:
+        extra.pop(VERIFIED, None)
+    return {**extra, **claims}
 
 
 def check_metadata(document: Any) -> None:

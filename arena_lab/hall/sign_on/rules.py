@@ -11,6 +11,7 @@ from arena_lab.support.fields import Field, FileFormatError, is_number, is_text
 # the file of the client's secret in the hall's folder
 SECRET_FILE = "sign-on.txt"
 EMAIL = "email"
+VERIFIED = "email_verified"
 LOOPBACK = ("127.0.0.1", "localhost", "::1")
 
 

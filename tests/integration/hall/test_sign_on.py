@@ -129,6 +129,9 @@ class People(SignOn):
         self.provider.document = right
         self.provider.claims = {"email_verified": False}
         self.assert_refused(self.sign_in(), "your address is not verified")
+        self.provider.claims = {"email": MAIL}
+        self.provider.document = {**right, "email": "emmy@example.edu"}
+        self.assert_refused(self.sign_in(), "your address is not verified")
         # a token that says all is enough
         self.provider.claims = {"email": MAIL, "email_verified": True}
         self.provider.document = {}
