@@ -22,7 +22,7 @@ from arena_lab.sandbox.sandboxes import SandboxOptions
 from arena_lab.submissions import store
 from arena_lab.submissions.store import SubmissionRecord
 from arena_lab.submissions.submission import Submission
-from arena_lab.submissions.team_runners import grounds_of
+from arena_lab.submissions.team_runners import team_runners
 from arena_lab.sweep import sweeping, tables
 from arena_lab.sweep.grid import Case
 
@@ -165,9 +165,9 @@ class GradingRun(NamedTuple):
         )._replace(files=self._take(case.team.name).files)
         words = case.team.words.words
         submission = self.submission(case.team.name)
-        with grounds_of(
+        with team_runners(
             self.sandbox, submission, words, fixture.setup, len(agents)
-        ) as grounds:
+        ) as runners:
             line = (
                 max(1, limits.line // HURRY_FACTOR) if self.is_hurried else limits.line
             )
@@ -175,7 +175,7 @@ class GradingRun(NamedTuple):
                 fixture,
                 {number: agent.words for number, agent in enumerate(agents)},
                 line,
-                dict(enumerate(grounds)),
+                dict(enumerate(runners)),
                 limits.match,
                 room=limits.match_space << 20,
             )

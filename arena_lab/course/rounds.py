@@ -27,7 +27,7 @@ from arena_lab.sandbox.isolation import CellError
 from arena_lab.sandbox.sandboxes import SandboxOptions
 from arena_lab.sandbox.users import UserError
 from arena_lab.submissions import store
-from arena_lab.submissions.team_runners import grounds_of
+from arena_lab.submissions.team_runners import team_runners
 from arena_lab.support.built import ProgramError
 from arena_lab.support.fields import FileFormatError
 from arena_lab.support.missing import MissingPackageError
@@ -107,12 +107,12 @@ class Repeating(NamedTuple):
         again = repetitions.with_new_keys(fixture)
         words = terms_of(self.text, 0).commands[repetition.team]
         submission = store.stored_submission(self.out, repetition.team)
-        with grounds_of(self.sandbox, submission, words, setup, 1) as grounds:
+        with team_runners(self.sandbox, submission, words, setup, 1) as runners:
             team = programs.Team(
                 again,
                 {repetition.agent: words},
                 self.limits.line,
-                {repetition.agent: grounds[0]},
+                {repetition.agent: runners[0]},
                 self.limits.match,
                 programs.seeds_of(fixture),
                 self.limits.match_space << 20,

@@ -124,7 +124,7 @@ class TriedProgram:
             Isolation[self.asked.isolation], processes=self.asked.processes
         )
         files_in = functools.partial(files_of, submission, words)
-        return AgentWords(OUTSIDE, words, ground=OwnSandboxes(options, files_in))
+        return AgentWords(OUTSIDE, words, runner_for=OwnSandboxes(options, files_in))
 
     def mark_program(self) -> Submission:
         """The program with a client that says by which line it sends."""
@@ -162,7 +162,10 @@ class TriedProgram:
             empty.fixture,
             {number: agent.words for number, agent in agents.items()},
             self.asked.line,
-            {number: agent.ground(empty.fixture) for number, agent in agents.items()},
+            {
+                number: agent.runner_for(empty.fixture)
+                for number, agent in agents.items()
+            },
             self.asked.seconds,
             room=ROOM,
         )

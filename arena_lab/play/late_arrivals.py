@@ -14,7 +14,7 @@ from arena_lab.play.matches import play
 from arena_lab.play.programs import Player, Team
 from arena_lab.play.schedulers import ARRIVE, Choice, MatchView, ScheduleEndedError
 from arena_lab.play.schedules import schedule_of
-from arena_lab.play.teams import Game, grounds_of
+from arena_lab.play.teams import Game, runners_of
 from arena_lab.rules.delays import PAUSE, SCALES
 
 # seconds that no link takes in a contest whose delays and pause are the usual ones,
@@ -90,7 +90,7 @@ def kept_waiting(game: Game, program: Optional[str]) -> Record:
         fixture,
         {number: agent.words for number, agent in enumerate(game.agents)},
         game.limit,
-        grounds_of(game.agents, fixture),
+        runners_of(game.agents, fixture),
     )
     schedule = schedule_of(
         fixture, game.agents, f"arrivals {LATE} s late{game.where()}", [], game.limit

@@ -25,7 +25,7 @@ from typing import Callable, Dict, List, Mapping, Optional, Sequence, Sized
 from arena_lab.play import wasm_modules
 from arena_lab.play.agent_files import AgentError, facts_of
 from arena_lab.play.bounds import READ_NOTHING, SENT_NOTHING, TimeBound, Room
-from arena_lab.play.runners import HOST, Ground, LocalRunner, StartError
+from arena_lab.play.runners import HOST, ProgramRunner, LocalRunner, StartError
 from arena_lab.play.last_words import asked_behind, error_in, usage_in
 from arena_lab.play.mistakes import plain, quote_line
 from arena_lab.play.players import DENIALS, DONE, LAST_LINES, TRAVELS, WAITS
@@ -64,7 +64,9 @@ def start_advice(program: str, fault: OSError) -> str:
 class Player:
     """One program, its connection, and what it has sent and was not taken yet."""
 
-    def __init__(self, team: "Team", number: int, words: str, ground: Ground) -> None:
+    def __init__(
+        self, team: "Team", number: int, words: str, runner: ProgramRunner
+    ) -> None:
         self.number = number
         self.words = words
         self.state = WAITS
@@ -77,7 +79,7 @@ class Player:
         self._child: Optional["subprocess.Popen[bytes]"] = None
         self._listener_of: Optional[Callable[[], socket.socket]] = None
         self._listener: Optional[socket.socket] = None
-        self._ground = ground
+        self._runner = runner
         # what the program wrote to standard error, once it has ended
         self.errors = ""
         # in memory: what is free on a disk is seen by all programs
@@ -87,11 +89,11 @@ class Player:
         """Starts the program in a process group of its own, so that its descendants can
         be killed too."""
         words = command_of(
-            self.words, self._team.fixture, self.number, self._ground.facts
+            self.words, self._team.fixture, self.number, self._runner.facts
         )
         try:
             seed = self._team.seeds[self.number]
-            self._child, self._listener_of = self._ground.start(
+            self._child, self._listener_of = self._runner.start(
                 words, seed, self._errors
             )
         except StartError as fault:
@@ -166,7 +168,7 @@ class Player:
 
     def stable_text(self, text: str) -> str:
         """Replaces parts of the program's output that differ in each run."""
-        return self._ground.stable_text(text)
+        return self._runner.stable_text(text)
 
     def rest(self) -> bytes:
         """Returns the bytes that the program sent after its last line feed."""
@@ -197,8 +199,8 @@ class Player:
         self.state = DONE
         self._look_for_strangers()
         if self._child is not None:
-            self._ground.kill(self._child)
-        self.fault = self._ground.fault() or self.fault
+            self._runner.kill(self._child)
+        self.fault = self._runner.fault() or self.fault
         self.errors = self._errors_of()
         if self._lines is not None:
             self._lines.close()
@@ -209,7 +211,7 @@ class Player:
     def hurry(self) -> None:
         """Tells the program to end, without waiting until it has."""
         if self._child is not None:
-            self._ground.hurry(self._child)
+            self._runner.hurry(self._child)
 
     def is_alive(self) -> bool:
         return self._child is not None and self._child.poll() is None
@@ -280,7 +282,7 @@ class Player:
         if self._errors.closed:
             return self.errors
         return "\n".join(
-            plain(self._ground.stable_text(line))
+            plain(self._runner.stable_text(line))
             for line in self._end_of_errors().split("\n")
         )
 
@@ -295,15 +297,15 @@ class Player:
         """The line that names the error in what the program wrote to standard error, as
         one that changes nothing where it is shown."""
         text = self._end_of_errors()
-        words = self._ground.stable_text(error_in(text))
-        usage = self._ground.stable_text(usage_in(text))
+        words = self._runner.stable_text(error_in(text))
+        usage = self._runner.stable_text(usage_in(text))
         if usage:
             return f": an argument is missing, or there is one too many: it is called as `{plain(usage)[:WORDS]}`"
         if not words:
             return ""
         hint = (
-            self._ground.hint(words)
-            or self._ground.hint(text.strip()[-PIECE // 64 :])
+            self._runner.hint(words)
+            or self._runner.hint(text.strip()[-PIECE // 64 :])
             or asked_behind(words)
         )
         return f": {plain(words)[:WORDS]}{hint}"
@@ -328,7 +330,7 @@ class Player:
         self._has_ended = True
         self.line = None
         if self._child is not None:
-            self._ground.kill(self._child)
+            self._runner.kill(self._child)
 
 
 def as_in_a_shell(status: Optional[int]) -> Optional[int]:
@@ -377,19 +379,19 @@ class Team:
         fixture: Fixture,
         commands: Mapping[int, str],
         seconds: float,
-        grounds: Optional[Mapping[int, Ground]] = None,
+        runners: Optional[Mapping[int, ProgramRunner]] = None,
         in_all: float = math.inf,
         seeds: Optional[Sequence[int]] = None,
         room: float = math.inf,
     ) -> None:
-        """Commands and grounds are by agent number; seeds default to those of the
+        """Commands and runners are by agent number; seeds default to those of the
         keys."""
         self.fixture = fixture
         self.room = Room(room)
         self.seeds = seeds_of(fixture) if seeds is None else seeds
         self.clock = TimeBound(seconds, in_all)
         self.players: List[Player] = [
-            Player(self, number, words, grounds[number] if grounds else LocalRunner())
+            Player(self, number, words, runners[number] if runners else LocalRunner())
             for number, words in commands.items()
         ]
 

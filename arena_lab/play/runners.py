@@ -1,5 +1,5 @@
 """Where a team's program runs: as the user who starts the lab, or nowhere. Sandboxes
-(arena_lab/sandbox) are grounds too."""
+(arena_lab/sandbox) are runners too."""
 import os
 import signal
 import socket
@@ -20,7 +20,7 @@ class StartError(Exception):
 StartedProgram = Tuple["subprocess.Popen[bytes]", Callable[[], socket.socket]]
 
 
-class Ground(Protocol):
+class ProgramRunner(Protocol):
     """The place where a program runs. `facts` are its values for the words of a
     command, by name."""
 
@@ -101,12 +101,12 @@ class LocalRunner:
         return ""
 
 
-def same_folder(_: Fixture) -> Ground:
-    """Returns the default ground of an agent's program."""
+def local_runner(_: Fixture) -> ProgramRunner:
+    """Returns the default runner of an agent's program."""
     return LocalRunner()
 
 
-class Nowhere(LocalRunner):
+class RefusingRunner(LocalRunner):
     """No program can run; says why."""
 
     def __init__(self, why: str) -> None:

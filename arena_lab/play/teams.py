@@ -14,7 +14,7 @@ from arena_lab.play.agent_files import (
     step_of,
 )
 from arena_lab.play.bounds import LIMIT
-from arena_lab.play.runners import Ground, same_folder
+from arena_lab.play.runners import ProgramRunner, local_runner
 from arena_lab.play.matches import Team
 from arena_lab.play.own_modules import OwnModules
 from arena_lab.play.players import Team as Inside
@@ -49,10 +49,10 @@ class AgentWords(NamedTuple):
     # an agent inside that is a function of this process, whatever the words
     function: Optional[Callable[..., None]] = None
     # makes where a program of its own runs in a match, each time that it is started
-    ground: Callable[[Fixture], Ground] = same_folder
+    runner_for: Callable[[Fixture], ProgramRunner] = local_runner
 
     def __repr__(self) -> str:
-        """Leaves `ground` out: rows of earlier courses store this text."""
+        """Leaves `runner_for` out: rows of earlier courses store this text."""
         fields = zip(self._fields[:-1], self[:-1])
         return f"AgentWords({', '.join(f'{name}={value!r}' for name, value in fields)})"
 
@@ -147,10 +147,12 @@ def fill_team(
     return list(agents) * count if len(agents) == 1 else list(agents)
 
 
-def grounds_of(agents: Sequence[AgentWords], fixture: Fixture) -> Dict[int, Ground]:
-    """Returns the grounds of a team's programs in a match, by agent number."""
+def runners_of(
+    agents: Sequence[AgentWords], fixture: Fixture
+) -> Dict[int, ProgramRunner]:
+    """Returns the runners of a team's programs in a match, by agent number."""
     return {
-        number: agent.ground(fixture)
+        number: agent.runner_for(fixture)
         for number, agent in enumerate(agents)
         if agent.kind == OUTSIDE
     }
@@ -175,8 +177,8 @@ class Together:
         self._teams: List[Team] = (
             [Inside(fixture.keys, inside, seconds)] if inside else []
         )
-        grounds = grounds_of(agents, fixture)
-        self._teams += [Outside(fixture, outside, seconds, grounds)] if outside else []
+        runners = runners_of(agents, fixture)
+        self._teams += [Outside(fixture, outside, seconds, runners)] if outside else []
         players = [player for team in self._teams for player in team.players]
         self.players = sorted(players, key=lambda player: player.number)
 
@@ -198,8 +200,8 @@ def alone(
     if agent.kind == INSIDE:
         script = agent.script(again.setup)
         return Inside(again.keys, {number: script}, seconds, seeds)
-    grounds = {number: agent.ground(again)}
-    return Outside(again, {number: agent.words}, seconds, grounds, seeds=seeds)
+    runners = {number: agent.runner_for(again)}
+    return Outside(again, {number: agent.words}, seconds, runners, seeds=seeds)
 
 
 class Matches(NamedTuple):

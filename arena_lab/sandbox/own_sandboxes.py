@@ -54,7 +54,7 @@ class OwnSandbox:
 
 class OwnSandboxes:
     """Makes a sandbox for each program that is started, with the files that a match
-    gives it. As the `ground` of an agent it confines the agent's program in each
+    gives it. As the `runner_for` of an agent it confines the agent's program in each
     command."""
 
     def __init__(

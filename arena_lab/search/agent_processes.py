@@ -123,8 +123,8 @@ class AgentProcesses:
             process = AgentProcess(player)
             player.go_on()
         else:
-            ground = self._agents[agent].ground(self._fixture)
-            player = programs.Player(self._outside, agent, words, ground)
+            runner = self._agents[agent].runner_for(self._fixture)
+            player = programs.Player(self._outside, agent, words, runner)
             player.start()
             player.begin()
             player.settle()

@@ -4,7 +4,7 @@ import pathlib
 import tempfile
 from typing import Iterator, Sequence
 
-from arena_lab.play.runners import Ground, LocalRunner, Nowhere
+from arena_lab.play.runners import ProgramRunner, LocalRunner, RefusingRunner
 from arena_lab.play.wasm_modules import file_in, is_module
 from arena_lab.rules import networks
 from arena_lab.rules.model import Setup
@@ -14,17 +14,17 @@ from arena_lab.submissions.submission import NETWORK, Submission
 
 
 @contextlib.contextmanager
-def grounds_of(
+def team_runners(
     options: SandboxOptions,
     submission: Submission,
     words: str,
     setup: Setup,
     count: int,
-) -> Iterator[Sequence[Ground]]:
-    """Yields the grounds of `count` programs of a team: a sandbox each, unless the
+) -> Iterator[Sequence[ProgramRunner]]:
+    """Yields the runners of `count` programs of a team: a sandbox each, unless the
     hand-in is refused. The player of a module needs no sandbox."""
     if submission.refusal:
-        yield [Nowhere(f"the hand-in is refused: {submission.refusal}")] * count
+        yield [RefusingRunner(f"the hand-in is refused: {submission.refusal}")] * count
         return
     if is_module(words):
         # it sees nothing but replies, and its memory and steps are bounded

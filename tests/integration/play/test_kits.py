@@ -40,7 +40,7 @@ class TestKits(InTemporary):
         first = AgentWords(
             OUTSIDE,
             f"{KITS[language].play} {{host}} {{port}} {{key}} {{nodes}}",
-            ground=lambda _: LocalRunner(str(self.folder)),
+            runner_for=lambda _: LocalRunner(str(self.folder)),
         )
         match = play_seed(Game("ring:5", ring(5), [first] * 2), "fair", 0, None).match
         self.assertEqual(match.faults, [])

@@ -1,4 +1,4 @@
-"""An agent with a ground of its own is confined by each command that starts its program:
+"""An agent with a runner of its own is confined by each command that starts its program:
 here by all steps of a check, which play, repeat, keep waiting, draw, hunt and explore."""
 import os
 import pathlib
@@ -46,7 +46,7 @@ class Confined(InTemporary):
             (self.folder / name).write_text(text)
 
     def left_by(self, agent: AgentWords) -> int:
-        """Returns how many lines the program leaves outside its ground; each step finds
+        """Returns how many lines the program leaves outside its runner; each step finds
         that it has played and does not solve its match."""
         settings = {
             "networks": ["ring:3"],
@@ -82,6 +82,6 @@ class Confined(InTemporary):
             raise unittest.SkipTest(f"no walls here: {sandboxes.weakness()}")
         files = submission.read_paths([self.folder], self.folder).archive()
         record = ProgramFiles(files, {}, "python")
-        ground = OwnSandboxes(SandboxOptions(sandboxes.strongest()), lambda _: record)
-        apart = AgentWords(OUTSIDE, f"python3 agent.py {words}", ground=ground)
+        runner = OwnSandboxes(SandboxOptions(sandboxes.strongest()), lambda _: record)
+        apart = AgentWords(OUTSIDE, f"python3 agent.py {words}", runner_for=runner)
         self.assertEqual(self.left_by(apart), 0)
