@@ -261,7 +261,7 @@ def explore(
     games = [
         game(network_like, agents, **extra) for network_like in networks_in(network)
     ]
-    drawn_games = [game for game_asked in games for game in game_asked.drawn_games()]
+    drawn_games = [drawn_game for base in games for drawn_game in base.drawn_games()]
     return explore_games(drawn_games, states, path_of(engine), draws, check)
 
 
@@ -271,9 +271,9 @@ def networks_in(
     """The networks that are named, each by itself."""
     if isinstance(network, (list, tuple)) and not isinstance(network, Network):
         return [
-            network_found
+            single_network
             for network_like in network
-            for network_found in networks_in(network_like)
+            for single_network in networks_in(network_like)
         ]
     return list(networks.in_range(network)) if isinstance(network, str) else [network]
 

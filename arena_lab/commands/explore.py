@@ -433,10 +433,12 @@ def draws_of(args: argparse.Namespace) -> Optional[SampleRequest]:
 def search_by_model(args: argparse.Namespace, game: Game) -> int:
     """Tries the schedules of all matches by the Python model."""
     check_inside(game)
-    all_found = []
+    matches = []
     with bar(None, "state") as progress:
         for match in explore_matches(game, args.states or fitting(OF_MODEL), progress):
             progress.clear()
-            print(explore_reports.by_model(match), flush=True)
-            all_found.append(match)
-    return explore_reports.report_by_model(game, all_found, args.keep, program_of(args))
+            print(explore_reports.model_line(match), flush=True)
+            matches.append(match)
+    return explore_reports.report_model_search(
+        game, matches, args.keep, program_of(args)
+    )

@@ -275,6 +275,6 @@ def every_of(
         budget.left_out.append(f"every schedule of {text}")
         return "", None
     budget.report(f"every schedule of {text}: {result.states} states, all solve")
-    for game_tried in games:
-        budget.add(name, game_tried.fixture(0))
+    for numbered_game in games:
+        budget.add(name, numbered_game.fixture(0))
     return text, None

@@ -153,20 +153,20 @@ def marks(points: Points, rows: Sequence[Row]) -> List[Mark]:
     for row in rows:
         count[row["network"]] = count.get(row["network"], 0) + 1
     match_counts: Dict[str, int] = {}
-    marks_found = []
+    all_marks = []
     for row in rows:
         name = row["network"]
         whole = points.networks[name]
         index = match_counts.get(name, 0)
         match_counts[name] = index + 1
-        marks_found.append(
+        all_marks.append(
             mark(
                 points,
                 row,
                 whole * (index + 1) // count[name] - whole * index // count[name],
             )
         )
-    return marks_found
+    return all_marks
 
 
 def mark(points: Points, row: Row, limit: int) -> Mark:

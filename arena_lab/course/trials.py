@@ -225,9 +225,9 @@ class TriedProgram:
         agent = self.agent(self.mark_program())
         with contextlib.suppress(ArenaError):
             again = schedule._replace(agents=[agent] * len(schedule.agents))
-            record_found = games.play_again(again, self.asked.program)
-            if record_found.match.replay == record.match.replay:
-                record = record_found
+            marked_record = games.play_again(again, self.asked.program)
+            if marked_record.match.replay == record.match.replay:
+                record = marked_record
         lines = [f"To mend first: {wrong.lines[0]}", *wrong.lines[1:]]
         return {"right": False, "said": lines, **self.match_report(record)}
 

@@ -94,20 +94,20 @@ class ExploreRequest(NamedTuple):
         )
 
 
-def explore_and_report(all_wanted: Sequence[ExploreRequest]) -> int:
+def explore_and_report(requests: Sequence[ExploreRequest]) -> int:
     """Tries the schedules of all matches of some games, up to the first game in which
     one fails or is not tried."""
-    return in_turn(all_wanted, tried_one)
+    return in_turn(requests, explore_game)
 
 
-def tried_one(request: ExploreRequest) -> Tuple[int, Search]:
+def explore_game(request: ExploreRequest) -> Tuple[int, Search]:
     """Tries the schedules of all matches of a game, up to the first that fails."""
 
     def after(result: MatchResult, progress: Any) -> MatchResult:
         progress.clear()
-        return beside(request, result, progress)
+        return with_model_search(request, result, progress)
 
-    search = all_tried(
+    search = explore_all(
         request,
         Search(request.job(), request.elsewhere(), request.before, after),
         line_of,
@@ -116,21 +116,21 @@ def tried_one(request: ExploreRequest) -> Tuple[int, Search]:
 
 
 def in_turn(
-    all_wanted: Sequence[ExploreRequest],
+    requests: Sequence[ExploreRequest],
     try_game: Callable[[ExploreRequest], Tuple[int, Search]],
 ) -> int:
     """Explores games one after the other until one fails. For several games it then
     prints a table of results."""
     rows: List[Tuple[str, ...]] = [COLUMNS]
     status = 0
-    for request in all_wanted:
-        if len(all_wanted) > 1:
+    for request in requests:
+        if len(requests) > 1:
             print(f"{request.game.name}:", flush=True)
         status, search = try_game(request)
         if status:
             break
         rows.append(cells_of(request.game.name, search))
-    if len(all_wanted) > 1 and len(rows) > 1:
+    if len(requests) > 1 and len(rows) > 1:
         print("\n".join(table_of(rows)))
     return status
 
@@ -167,7 +167,7 @@ def table_of(rows: Sequence[Sequence[str]]) -> List[str]:
     ]
 
 
-def all_tried(
+def explore_all(
     request: ExploreRequest, search: Search, line: Callable[[MatchResult], str]
 ) -> Search:
     """Tries the matches of a game, and prints a line for each."""
@@ -181,7 +181,9 @@ def all_tried(
     return search
 
 
-def beside(request: ExploreRequest, result: MatchResult, progress: Any) -> MatchResult:
+def with_model_search(
+    request: ExploreRequest, result: MatchResult, progress: Any
+) -> MatchResult:
     """The match with what the Python model's search says of it, if the program says
     nothing."""
     finding = result.answer.finding
@@ -220,7 +222,7 @@ def failure_of(failure: Breaks, answer: ExploreAnswer) -> str:
 def line_of(result: MatchResult) -> str:
     """Returns the line that reports one explored match."""
     if result.beside is not None:
-        return by_model(result.beside)
+        return model_line(result.beside)
     setup = result.fixture.setup
     answer = result.answer
     finding = result.answer.finding
@@ -244,7 +246,7 @@ def report_matches(request: ExploreRequest, search: Search) -> int:
     last = search.tries[-1]
     counts = f"{states_of(search)} states in {search.seconds:.1f} s"
     if last.beside is not None and (last.has_failed() or not last.is_whole()):
-        return report_by_model(
+        return report_model_search(
             request.game, [last.beside], request.keep, request.engine
         )
     if not last.is_whole():
@@ -256,7 +258,7 @@ def report_matches(request: ExploreRequest, search: Search) -> int:
         return 130
     if last.has_failed():
         print(f"{counts}: a schedule fails")
-        return shown_failure(request, last)
+        return report_failure(request, last)
     says_less = any(result.beside is not None for result in tries)
     engine = name_of(request.program)
     by = "" if engine == built.PROGRAM else f", by {engine}"
@@ -281,7 +283,9 @@ def report_matches(request: ExploreRequest, search: Search) -> int:
     lost_text = "no more agents lost than" if last.fixture.held else "most agents lost"
     print(f"most moves {max(moves)}, {lost_text} {max(lost)}{suffix}")
     for text in (
-        do_not_repeat(request.game) if request.check and not last.answer.modules else []
+        repetition_differences(request.game)
+        if request.check and not last.answer.modules
+        else []
     ):
         print(f"warning: {text}")
     if any(result.answer.unwoken for result in tries):
@@ -308,13 +312,13 @@ def distinction_of(game: Game, answer: ExploreAnswer) -> str:
     return f"by {' and '.join(dict.fromkeys(kinds))}"
 
 
-def do_not_repeat(game: Game) -> List[str]:
+def repetition_differences(game: Game) -> List[str]:
     """Repeats each agent of one drawn match alone, with another key, and returns the
     differences."""
     return games.play_seed(game, "fair", 0, None).repeat(game.limit).match.faults
 
 
-def shown_failure(request: ExploreRequest, result: MatchResult) -> int:
+def report_failure(request: ExploreRequest, result: MatchResult) -> int:
     """Prints the outcome of the failing schedule and keeps its match; gives the exit
     status."""
     finding = result.answer.finding
@@ -364,7 +368,7 @@ def keep(request: ExploreRequest, result: MatchResult) -> None:
 # reports of the Python model's search
 
 
-def by_model(match: ExploredMatch) -> str:
+def model_line(match: ExploredMatch) -> str:
     """Returns the line that reports one match explored by the Python model."""
     explorer = match.explorer
     setup = match.explorer.fixture.setup
@@ -383,19 +387,19 @@ def by_model(match: ExploredMatch) -> str:
     )
 
 
-def report_by_model(
+def report_model_search(
     game: Game,
-    all_found: List[ExploredMatch],
+    matches: List[ExploredMatch],
     keep: pathlib.Path,
     program: Optional[str],
 ) -> int:
     """Reports all matches, and writes the match to keep."""
-    worst = max(all_found, key=ExploredMatch.rank)
-    is_whole = all(match.is_whole for match in all_found)
+    worst = max(matches, key=ExploredMatch.rank)
+    is_whole = all(match.is_whole for match in matches)
     states, seconds = (
         sum(column)
         for column in zip(
-            *((match.explorer.states(), match.seconds) for match in all_found)
+            *((match.explorer.states(), match.seconds) for match in matches)
         )
     )
     counts = f"{states} states in {seconds:.1f} s"

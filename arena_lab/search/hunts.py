@@ -111,19 +111,19 @@ class Hunter:
         """Plays a schedule, and keeps it if it is the best."""
         fixture = self._fixture(match, home)
         game = self.asked.game
-        match_played = play(
+        played_match = play(
             Rehearsal(fixture),
             teams.Together(game.agents, fixture, game.limit),
             scheduler,
             fixture,
         )
         if self.asked.repeats:
-            match_played = with_repeats(match_played, game.agents, fixture, game.limit)
-        verdict = match_played.verdict()
+            played_match = with_repeats(played_match, game.agents, fixture, game.limit)
+        verdict = played_match.verdict()
         worth = {FAILURE: 0, MOVES: verdict.moves, LOST: verdict.lost}[
             self.asked.looked_for
         ]
-        trial = HuntedMatch(worth, match_played.has_failed(), fixture, match_played)
+        trial = HuntedMatch(worth, played_match.has_failed(), fixture, played_match)
         self.tried += 1
         if trial.has_failed and self.failed_at is None:
             self.failed_at = self.tried

@@ -380,10 +380,10 @@ class Machines:
 
 def all_ways(ways: List[History], memory: int) -> List[History]:
     """The ways on which an agent comes to a memory, from its start on."""
-    ways_found = [ways[memory]]
-    while ways_found[-1][0] >= 0:
-        ways_found.append(ways[ways_found[-1][0]])
-    return ways_found[::-1]
+    path = [ways[memory]]
+    while path[-1][0] >= 0:
+        path.append(ways[path[-1][0]])
+    return path[::-1]
 
 
 def along(ways: List[History], memory: int) -> Tuple[int, List[str]]:

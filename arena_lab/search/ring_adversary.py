@@ -305,7 +305,7 @@ class Adversary:
         """Returns for each new node the way by which the agent reaches it, from its
         recorded states."""
         indices = {node: number for number, node in enumerate(arcs.line)}
-        ways_found: Dict[int, WayOut] = {}
+        ways_by_front: Dict[int, WayOut] = {}
         back = arcs.arc_explored
         front = arcs.arc_explored
         for count, spot in enumerate(spots):
@@ -318,8 +318,8 @@ class Adversary:
                 == front
                 < self.nodes - 1
             ):
-                ways_found.setdefault(front, WayOut(count, back, spot.moves))
-        return ways_found
+                ways_by_front.setdefault(front, WayOut(count, back, spot.moves))
+        return ways_by_front
 
     def next(self, arcs: Arcs) -> Phase:
         """Lets the agent go on that makes more moves, to the middle of the new nodes if

@@ -8,11 +8,11 @@ from typing import List, NamedTuple, Sequence, Tuple
 
 from arena_lab.search.explore_reports import (
     ExploreRequest,
-    all_tried,
+    explore_all,
     failure_of,
     in_turn,
     keep,
-    shown_failure,
+    report_failure,
 )
 from arena_lab.rules.engines import EnginesDifferError
 from arena_lab.search.driver import Search
@@ -48,17 +48,17 @@ def moves_of(pairs: Pairs) -> MoveStatistics:
     )
 
 
-def draw_and_report(all_wanted: Sequence[ExploreRequest], draws: SampleRequest) -> int:
+def draw_and_report(requests: Sequence[ExploreRequest], draws: SampleRequest) -> int:
     """Draws schedules of all matches of some games, up to the first game in which one
     fails."""
 
     def draw_schedules(request: ExploreRequest) -> Tuple[int, Search]:
-        search = all_tried(
+        search = explore_all(
             request, Search(request.job(draws), request.elsewhere()), line_of
         )
         return report_samples(request, draws, search), search
 
-    return in_turn(all_wanted, draw_schedules)
+    return in_turn(requests, draw_schedules)
 
 
 def line_of(result: MatchResult) -> str:
@@ -108,7 +108,7 @@ def report_samples(
         )
     if last.has_failed():
         print(f"{counts}: a schedule fails")
-        return shown_failure(request, last)
+        return report_failure(request, last)
     if failures:
         raise EnginesDifferError(
             f"the program counts {failures} drawn schedules that fail, and tells one that solves its network"
@@ -116,11 +116,11 @@ def report_samples(
     print(
         f"{counts}: none of them fails, which says nothing of the others; {search.checks}"
     )
-    shown_worst(request, draws, tries)
+    report_worst(request, draws, tries)
     return 0
 
 
-def shown_worst(
+def report_worst(
     request: ExploreRequest, draws: SampleRequest, tries: List[MatchResult]
 ) -> None:
     """Writes the schedule with the most moves, or with the most agents lost, once the

@@ -43,11 +43,11 @@ def differing_rows(
     numbers: Sequence[int], rows: Sequence[Sequence[str]], results: Iterable[Result]
 ) -> List[Differing]:
     """The rows of these numbers that come out otherwise."""
-    differences_found = []
+    row_differences = []
     for number, result in zip(numbers, along(results, len(numbers), "run")):
         now = result.result if not result.fault else [*rows[number][:-1], result.fault]
-        differences_found.append(differing(number, rows[number], now))
-    return [difference for difference in differences_found if difference]
+        row_differences.append(differing(number, rows[number], now))
+    return [difference for difference in row_differences if difference]
 
 
 def report_differences(

@@ -332,14 +332,14 @@ def other_texts(spec: Grid, folder: pathlib.Path) -> List[str]:
     rows = rows_in(folder / RUNS)
     matches = every.SweepRows(folder, spec).rows()
     groups = report.groups_of(rows, spec, matches)
-    rows_tried = report.matches(rows, matches)
+    match_rows = report.matches(rows, matches)
     pages = [
         report.KeptRun(row, link_to(int(row["run"]), folder))
         for row in report.worst_runs(rows)
     ]
     may_be = {
         SUMMARY: [summary_text(groups)],
-        REPORT: [report.page(spec, groups, pages, name, rows_tried) for name in NAMES],
+        REPORT: [report.page(spec, groups, pages, name, match_rows) for name in NAMES],
     }
     return [
         name for name, texts in may_be.items() if text_in(folder / name) not in texts
