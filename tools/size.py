@@ -218,8 +218,9 @@ def lower_figures(text: str, now: Figures) -> str:
     lines_kept = []
     for line in text.split("\n"):
         head = re.fullmatch(r"\[\"?([^\"]*)\"?\]", line)
-        row = re.fullmatch(r"\"([^\"]+)\" = ([\d.]+)(.*)", line)
         table = head[1] if head else table
+        # a test measures the figures of the other tables
+        row = table in now and re.fullmatch(r"\"([^\"]+)\" = ([\d.]+)(.*)", line)
         if row and row[1] not in now[table]:
             continue
         if row and round_up(table, now[table][row[1]]) < float(row[2]):
