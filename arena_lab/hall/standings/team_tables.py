@@ -7,7 +7,7 @@ from django.utils import timezone
 from arena_lab.hall import machine
 from arena_lab.hall.handins.models import Grading
 from arena_lab.hall.handins.windows import Moment, Window, last_of_teams
-from arena_lab.hall.standings import rules
+from arena_lab.hall.standings import ranking
 from arena_lab.hall.standings.models import Reveal
 from arena_lab.hall.teams.models import Team
 
@@ -75,7 +75,7 @@ def table(window: Window, is_secret: bool, for_teacher: bool) -> StandingsTable:
     names = window.secret if is_secret else window.public
     graded = graded_teams(window, is_secret, frozen)
     missing = teams_without_grade(window) if is_secret else set()
-    places = rules.league(
+    places = ranking.league(
         [
             graded[team.pk]._replace(team=team.name)
             for team in teams
@@ -135,7 +135,7 @@ def cell(counts: Any) -> Any:
 
 def graded_teams(
     window: Window, is_secret: bool, before: Moment
-) -> Dict[int, rules.GradedTeam]:
+) -> Dict[int, ranking.GradedTeam]:
     """Returns the result of each team's last graded hand-in. Hand-ins after a freeze
     are hidden."""
     rows = Grading.objects.filter(
@@ -147,7 +147,7 @@ def graded_teams(
         rows.values("hand_in__team").annotate(last=models.Max("hand_in")).values("last")
     )
     return {
-        grading.hand_in.team_id: rules.GradedTeam(
+        grading.hand_in.team_id: ranking.GradedTeam(
             "",
             grading.solved,
             grading.matches,

@@ -20,7 +20,7 @@ from arena_lab.hall.attempts.match_draws import TOURNAMENT, draw_match, write
 from arena_lab.hall.attempts.seen import Part, match_end
 from arena_lab.hall.hall_files import DRAWN, FIXED, Net, HallError, hall_of, read_hall
 from arena_lab.hall.place import HallFolder
-from arena_lab.hall.standings.rules import GradedTeam, league
+from arena_lab.hall.standings.ranking import GradedTeam, league
 from arena_lab.play.teams import AgentWords
 from arena_lab.rules.model import Match, Setup, spell
 from arena_lab.rules.networks import NetworkError, ring, text_of
