@@ -5,7 +5,8 @@ import unittest
 from tests import needs
 from tools import size, words
 
-KEPT = '[words]\n# why\n"a.md" = 200\n"gone.md" = 5\n["files that name a command"]\n"Look" = 3  # and why\n["of others"]\n"a" = 9\n'
+REST = '["files that name a command"]\n"Look" = 3  # and why\n["of others"]\n"a" = 9\n'
+KEPT = f'[words]\n# why\n"a.md" = 200\n"gone.md" = 5\n{REST}'
 
 
 class Size(unittest.TestCase):
@@ -31,7 +32,7 @@ class Tool(unittest.TestCase):
         now = {"words": {"a.md": 101.0}, "files that name a command": {"Look": 4.0}}
         self.assertEqual(
             size.lower_figures(KEPT, now),
-            '[words]\n# why\n"a.md" = 150\n["files that name a command"]\n"Look" = 3  # and why\n["of others"]\n"a" = 9\n',
+            f'[words]\n# why\n"a.md" = 150\n{REST}',
         )
 
     def test_statements_are_counted_and_not_lines(self) -> None:
