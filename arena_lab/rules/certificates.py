@@ -182,7 +182,7 @@ def program_text(origin: Object) -> str:
 
 
 class PremiseError(ArenaError):
-    """What was found of all schedules does not hold of a replay by the theorem."""
+    """A premise of the theorem on attested replays does not hold."""
 
 
 class RefusingParser(argparse.ArgumentParser):
@@ -235,7 +235,7 @@ def modules_of(rows: List[Object], agents: int) -> List[Tuple[str, List[int]]]:
     return modules * agents if len(modules) == 1 else modules
 
 
-class Bounds(NamedTuple):
+class ReplayBounds(NamedTuple):
     """What holds of a replay: at most so many moves and lost agents, and whether all
     its agents have ended or are lost, so that the match is solved."""
 
@@ -244,7 +244,7 @@ class Bounds(NamedTuple):
     is_finished: bool
 
 
-def bounds_of(search: Object, attestation: Object) -> Bounds:
+def bounds_of(search: Object, attestation: Object) -> ReplayBounds:
     """Returns what a search of all schedules says of an attested replay. Raises
     PremiseError for the first premise of the theorem that does not hold."""
     finding = (search["result"] or {}).get("found", {})
@@ -275,7 +275,7 @@ def bounds_of(search: Object, attestation: Object) -> Bounds:
         check_delivery(fixture, match, event)
         match.play(event)
     is_finished = all(agent.standing == ENDED or agent.lost for agent in match.agents)
-    return Bounds(finding["moves"], finding["lost"], is_finished)
+    return ReplayBounds(finding["moves"], finding["lost"], is_finished)
 
 
 def check_delivery(fixture: Fixture, match: Match, event: Object) -> None:

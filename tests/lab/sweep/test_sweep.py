@@ -338,7 +338,7 @@ class Verified(unittest.TestCase):
         now = tables.with_check(["0", *cells(0)[1:-2], "", "agent 1: raises"])
         self.assertIsNone(row_checks.differing(0, cells(0), cells(0)))
         self.assertEqual(
-            row_checks.differing(0, cells(0), now), verify.Differing(0, ["fault"])
+            row_checks.differing(0, cells(0), now), row_checks.Differing(0, ["fault"])
         )
         with contextlib.redirect_stderr(
             io.StringIO()
@@ -353,7 +353,7 @@ class Verified(unittest.TestCase):
         self.assertEqual(stream.getvalue(), "2 of 9 rows were played again: 1 differ\n")
 
     def test_which_rows(self) -> None:
-        self.assertEqual(row_checks.chosen(3, verify.ALL), [0, 1, 2])
+        self.assertEqual(row_checks.chosen(3, row_checks.ALL), [0, 1, 2])
         self.assertEqual(row_checks.chosen(3, 5), [0, 1, 2])
         draw = row_checks.chosen(1000, 500)
         self.assertEqual(len(set(draw)), 500)
