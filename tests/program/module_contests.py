@@ -10,6 +10,7 @@ and which begin at drawn times, and a second one that is closed after drawn turn
 If every schedule solves the match, then each match of the first contest is solved within
 the moves and lost agents that were told, and no match of the second is wrong or beyond
 them. Of the other modules some must lose a match, or the contests would show nothing.
+`attest` must attest each replay, whatever the module does.
 
 COUNT is how many modules play, 12 if it is not given, and PATH another `bhs_player` than
 the one that is proved. The last line reads `N passed, M failed`, and the exit status is 1
@@ -123,6 +124,18 @@ def judge(programs: Programs, folder: pathlib.Path, number: int) -> Verdict:
     return Verdict(outcome, int(moves), int(lost))
 
 
+def require_attested(
+    programs: Programs, folder: pathlib.Path, drawn_module: DrawnModule, number: int
+) -> None:
+    """Requires that the agents of a match did what their module says, and woke no more
+    often than its search allows."""
+    words = ["attest", f"cup{number}.jsonl", "--module", drawn_module.word]
+    result = subprocess.run(
+        [programs.arena, *words], cwd=folder, capture_output=True, text=True
+    )
+    require(result.returncode == 0, f"{drawn_module.word}: {result.stdout}")
+
+
 def start_agents(
     programs: Programs,
     drawn_module: DrawnModule,
@@ -177,6 +190,8 @@ def serve(
             for child in processes:
                 child.kill()
                 child.wait()
+    for number in range(MATCHES):
+        require_attested(programs, folder, drawn_module, number)
     return [judge(programs, folder, number) for number in range(MATCHES)]
 
 

@@ -20,7 +20,7 @@ OTHERS = {
     # addresses, rows to verify, the order in which agents are repeated, whom a person
     # meets, and a generator of agents
     "hall/attempts/servers.py",
-    "sweep/verify.py",
+    "sweep/row_checks.py",
     "course/rounds.py",
     "play/human.py",
     "play/own_modules.py",
