@@ -1,9 +1,10 @@
 //! Agents that follow protocols, on rings that are simulated here: they search networks of many nodes to the end.
 
+use bhs_agents::{AgentNews, Searcher, SearcherFault};
+use bhs_client::{ChartAgent, Protocol, ProtocolAgent};
 use bhs_model::{Command, Reply, Text};
 use bhs_protocols_charts::memories::{NetworkFacts, Told};
 use bhs_schedules::Step;
-use bhs_client::{AgentNews, ChartAgent, Protocol, ProtocolAgent, Searcher, SearcherFault};
 use std::alloc::{AllocError, Global};
 use std::process::Abort;
 use std::test::Fail;
