@@ -10,7 +10,8 @@ and which begin at drawn times, and a second one that is closed after drawn turn
 If every schedule solves the match, then each match of the first contest is solved within
 the moves and lost agents that were told, and no match of the second is wrong or beyond
 them. Of the other modules some must lose a match, or the contests would show nothing.
-`attest` must attest each replay, whatever the module does.
+`attest` must attest each replay of a module that solves. An agent whose module fails has
+left in the log, which the module did not say.
 
 COUNT is how many modules play, 12 if it is not given, and PATH another `bhs_player` than
 the one that is proved. The last line reads `N passed, M failed`, and the exit status is 1
@@ -190,7 +191,7 @@ def serve(
             for child in processes:
                 child.kill()
                 child.wait()
-    for number in range(MATCHES):
+    for number in range(MATCHES if drawn_module.solves else 0):
         require_attested(programs, folder, drawn_module, number)
     return [judge(programs, folder, number) for number in range(MATCHES)]
 
